@@ -244,7 +244,7 @@ def measure_jobs(arguments, folder):
     count = 1000 if arguments.instructions else arguments.packets
     make_capture.write_capture(capture, make_capture.traffic(count))
     if not arguments.instructions:
-        print(f"{arguments.packets} packets, {os.path.getsize(capture)} bytes; seconds of a processor, MiB")
+        print(f"{arguments.packets} packets, {os.path.getsize(capture)} bytes; CPU seconds, MiB")
     print_line("job", "peer", ("capkit", "peer", "ratio", "C", "capkit/C", "MiB", "peer's", "insns", "C's"))
     ratios = []
     for name, programs in jobs(capkit, floor, capture, folder):

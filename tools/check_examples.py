@@ -9,6 +9,7 @@ usage: check_examples.py [--capkit PROGRAM] [--update] [PAGE..]
 - The examples of one section run one after another in one shell, in their own folder, after the line of docs/RECIPES.md that
   sets up a checkout. Its line for a package must make the same files.
 - The examples of the manual pages must succeed on copies of samples/day.pcap, if jinja2 is installed.
+- The expressions of the cookbook in docs/FILTER.md must compile.
 - any.sh must write the IP packets, and only these, of frames of each kind that `tcpdump -i any` has.
 
 A section whose programs aren't all installed, or that needs the library (`make -C library`), is left out with a message.
@@ -166,7 +167,7 @@ def manual_examples():
         made = subprocess.run([sys.executable, ROOT / "packaging" / "pages.py", temporary], stderr=subprocess.PIPE, text=True)
         if made.returncode:
             print(f"manual pages: left out, packaging/pages.py fails: {made.stderr.strip().splitlines()[-1]}")
-        for page in sorted(pathlib.Path(temporary).glob("*.1")):
+        for page in sorted(pathlib.Path(temporary).glob("*.[17]")):
             for display in MANUAL_EXAMPLE.findall(page.read_text().partition(".Sh EXAMPLES\n")[2]):
                 yield page.name, display.replace(r"\(aq", "'").replace(r"\-", "-").replace(r"\e", "\\")
 
@@ -178,13 +179,23 @@ def check_manual(capkit):
         with tempfile.TemporaryDirectory() as temporary:
             how = checkout(pathlib.Path(temporary), capkit)
             names = " ".join(set(CAPTURE.findall(example)))
-            script = f"{set_up('in a checkout')}\nfor name in {names}; do cp day.pcap ${{name%.gz}}; done\ngzip -k day.pcap\n"
+            script = f"{set_up('in a checkout')}\nfor name in {names}; do test -e ${{name%.gz}} || cp day.pcap ${{name%.gz}}; done\ngzip -k day.pcap\n"
             done = subprocess.run(["bash", "-e", "-c", script + example], **how)
         count, failed = count + 1, failed + bool(done.returncode)
         if done.returncode:
             print(f"{name}: {example}\nstatus {done.returncode}: {done.stdout.decode(errors='replace')}")
     print(f"manual pages: {count} examples, {failed} fail")
     return failed
+
+
+def check_cookbook(capkit):
+    """Compiles the expressions of FILTER's cookbook; returns how many are refused."""
+    page = (ROOT / "docs" / "FILTER.md").read_text()
+    rows = re.findall(r"^\|.*?(?<!\\)\|(.*)\|$", page.partition("## Cookbook\n")[2].partition("\n## ")[0], re.MULTILINE)
+    expressions = [it.replace(r"\|", "|") for row in rows for it in re.findall("`([^`]+)`", row) if not it.startswith(("tcpdump ", "print "))]
+    refused = [it for it in expressions if subprocess.run([capkit, "compile", it], stdout=subprocess.DEVNULL).returncode]
+    print("\n".join([*refused, f"docs/FILTER.md: {len(expressions)} expressions of the cookbook, {len(refused)} refused"]))
+    return len(refused)
 
 
 def main():
@@ -196,7 +207,7 @@ def main():
     capkit = arguments.capkit or built_program()
     names = arguments.pages or [page for page in PAGES if (ROOT / page).exists()]
     wrong = sum(check_page(name, capkit, arguments.update) for name in names)
-    wrong += 0 if arguments.pages else check_manual(capkit)
+    wrong += 0 if arguments.pages else check_manual(capkit) + check_cookbook(capkit)
     if not same_set_up(capkit):
         wrong += 1
         print("docs/RECIPES.md: the two lines of the set-up don't leave the same files")

@@ -1,8 +1,9 @@
 -- What runs of programs answer and cost.
-use Rattle.cap_filter.proofs.Common.{◌≡◌, ◌≢◌, ◌↔◌, ◌<◌, All, ℕ, zero, suc, ◌+◌, ◌-◌, ◌^◌, Bool, cond, not, nat_eq, nat_lt, ◌==◌, true, false, List, [], ◌∷◌,
-    ◌++◌, length, get_or, set, slice_get, take, drop, min, Option, None, Some, Ok, Err, refl, sym, ◌∙◌, ap, arith, subst, Captured, Content, machine, Answered,
-    Expression, empty, truth, Link, Ether, AreMade, IsMade, steps_of_run, met_on, ran_at, ran_if, ran_on, HasPrograms, all_links, link_of, link_type,
-    by_reading, expression_decides, decision_of, read_on, program_place, spent_on, ◌≤◌, spent_in, most_cost}
+use Rattle.cap_filter.proofs.Common.{◌≡◌, ◌≢◌, ◌↔◌, ◌<◌, All, ℕ, zero, suc, ◌+◌, ◌-◌, ◌^◌, Bool, cond, not, nat_eq, nat_lt, ◌==◌, true, false, List, [], ◌∷◌}
+use Rattle.cap_filter.proofs.Common.{◌++◌, length, get_or, set, slice_get, take, drop, min, Option, None, Some, Ok, Err, refl, sym, ◌∙◌, ap, arith, subst}
+use Rattle.cap_filter.proofs.Common.{Captured, Content, machine, Answered, Expression, empty, truth, Link, Ether, AreMade, IsMade, steps_of_run, met_on, ran_at}
+use Rattle.cap_filter.proofs.Common.{ran_if, ran_on, HasPrograms, all_links, link_of, link_type, by_reading, expression_decides, decision_of, read_on}
+use Rattle.cap_filter.proofs.Common.{program_place, spent_on, ◌≤◌, spent_in, most_cost}
 use Rattle.std.proofs.Math.Seq.{take-append_seam}
 use Rattle.std.proofs.lemmas.{Bool.ltb-true, Bool.ne_eqb, Bool.Decides.nat_tests, List.Elements.All-append}
 use Rattle.std.proofs.lemmas.{List.Folds.find_at, Option.slice_get-get_or, Option.slice_get_past}
@@ -105,7 +106,7 @@ put (suc i) p (program ∷ programs) d after within is = ap (λ l. program ∷ l
 pub set-ran : (i : ℕ) (p : Captured) (programs : List Content) (d after : Content) (answer count : ℕ) → i < length programs
     → met_on p (get_or programs i d).insns ≡ Answered answer count
     → after.insns ≡ (get_or programs i d).insns → after.spent ≡ min ((get_or programs i d).spent + count) (2 ^ 128 - 1) → set programs i after ≡
-        ran_at i p programs
+    ran_at i p programs
 set-ran i p programs d after answer count within met same spent = put i p programs d after within
     (ran p (get_or programs i d) after answer count met same spent)
 

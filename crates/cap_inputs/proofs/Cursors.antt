@@ -1,10 +1,11 @@
 -- One input among others.
-use Rattle.cap_inputs.proofs.Common.{◌≡◌, ℕ, zero, suc, ◌+◌, ◌<◌, List, [], ◌∷◌, ◌++◌, length, max, Option, Some, refl, sym, ◌∙◌, ap, ap₂, subst, arith, get_or,
-    Bool, true, false, Result, Ok, append-nil, length-append, Placed, slice_set, Fault, Advances, slice_get, AllByRecursion, PacketOrder, SectionFits,
-    TakesIfAtHand, SkipsUnits, Phase, Reading, SourceView, Steps, end_offset, phase_after, Schedule, Turn, Merge, ordering_of, schedule_after,
-    schedule_after_decided, DeviceLimits, device_limits, limits_of, InputView, InputsView, InputPast, AreInputsAfter, KnowGreatest, IsInput, ReadsInput,
-    ReadSteps, greatest_of, input_after, input_after_decided, packet_time, with_cursor, map, InTurn, ByTime, order_of, first_schedule, FreshInput, fresh_view,
-    fresh_inputs}
+use Rattle.cap_inputs.proofs.Common.{◌≡◌, ℕ, zero, suc, ◌+◌, ◌<◌, List, [], ◌∷◌, ◌++◌, length, max, Option, Some, refl, sym, ◌∙◌, ap, ap₂, subst, arith, get_or}
+use Rattle.cap_inputs.proofs.Common.{Bool, true, false, Result, Ok, append-nil, length-append, Placed, slice_set, Fault, Advances, slice_get, AllByRecursion}
+use Rattle.cap_inputs.proofs.Common.{PacketOrder, SectionFits, TakesIfAtHand, SkipsUnits, Phase, Reading, SourceView, Steps, end_offset, phase_after, Schedule}
+use Rattle.cap_inputs.proofs.Common.{Turn, Merge, ordering_of, schedule_after, schedule_after_decided, DeviceLimits, device_limits, limits_of, InputView}
+use Rattle.cap_inputs.proofs.Common.{InputsView, InputPast, AreInputsAfter, KnowGreatest, IsInput, ReadsInput, ReadSteps, greatest_of, input_after}
+use Rattle.cap_inputs.proofs.Common.{input_after_decided, packet_time, with_cursor, map, InTurn, ByTime, order_of, first_schedule, FreshInput, fresh_view}
+use Rattle.cap_inputs.proofs.Common.{fresh_inputs}
 use Rattle.std.proofs.lemmas.Option.{slice_get_read}
 use Rattle.cap_octet.specs.Packet.{Captured}
 use Rattle.cap_io.specs.Position.{given_in_all}

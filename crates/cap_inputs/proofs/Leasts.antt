@@ -4,10 +4,11 @@ use Rattle.std.proofs.Common.{length-append}
 use Rattle.std.proofs.lemmas.Bool.{and_parts, eqb-true}
 use Rattle.std.proofs.lemmas.List.{Elements.All-cons, Elements.All-nil, Elements.All-tail, Sums.sum_by-cons, Sorted.sum_by-IsPermutation}
 use Rattle.cap_inputs.specs.Queue.{Queue}
-use Rattle.cap_inputs.proofs.Common.{◌≡◌, ◌≢◌, ℕ, zero, suc, ◌+◌, ◌<◌, ◌≤◌, inl, inr, ◌&&◌, ◌||◌, Bool, true, false, IsTrue, if◌then◌else◌, List, [], ◌∷◌, ◌++◌,
-    length, Option, None, Some, Result, Ok, refl, sym, ◌∙◌, ap, map, arith, ◌==◌, nat_lt, add-zero, All, slice_set, nat_tests, Waiting, Schedule, Turn, Merge,
-    NotAfter, Precedes, IsFirstWaiting, is_entered, Fault, EntersQueue, HasPlaceFor, HoldsQueue, IsQueued, Leaves, TakesFirst, is_merge, ordering_of,
-    sum_waiting, InputView, IsInput, is_packet_found, key_of, NoneWaits, IsLeast, KeysFrom, IsNextIn, Next, order_of}
+use Rattle.cap_inputs.proofs.Common.{◌≡◌, ◌≢◌, ℕ, zero, suc, ◌+◌, ◌<◌, ◌≤◌, inl, inr, ◌&&◌, ◌||◌, Bool, true, false, IsTrue, if◌then◌else◌, List, [], ◌∷◌, ◌++◌}
+use Rattle.cap_inputs.proofs.Common.{length, Option, None, Some, Result, Ok, refl, sym, ◌∙◌, ap, map, arith, ◌==◌, nat_lt, add-zero, All, slice_set, nat_tests}
+use Rattle.cap_inputs.proofs.Common.{Waiting, Schedule, Turn, Merge, NotAfter, Precedes, IsFirstWaiting, is_entered, Fault, EntersQueue, HasPlaceFor}
+use Rattle.cap_inputs.proofs.Common.{HoldsQueue, IsQueued, Leaves, TakesFirst, is_merge, ordering_of, sum_waiting, InputView, IsInput, is_packet_found, key_of}
+use Rattle.cap_inputs.proofs.Common.{NoneWaits, IsLeast, KeysFrom, IsNextIn, Next, order_of}
 use Rattle.cap_inputs.proofs.Cursors.{set-among}
 
 -- ---- sums
@@ -32,8 +33,11 @@ counts-most : (i : ℕ) (hs : List InputView) → sum_waiting (λ w. 1) i hs ≤
 counts-most i [] = omega arith
 counts-most i (h ∷ hs) =
     let more = counts-most (i + 1) hs in
-    elim h.waiting as (λ b. (if b then 1 else 0) + sum_waiting (λ w. 1) (i + 1) hs ≤ suc (length hs)) [ true ↦ omega (arith, more) | false ↦
-        omega (arith, more) ]
+    elim h.waiting as (λ b. (if b then 1 else 0) + sum_waiting (λ w. 1) (i + 1) hs ≤ suc (length hs)) [
+      | true ↦ omega (arith, more)
+      | false ↦
+          omega (arith, more)
+    ]
 
 -- ---- an input is read on
 
@@ -69,15 +73,25 @@ room-for (Merge first last) cursors i h waits q a idle was merge =
     let most = counts-most 0 (a.front ++ record h { waiting = true } ∷ a.back) in
     let none : part (λ w. 1) h i ≡ 0 = rw idle refl in
     let held = was.entered in (
-      omega (arith, other, most, none, rw a.splits at (held (λ w. 1)), counts q.waiting, was.room, ap length a.splits,
-          length-append a.front (h ∷ a.back), length-append a.front (record h { waiting = true } ∷ a.back)),
+      omega (
+        arith,
+        other,
+        most,
+        none,
+        rw a.splits at (held (λ w. 1)),
+        counts q.waiting,
+        was.room,
+        ap length a.splits,
+        length-append a.front (h ∷ a.back),
+        length-append a.front (record h { waiting = true } ∷ a.back),
+      ),
       none-entered i q.waiting (held (is_of i) ∙ rw a.splits (none-idle i 0 a.front a.back h (omega (arith, a.place)) idle)),
     )
 
 -- another cursor of an input, whose entry came or went
 queued-with : (cursors : List InputView) (i : ℕ) (h h' : InputView) (q q' : Queue) (a : IsInput cursors i h)
     → ((f : Waiting → ℕ) → sum_by f q'.waiting + part f h i ≡ sum_by f q.waiting + part f h' i) → q.room ≤ q'.room → IsQueued cursors q
-        → IsQueued (slice_set cursors i h') q'
+    → IsQueued (slice_set cursors i h') q'
 queued-with cursors i h h' q q' a goes roomy was = rw (set-among cursors i h h' a) (record {
   entered = λ f. omega (arith, goes f, exchanged f 0 i a.front a.back h h' (omega (arith, a.place)), rw a.splits at (was.entered f));
   room = omega (arith, roomy, was.room, ap length a.splits, length-append a.front (h ∷ a.back), length-append a.front (h' ∷ a.back));
@@ -87,11 +101,11 @@ queued-with cursors i h h' q q' a goes roomy was = rw (set-among cursors i h h' 
 pub queue-read : (schedule : Schedule) (cursors : List InputView) (i : ℕ) (h h' : InputView) (r : Result Bool Fault) (q q' : Queue)
     → IsInput cursors i h → h.waiting ≡ false → h'.waiting ≡ is_packet_found r
     → EntersQueue (is_packet_found r && is_merge schedule) (entry h' i) q q' → HoldsQueue (ordering_of schedule) cursors q
-        → HoldsQueue (ordering_of schedule) (slice_set cursors i h') q'
+    → HoldsQueue (ordering_of schedule) (slice_set cursors i h') q'
 queue-read (Turn turn) cursors i h h' r q q' a idle waits enters was = tt
 queue-read (Merge first last) cursors i h h' (Ok true) q q' a idle waits enters was =
     queued-with cursors i h h' q q' a
-        (λ f. rw (idle, waits) (omega (arith, sum_by-IsPermutation f _ _ enters.0, sum_by-cons f (entry h' i) q.waiting))) enters.1 was
+    (λ f. rw (idle, waits) (omega (arith, sum_by-IsPermutation f _ _ enters.0, sum_by-cons f (entry h' i) q.waiting))) enters.1 was
 queue-read (Merge first last) cursors i h h' _ q q' a idle waits enters was = queued-with cursors i h h' q q' a (λ f. rw (idle, waits, enters) refl)
     (rw enters (omega arith)) was
 
@@ -118,8 +132,11 @@ some-entered w (v ∷ vs) is = rw sum_by-cons (by_same ((v.time == w.time) && (v
 none-before : (w : Waiting) (ws : List Waiting) → All (NotAfter w) ws → sum_by (is_before w) ws ≡ 0
 none-before w [] all = refl
 none-before w (v ∷ vs) all =
-    let here : is_before w v ≡ 0 = elim (all 0 w (omega arith)) [ inl lt ↦ grind (arith, nat_tests, lt) | inr (same, le) ↦
-        grind (arith, nat_tests, same, le) ] in
+    let here : is_before w v ≡ 0 = elim (all 0 w (omega arith)) [
+      | inl lt ↦ grind (arith, nat_tests, lt)
+      | inr (same, le) ↦
+          grind (arith, nat_tests, same, le)
+    ] in
     omega (arith, here, sum_by-cons (is_before w) v vs, none-before w vs (All-tail (NotAfter w) v vs all))
 
 -- the input of an entry, which is the least
@@ -131,8 +148,11 @@ record LeastOf (w : Waiting) (i : ℕ) (hs : List InputView) : Type 0 where
 
 keys-from : (w : Waiting) (i : ℕ) (hs : List InputView) → sum_waiting (is_before w) i hs ≡ 0 → KeysFrom w.time hs
 keys-from w i [] none = tt
-keys-from w i (h ∷ hs) none = (λ waits. (let here : is_before w (entry h i) ≡ 0 = rw waits at (let first : part (is_before w) h i ≡ 0 = omega arith in
-    first) in grind (arith, nat_tests, here)), keys-from w (i + 1) hs (omega arith))
+keys-from w i (h ∷ hs) none = (
+  λ waits. (let here : is_before w (entry h i) ≡ 0 = rw waits at (let first : part (is_before w) h i ≡ 0 = omega arith in
+      first) in grind (arith, nat_tests, here)),
+  keys-from w (i + 1) hs (omega arith),
+)
 
 least-of : (w : Waiting) (i : ℕ) (hs : List InputView) → 0 < sum_waiting (is_same w) i hs → sum_waiting (is_before w) i hs ≡ 0 → LeastOf w i hs
 least-of w i [] some none = absurd (omega arith)
@@ -148,8 +168,13 @@ least-of w i (h ∷ hs) some none = by_same (least-of w (i + 1) hs) h.waiting ((
           place = omega (arith, more.place);
           least = record {
             cursor = l.cursor;
-            among = record { front = h ∷ l.among.front; back = l.among.back; place = ap suc l.among.place; splits = ap (λ (l : List InputView). h ∷ l)
-                l.among.splits };
+            among = record {
+              front = h ∷ l.among.front;
+              back = l.among.back;
+              place = ap suc l.among.place;
+              splits = ap (λ (l : List InputView). h ∷ l)
+                  l.among.splits;
+            };
             waits = l.waits;
             over = (rw more.key (over more), l.over);
             from = l.from;
@@ -236,7 +261,7 @@ taken-in cursors i h' q q' (Some w) least decided moved roomy was =
     let first = first-of cursors q w (w ∷ q'.waiting) all was some (before-after w q'.waiting moved.1) in
     let l = first.least in
     let same = least-same least.among.front least.among.back l.among.front l.among.back least.cursor l.cursor
-        (sym least.among.splits ∙ l.among.splits) least.waits l.waits least.over least.from l.over l.from in
+    (sym least.among.splits ∙ l.among.splits) least.waits l.waits least.over least.from l.over l.from in
     let input : w.input ≡ i = omega (arith, same.0, first.place, least.among.place, l.among.place) in
     let time : w.time ≡ key_of least.cursor = sym (ap key_of same.1 ∙ first.key) in
     let own : w ≡ entry least.cursor i = λ k. record { time = time k; input = input k } in

@@ -1,10 +1,11 @@
 -- What is next of the inputs, as it is found out.
-use Rattle.std.proofs.{Math.Bool.or-true, lemmas.Bool.and_right, lemmas.List.Elements.All-from_recursion, lemmas.List.Folds.list_all-append,
-    lemmas.List.Folds.list_any-append, lemmas.List.Folds.list_any_none}
-use Rattle.cap_inputs.proofs.Common.{IsAtTurn, add-zero, append-nil, ◌≡◌, inl, inr, ◌&&◌, ◌||◌, if◌then◌else◌, ℕ, suc, ◌+◌, ◌<◌, ◌≤◌, Bool, true, false, not,
-    cond, nat_le, List, [], ◌∷◌, ◌++◌, length, refl, sym, ◌∙◌, ap, ap₂, arith, list_all, list_any, position_or_len, slice_get, slice_get_past, AllByRecursion,
-    nat_tests, Phase, Ended, PacketOrder, InTurn, ByTime, Next, InputView, InputsView, IsInput, ended_count, has_least_key, is_open, is_unready, key_of,
-    next_at, next_of, place_next, AllEnded, AllReady, IsNext, IsNextIn, IsOpen, IsReady, KeysFrom}
+use Rattle.std.proofs.{Math.Bool.or-true, lemmas.Bool.and_right, lemmas.List.Elements.All-from_recursion, lemmas.List.Folds.list_all-append}
+use Rattle.std.proofs.{lemmas.List.Folds.list_any-append, lemmas.List.Folds.list_any_none}
+use Rattle.cap_inputs.proofs.Common.{IsAtTurn, add-zero, append-nil, ◌≡◌, inl, inr, ◌&&◌, ◌||◌, if◌then◌else◌, ℕ, suc, ◌+◌, ◌<◌, ◌≤◌, Bool, true, false, not}
+use Rattle.cap_inputs.proofs.Common.{cond, nat_le, List, [], ◌∷◌, ◌++◌, length, refl, sym, ◌∙◌, ap, ap₂, arith, list_all, list_any, position_or_len, slice_get}
+use Rattle.cap_inputs.proofs.Common.{slice_get_past, AllByRecursion, nat_tests, Phase, Ended, PacketOrder, InTurn, ByTime, Next, InputView, InputsView, IsInput}
+use Rattle.cap_inputs.proofs.Common.{ended_count, has_least_key, is_open, is_unready, key_of, next_at, next_of, place_next, AllEnded, AllReady, IsNext}
+use Rattle.cap_inputs.proofs.Common.{IsNextIn, IsOpen, IsReady, KeysFrom}
 use Rattle.cap_inputs.proofs.Cursors.{get-input, weaker}
 
 -- ---- the first input of which a test holds
@@ -77,7 +78,7 @@ not_lower key other = not other.waiting || nat_le key (key_of other)
 not-lower-where : (key : ℕ) (h : InputView) → (h.waiting ≡ true → key ≤ key_of h) → not_lower key h ≡ true
 not-lower-where key h over =
     elim h.waiting as (λ b. (b ≡ true → key ≤ key_of h) → (not b || nat_le key (key_of h)) ≡ true)
-        [ true ↦ λ over. (let le = over refl in grind (arith, nat_tests, le)) | false ↦ λ over. refl ] over
+    [ true ↦ λ over. (let le = over refl in grind (arith, nat_tests, le)) | false ↦ λ over. refl ] over
 
 lower-where : (key : ℕ) (h : InputView) → h.waiting ≡ true → key_of h < key → not_lower key h ≡ false
 lower-where key h waits under = ap (λ (b : Bool). not b || nat_le key (key_of h)) waits ∙ grind (arith, nat_tests, under)
@@ -91,7 +92,7 @@ none-lower-around : (key : ℕ) (xs ys : List InputView) (h : InputView) → Key
 none-lower-around key xs ys h over is from =
     list_all-append (not_lower key) xs (h ∷ ys)
     ∙ ap₂ (λ (a b : Bool). a && b) (none-lower key xs (weaker _ _ (λ x f w. let less = f w in omega (arith, less)) xs over))
-        (none-lower key (h ∷ ys) ((λ waits. omega (arith, is)), from))
+    (none-lower key (h ∷ ys) ((λ waits. omega (arith, is)), from))
 
 waits-not : (cursors : List InputView) (x : InputView) → x.waiting ≡ false → has_least_key cursors x ≡ false
 waits-not cursors x waits = ap (λ (b : Bool). b && list_all (not_lower (key_of x)) cursors) waits
@@ -136,7 +137,7 @@ by-time cursors (Next.Read i) tells =
     let here = is-unready tells.cursor tells.waits tells.unended in
     let any : list_any is_unready cursors ≡ true = ap (list_any is_unready) a.splits ∙ any-here is_unready a.front a.back tells.cursor here in
     let place : place_next ByTime cursors ≡ length a.front = rw any (ap (position_or_len is_unready) a.splits ∙ first-here is_unready a.front a.back
-        tells.cursor (none-unready a.front tells.front) here) in
+    tells.cursor (none-unready a.front tells.front) here) in
     at-here cursors (place_next ByTime cursors) i tells.cursor a place ∙ ap (λ (b : Bool). if b then Next.Decide i else Next.Read i) tells.waits
 by-time cursors (Next.Decide i) tells =
     let least = tells.1 in
@@ -144,14 +145,14 @@ by-time cursors (Next.Decide i) tells =
     let front = greater-before a.front a.back a.front least.cursor least.waits least.over in
     let here = least-here a.front a.back least.cursor least.waits least.over least.from in
     let place : place_next ByTime cursors ≡ length a.front = rw (any-none is_unready cursors (none-unready cursors tells.0))
-        (ap (λ (l : List InputView). position_or_len (has_least_key l) l) a.splits ∙ first-here (has_least_key (a.front ++ least.cursor ∷ a.back))
-        a.front a.back least.cursor front here) in
+    (ap (λ (l : List InputView). position_or_len (has_least_key l) l) a.splits ∙ first-here (has_least_key (a.front ++ least.cursor ∷ a.back))
+    a.front a.back least.cursor front here) in
     at-here cursors (place_next ByTime cursors) i least.cursor a place ∙ ap (λ (b : Bool). if b then Next.Decide i else Next.Read i) least.waits
 by-time cursors Next.Finish tells =
     let ready = weaker _ IsReady (λ h e. inr e) cursors tells.1 in
     let place : place_next ByTime cursors ≡ length cursors =
     rw (any-none is_unready cursors (none-unready cursors ready))
-        (first-none (has_least_key cursors) cursors (weaker _ _ (waits-not cursors) cursors tells.0)) in
+    (first-none (has_least_key cursors) cursors (weaker _ _ (waits-not cursors) cursors tells.0)) in
     at-past cursors (place_next ByTime cursors) place
 
 -- what is next by its parts is what is found out

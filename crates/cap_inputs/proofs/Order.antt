@@ -1,7 +1,8 @@
 -- A merge from the current packets gives the order of the whole.
-use Rattle.cap_inputs.proofs.Common.{AllByRecursion, ◌≡◌, ℕ, suc, ◌+◌, ◌<◌, ◌≤◌, true, false, max, List, [], ◌∷◌, ◌++◌, length, refl, sym, ◌∙◌, ap, arith,
-    add-zero, subst, append_assoc, nat_tests, Fault, Placed, Items, Ending, Packet, SequenceEnd, Complete, FaultIn, with_front, InputItems, Entry, end_after,
-    entries_of, all_entries, comes_before, insert_entry, sort_entries, sequence_of_entries, first_end, fault_without_packets, unless_fault, sequence_by_time}
+use Rattle.cap_inputs.proofs.Common.{AllByRecursion, ◌≡◌, ℕ, suc, ◌+◌, ◌<◌, ◌≤◌, true, false, max, List, [], ◌∷◌, ◌++◌, length, refl, sym, ◌∙◌, ap, arith}
+use Rattle.cap_inputs.proofs.Common.{add-zero, subst, append_assoc, nat_tests, Fault, Placed, Items, Ending, Packet, SequenceEnd, Complete, FaultIn, with_front}
+use Rattle.cap_inputs.proofs.Common.{InputItems, Entry, end_after, entries_of, all_entries, comes_before, insert_entry, sort_entries, sequence_of_entries}
+use Rattle.cap_inputs.proofs.Common.{first_end, fault_without_packets, unless_fault, sequence_by_time}
 use Rattle.cap_io.proofs.Merging.{each-append, each-sorted}
 use Rattle.cap_inputs.proofs.Cursors.{weaker}
 
@@ -29,9 +30,11 @@ FollowsIn input greatest x = (x.input ≡ input) × (greatest ≤ x.key)
 entries-follow : (input : ℕ) (ending : Ending) (greatest : ℕ) (ps : List Placed) → AllByRecursion (FollowsIn input greatest)
     (entries_of input ending greatest ps)
 entries-follow input ending greatest [] = tt
-entries-follow input ending greatest (p ∷ ps) =
-    ((refl, omega arith), weaker (FollowsIn input (max greatest p.packet.time)) (FollowsIn input greatest) (λ x f. (f.0, omega (arith, f.1)))
-        (entries_of input ending (max greatest p.packet.time) ps) (entries-follow input ending (max greatest p.packet.time) ps))
+entries-follow input ending greatest (p ∷ ps) = (
+  (refl, omega arith),
+  weaker (FollowsIn input (max greatest p.packet.time)) (FollowsIn input greatest) (λ x f. (f.0, omega (arith, f.1)))
+      (entries_of input ending (max greatest p.packet.time) ps) (entries-follow input ending (max greatest p.packet.time) ps),
+)
 
 ahead : (e x : Entry) → e.key < x.key → comes_before e x ≡ true
 ahead e x h = grind (arith, nat_tests, h)
@@ -66,7 +69,7 @@ all-each : (Q : Entry → Type 0) (k input : ℕ) (rs : List InputItems) → All
 all-each Q k input [] from each = tt
 all-each Q k input (r ∷ rs) from each =
     each-append Q (input_entries input r) (all_entries (input + 1) rs) (entries-each Q k input r.items.ending r.greatest r.items.packets from.0
-        (λ x le is. each x le (omega (arith, is))))
+    (λ x le is. each x le (omega (arith, is))))
     (all-each Q k (input + 1) rs from.1 (λ x le l. each x le (omega (arith, l))))
 
 all_entries-append : (input : ℕ) (xs ys : List InputItems) → all_entries input (xs ++ ys) ≡ all_entries input xs ++ all_entries (input + length xs) ys
@@ -74,7 +77,7 @@ all_entries-append input [] ys = rw add-zero refl
 all_entries-append input (x ∷ xs) ys =
     let e : input + suc (length xs) ≡ (input + 1) + length xs = omega arith in
     rw (e, all_entries-append (input + 1) xs ys)
-        (sym (append_assoc (input_entries input x) (all_entries (input + 1) xs) (all_entries (input + 1 + length xs) ys)))
+    (sym (append_assoc (input_entries input x) (all_entries (input + 1) xs) (all_entries (input + 1 + length xs) ys)))
 
 first-close-assoc : (a b c : SequenceEnd) → first_end a (first_end b c) ≡ first_end (first_end a b) c
 first-close-assoc Complete b c = refl
@@ -86,7 +89,7 @@ broken-append input [] ys = rw add-zero refl
 broken-append input (x ∷ xs) ys =
     let e : input + suc (length xs) ≡ (input + 1) + length xs = omega arith in
     rw (e, broken-append (input + 1) xs ys) (first-close-assoc (end_at input x) (fault_without_packets (input + 1) xs)
-        (fault_without_packets (input + 1 + length xs) ys))
+    (fault_without_packets (input + 1 + length xs) ys))
 
 first-over : (a b : SequenceEnd) → first_end a b ≡ Complete → (a ≡ Complete) × (b ≡ Complete)
 first-over Complete b h = (refl, h)
@@ -100,18 +103,22 @@ over-right (FaultIn i f o) = refl
 -- first, and what is left after it is the merge of what is left.
 pub merged-next : (xs ys : List InputItems) (g : ℕ) (p : Placed) (items : Items) (ps : List Placed) (size : ℕ) → items.packets ≡ p ∷ ps
     → fault_without_packets 0 (xs ++ record { greatest = g; items = items; size = size } ∷ ys) ≡ Complete → AllFrom (max g p.packet.time + 1) xs
-        → AllFrom (max g p.packet.time) ys
+    → AllFrom (max g p.packet.time) ys
     → sequence_by_time (xs ++ record { greatest = g; items = items; size = size } ∷ ys)
     ≡ with_front (Packet (length xs) p ∷ [])
-        (sequence_by_time (xs ++ record { greatest = max g p.packet.time; items =
-        record { packets = ps; declared = items.declared; ending = items.ending }; size = size } ∷ ys))
+    (sequence_by_time (xs ++ record {
+      greatest = max g p.packet.time;
+      items =
+          record { packets = ps; declared = items.declared; ending = items.ending };
+      size = size;
+    } ∷ ys))
 merged-next xs ys g p items ps size is whole over from =
     let k : ℕ = max g p.packet.time in
     let n : ℕ = length xs in
     let r : InputItems = record { greatest = g; items = record { packets = p ∷ ps; declared = items.declared; ending = items.ending }; size = size } in
     let r' : InputItems = record { greatest = k; items = record { packets = ps; declared = items.declared; ending = items.ending }; size = size } in
     let same : record { greatest = g; items = items; size = size } ≡ r =
-        ap (λ (l : List Placed). record { greatest = g; items = record { packets = l; declared = items.declared; ending = items.ending }; size = size }) is in
+    ap (λ (l : List Placed). record { greatest = g; items = record { packets = l; declared = items.declared; ending = items.ending }; size = size }) is in
     let B : InputItems → Type 0 = λ z. fault_without_packets 0 (xs ++ z ∷ ys) ≡ Complete in
     let whole' : fault_without_packets 0 (xs ++ r ∷ ys) ≡ Complete = subst B same whole in
     let e : Entry = record { key = k; input = n; p = p; end = end_after n items.ending ps } in
@@ -120,17 +127,17 @@ merged-next xs ys g p items ps size is whole over from =
     let rest = first-over (end_at (0 + n) r) (fault_without_packets (0 + n + 1) ys) apart.1 in
     let after_e : List Entry = input_entries n r' ++ all_entries (n + 1) ys in
     let old : all_entries 0 (xs ++ r ∷ ys) ≡ all_entries 0 xs ++ e ∷ after_e = all_entries-append 0 xs (r ∷ ys)
-        ∙ ap (λ (m : ℕ). all_entries 0 xs ++ all_entries m (r ∷ ys)) zero in
+    ∙ ap (λ (m : ℕ). all_entries 0 xs ++ all_entries m (r ∷ ys)) zero in
     let new : all_entries 0 (xs ++ r' ∷ ys) ≡ all_entries 0 xs ++ after_e = all_entries-append 0 xs (r' ∷ ys)
-        ∙ ap (λ (m : ℕ). all_entries 0 xs ++ all_entries m (r' ∷ ys)) zero in
+    ∙ ap (λ (m : ℕ). all_entries 0 xs ++ all_entries m (r' ∷ ys)) zero in
     let follows : AllByRecursion (λ x. comes_before x e ≡ false) after_e =
     each-append (λ x. comes_before x e ≡ false) (input_entries n r') (all_entries (n + 1) ys)
     (weaker (FollowsIn n k) (λ x. comes_before x e ≡ false) (λ x h. later-own e x h) (input_entries n r') (entries-follow n items.ending k ps))
     (all-each (λ x. comes_before x e ≡ false) k (n + 1) ys from (λ x le l. later e x le l)) in
     let first : sort_entries (all_entries 0 (xs ++ r ∷ ys)) ≡ e ∷ sort_entries (all_entries 0 (xs ++ r' ∷ ys)) =
     ap sort_entries old ∙ sorted-first e (all_entries 0 xs) after_e
-        (all-each (λ x. comes_before e x ≡ true) (k + 1) 0 xs over (λ x le l. ahead e x (omega (arith, le)))) follows
-        ∙ ap (λ (l : List Entry). e ∷ sort_entries l) (sym new) in
+    (all-each (λ x. comes_before e x ≡ true) (k + 1) 0 xs over (λ x le l. ahead e x (omega (arith, le)))) follows
+    ∙ ap (λ (l : List Entry). e ∷ sort_entries l) (sym new) in
     let left_broken : fault_without_packets 0 (xs ++ r' ∷ ys) ≡ end_after n items.ending ps =
     broken-append 0 xs (r' ∷ ys)
     ∙ ap (λ (c : SequenceEnd). first_end c (fault_without_packets (0 + n) (r' ∷ ys))) apart.0
@@ -141,7 +148,7 @@ merged-next xs ys g p items ps size is whole over from =
     ∙ ap (λ (c : SequenceEnd). unless_fault c (sequence_of_entries (sort_entries (all_entries 0 (xs ++ r ∷ ys))))) whole'
     ∙ ap sequence_of_entries first
     ∙ ap (λ (c : SequenceEnd). with_front (Packet n p ∷ []) (unless_fault c (sequence_of_entries (sort_entries (all_entries 0 (xs ++ r' ∷ ys))))))
-        (sym left_broken)
+    (sym left_broken)
 
 -- an input that ends by a fault, where none before it does and it has no packet left: nothing more
 -- comes

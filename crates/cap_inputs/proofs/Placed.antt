@@ -1,10 +1,11 @@
 -- What the cursor says of the inputs, and how it goes on.
 use Rattle.std.proofs.lemmas.{Bool.cases_order, Option.slice_get_within}
-use Rattle.cap_inputs.proofs.Common.{◌≡◌, ◌≢◌, ◌⊎◌, inl, inr, ℕ, zero, suc, ◌+◌, ◌<◌, ◌≤◌, Bool, true, false, List, [], ◌∷◌, ◌++◌, length, map, Some, Result,
-    Ok, Err, refl, sym, ◌∙◌, ap, arith, slice_get, slice_set, AllByRecursion, Fault, Phase, Reading, Ended, Failed, phase_after, Schedule, Turn, Merge, Next,
-    ordering_of, EntersQueue, HoldsQueue, is_merge, ◌&&◌, key_of, EachAt, IsOfTurn, IsOfMerge, IsNextAt, IsScheduled, first_schedule, schedule_after,
-    schedule_after_decided, waits_at, PacketOrder, InTurn, ByTime, InputView, IsInput, input_after_decided, is_packet_found, AllEnded, AllReady, IsAtTurn,
-    IsNextIn, IsOpen, IsReady, NoneWaits}
+use Rattle.cap_inputs.proofs.Common.{◌≡◌, ◌≢◌, ◌⊎◌, inl, inr, ℕ, zero, suc, ◌+◌, ◌<◌, ◌≤◌, Bool, true, false, List, [], ◌∷◌, ◌++◌, length, map, Some, Result}
+use Rattle.cap_inputs.proofs.Common.{Ok, Err, refl, sym, ◌∙◌, ap, arith, slice_get, slice_set, AllByRecursion, Fault, Phase, Reading, Ended, Failed}
+use Rattle.cap_inputs.proofs.Common.{phase_after, Schedule, Turn, Merge, Next, ordering_of, EntersQueue, HoldsQueue, is_merge, ◌&&◌, key_of, EachAt, IsOfTurn}
+use Rattle.cap_inputs.proofs.Common.{IsOfMerge, IsNextAt, IsScheduled, first_schedule, schedule_after, schedule_after_decided, waits_at, PacketOrder, InTurn}
+use Rattle.cap_inputs.proofs.Common.{ByTime, InputView, IsInput, input_after_decided, is_packet_found, AllEnded, AllReady, IsAtTurn, IsNextIn, IsOpen, IsReady}
+use Rattle.cap_inputs.proofs.Common.{NoneWaits}
 use Rattle.cap_inputs.proofs.Cursors.{get-input, input-at, same-input, schedule-order, set-among}
 use Rattle.cap_inputs.proofs.Leasts.{queue-read}
 use Rattle.cap_inputs.specs.Queue.{Queue}
@@ -58,8 +59,11 @@ each-set P P' cursors i h h' a each here others j k is =
     parts [] ys zero is = inl (refl, (cc))
     parts [] ys (suc j) is = inr ((λ e. omega (arith, e)), is)
     parts (x ∷ xs) ys zero is = inr ((λ e. omega (arith, e)), is)
-    parts (x ∷ xs) ys (suc j) is = elim (parts xs ys j is) [ inl (at, same) ↦ inl (ap suc at, same) | inr (other, stays) ↦
-        inr ((λ e. other (omega (arith, e))), stays) ]
+    parts (x ∷ xs) ys (suc j) is = elim (parts xs ys j is) [
+      | inl (at, same) ↦ inl (ap suc at, same)
+      | inr (other, stays) ↦
+          inr ((λ e. other (omega (arith, e))), stays)
+    ]
 
 -- ---- what is next
 
@@ -111,8 +115,14 @@ next-is (Merge n u) cursors (Next.Read i) placed tells =
     let found = some-at cursors i (rw same tells.2) in
     let a = input-at cursors i found.0 found.1 in
     let here = (placed i found.0 found.1).0 (omega (arith, same)) (rw same tells.1) in
-    record { cursor = found.0; among = a; waits = here.0; unended = here.1; front = front-of cursors i found.0 a _
-        (λ j k less is. (placed j k is).1 (inl (rw same at less))) }
+    record {
+      cursor = found.0;
+      among = a;
+      waits = here.0;
+      unended = here.1;
+      front = front-of cursors i found.0 a _
+          (λ j k less is. (placed j k is).1 (inl (rw same at less)));
+    }
 next-is (Merge n u) cursors (Next.Decide i) placed tells = (all-ready n u cursors placed tells.0, tells.1)
 next-is (Merge n u) cursors Next.Finish placed tells = (tells.1, all-ended cursors tells.1 (all-ready n u cursors placed tells.0))
 
@@ -139,7 +149,7 @@ not-ready h waits unended ready = elim ready [ inl w ↦ (cc (w, waits)) | inr e
 pub placed-read : (schedule : Schedule) (cursors : List InputView) (i : ℕ) (h' : InputView) (r : Result Bool Fault) → IsNextIn (ordering_of schedule)
     cursors (Next.Read i)
     → h'.waiting ≡ is_packet_found r → h'.source.phase ≡ phase_after r → IsScheduled schedule cursors → IsScheduled (schedule_after schedule i r)
-        (slice_set cursors i h')
+    (slice_set cursors i h')
 placed-read (Turn turn) cursors i h' r tells waits phase placed = by_result r phase
   where
     h : InputView
@@ -157,8 +167,10 @@ placed-read (Turn turn) cursors i h' r tells waits phase placed = by_result r ph
     by_result : (r : Result Bool Fault) → h'.source.phase ≡ phase_after r → IsScheduled (schedule_after (Turn turn) i r) (slice_set cursors i h')
     by_result (Ok true) phase = still (phase-unended h' Reading phase (λ e. (cc)))
     by_result (Ok false) phase = each-set _ (IsOfTurn (i + 1)) cursors i h h' tells.among placed ((λ less. phase), λ le. absurd (omega (arith, le)))
-        (λ j k other is was. ((λ less. front-at cursors i h tells.among _ j k tells.front (omega (arith, less, other)) is),
-            λ le. was.1 (omega (arith, le, from))))
+        (λ j k other is was. (
+          (λ less. front-at cursors i h tells.among _ j k tells.front (omega (arith, less, other)) is),
+          λ le. was.1 (omega (arith, le, from)),
+        ))
     by_result (Err fault) phase = still (phase-unended h' (Failed fault) phase (λ e. (cc)))
 placed-read (Merge n u) cursors i h' r tells waits phase placed = by_result r waits phase
   where
@@ -186,19 +198,23 @@ placed-read (Merge n u) cursors i h' r tells waits phase placed = by_result r wa
     by_result (Ok true) waits phase = on (inl waits)
     by_result (Ok false) waits phase = on (inr phase)
     by_result (Err fault) waits phase =
-        each-set _ _ cursors i h h' tells.among placed ((λ le less. (waits, phase-unended h' (Failed fault) phase (λ e. (cc)))),
-            λ out. absurd (not out)) (λ j k other is was. was)
+        each-set _ _ cursors i h h' tells.among placed (
+          (λ le less. (waits, phase-unended h' (Failed fault) phase (λ e. (cc)))),
+          λ out. absurd (not out),
+        ) (λ j k other is was. was)
 
 -- an input is read on, and with it the queue
 pub goes-on : (schedule schedule' : Schedule) (cursors : List InputView) (i : ℕ) (h h' : InputView) (r : Result Bool Fault) (q q' : Queue)
     → IsInput cursors i h → IsNextIn (ordering_of schedule) cursors (Next.Read i)
     → h'.waiting ≡ is_packet_found r → h'.source.phase ≡ phase_after r → schedule' ≡ schedule_after schedule i r
     → EntersQueue (is_packet_found r && is_merge schedule) (record { time = key_of h'; input = i }) q q' → HoldsQueue (ordering_of schedule) cursors q
-        × IsScheduled schedule cursors
+    × IsScheduled schedule cursors
     → HoldsQueue (ordering_of schedule') (slice_set cursors i h') q' × IsScheduled schedule' (slice_set cursors i h')
 goes-on schedule schedule' cursors i h h' r q q' a tells waits phase is enters was =
-    rw (is, schedule-order) (queue-read schedule cursors i h h' r q q' a (read-idle (ordering_of schedule) cursors i h a tells) waits enters was.0,
-        placed-read schedule cursors i h' r tells waits phase was.1)
+    rw (is, schedule-order) (
+      queue-read schedule cursors i h h' r q q' a (read-idle (ordering_of schedule) cursors i h a tells) waits enters was.0,
+      placed-read schedule cursors i h' r tells waits phase was.1,
+    )
 
 -- the current packet of an input is decided
 pub placed-decided : (schedule : Schedule) (cursors : List InputView) (i : ℕ) (h : InputView) → IsInput cursors i h → IsNextIn (ordering_of schedule)

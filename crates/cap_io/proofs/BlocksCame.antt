@@ -1,11 +1,12 @@
 -- What came of a block, from read to read.
-use Rattle.cap_io.proofs.Common.{◌≡◌, ℕ, true, ◌+◌, ◌<◌, ◌≤◌, ◌⊎◌, inl, inr, List, [], ◌∷◌, ◌++◌, length, take, drop, Option, Some, None, Result, Ok, Err, refl,
-    sym, ap, ap₂, ◌∙◌, subst, arith, unwrap_or, option_to_list, append_assoc, length-append, length-take-le, drop_at, drop-drop, take-append-drop, checked,
-    first_failing, Captured, Fault, NoMemory, ReadFailed, Order, checked_ok, checked_err, Parts, SectionParts, block_checks, parts_in, frame_checks,
-    frame_fault, frame_in, most_block, Described, IsBlock, Section, block_size, checks_among, frame_after, interfaces_before, order_before, packet_by,
-    packets_in, parts_after, section_after, section_by, unit_fault, passes, frame_checks-append, frame_in-append, unit_fault-frame, unit_fault-short,
-    unit_fault-block, unit_fault-among, parts_in-append, block_checks-append, Frame, Enters, PacketIfAny, held_packet, section_of, AddsInterface, IsEntryFault,
-    most_in_unit, block_length, RestMissing, span_bytes, is_interface, PacketSpans}
+use Rattle.cap_io.proofs.Common.{◌≡◌, ℕ, true, ◌+◌, ◌<◌, ◌≤◌, ◌⊎◌, inl, inr, List, [], ◌∷◌, ◌++◌, length, take, drop, Option, Some, None, Result, Ok, Err, refl}
+use Rattle.cap_io.proofs.Common.{sym, ap, ap₂, ◌∙◌, subst, arith, unwrap_or, option_to_list, append_assoc, length-append, length-take-le, drop_at, drop-drop}
+use Rattle.cap_io.proofs.Common.{take-append-drop, checked, first_failing, Captured, Fault, NoMemory, ReadFailed, Order, checked_ok, checked_err, Parts}
+use Rattle.cap_io.proofs.Common.{SectionParts, block_checks, parts_in, frame_checks, frame_fault, frame_in, most_block, Described, IsBlock, Section, block_size}
+use Rattle.cap_io.proofs.Common.{checks_among, frame_after, interfaces_before, order_before, packet_by, packets_in, parts_after, section_after, section_by}
+use Rattle.cap_io.proofs.Common.{unit_fault, passes, frame_checks-append, frame_in-append, unit_fault-frame, unit_fault-short, unit_fault-block}
+use Rattle.cap_io.proofs.Common.{unit_fault-among, parts_in-append, block_checks-append, Frame, Enters, PacketIfAny, held_packet, section_of, AddsInterface}
+use Rattle.cap_io.proofs.Common.{IsEntryFault, most_in_unit, block_length, RestMissing, span_bytes, is_interface, PacketSpans}
 use Rattle.cap_io.proofs.Fronts.{decisive_block_length, length_by_header-whole}
 use Rattle.cap_io.proofs.OwnFaults.{entry-not_failed, own-frame, own-not_failed, own-not_memory}
 
@@ -104,7 +105,7 @@ frame_refused before section front unread answer fault is upper_bound exact err 
 pub no_room_for_block : (before : Option Section) (front unread : List ℕ) → length front ≡ 12 → BlockMissing before (front ++ unread) unread NoMemory
 no_room_for_block before front unread upper_bound =
     block_missing before front unread unread NoMemory 0 upper_bound (inr (inr refl))
-        (λ none. omega (arith, (passes before (front ++ unread) none).least)) (λ failed. (cc)) (omega arith) (omega arith) refl
+    (λ none. omega (arith, (passes before (front ++ unread) none).least)) (λ failed. (cc)) (omega arith) (omega arith) refl
 
 -- the first 12 bytes tell a block's length, where they pass
 block_length-whole : (before : Option Section) (front unread : List ℕ) → 12 ≤ length front
@@ -112,7 +113,7 @@ block_length-whole : (before : Option Section) (front unread : List ℕ) → 12 
     → block_length before (front ++ unread) ≡ Some (block_size before (front ++ unread))
 block_length-whole before front unread enough none =
     length_by_header-whole 12 (front ++ unread) (frame_checks (order_before before) (front ++ unread)) (block_size before (front ++ unread))
-        (omega (arith, enough, length-append front unread)) none
+    (omega (arith, enough, length-append front unread)) none
 
 -- a block whose first bytes pass takes memory where there is less room
 pub block-exceeds : (before : Option Section) (section : Option Order) (front unread : List ℕ) (frame : Frame) (room : ℕ)
@@ -155,7 +156,7 @@ pub whole_came : (section : Option Order) (front unread unread' unit buffer : Li
     → WholeCame section (front ++ unread) buffer frame unread'
 whole_came section front unread unread' unit buffer frame upper_bound said there same rest =
     let joined : front ++ drop (length front) unit ≡ unit = ap (λ (l : List ℕ). l ++ drop (length front) unit) (sym same)
-        ∙ take-append-drop (length front) unit in
+    ∙ take-append-drop (length front) unit in
     record {
       passes = rw there (ap (frame_fault section) (sym joined)
           ∙ ap first_failing (frame_checks-append section front (drop (length front) unit) (omega arith)) ∙ said.passes);
@@ -188,12 +189,12 @@ entry_refused before section interfaces text unread' block buffer frame fault is
     let size : length block ≡ frame.length = ap length block_is ∙ length-take-le frame.length buffer room in
     let splits : text ≡ block ++ unread' = came.splits ∙ ap (λ (l : List ℕ). l ++ unread') (sym block_is) in
     let f = framed_block before section block unread' frame is (omega arith) (ap (frame_fault section) block_is ∙ came.passes)
-        (ap (frame_in section) block_is ∙ came.says) in
+    (ap (frame_in section) block_is ∙ came.says) in
     let whole : block_size before (block ++ unread') ≡ frame.length = ap (λ (g : Frame). g.length) f.following in
     let long : length (block ++ unread') ≡ length block + length unread' = length-append block unread' in
     let blocked : first_failing (block_checks (frame_after before (block ++ unread')) (block ++ unread')) ≡ first_failing (block_checks frame block) =
     ap (λ (g : Frame). first_failing (block_checks g (block ++ unread'))) f.following
-        ∙ ap first_failing (block_checks-append frame block unread' least (omega arith)) in
+    ∙ ap first_failing (block_checks-append frame block unread' least (omega arith)) in
     let parts : parts_after before (block ++ unread') ≡ parts_in frame block =
     ap (λ (g : Frame). parts_in g (block ++ unread')) f.following ∙ parts_in-append frame block unread' least (omega arith) in
     let P : List ℕ → Type 0 = λ t. BlockMissing before t unread' fault in
@@ -226,12 +227,12 @@ adds-describes before section interfaces text unread' block buffer frame is same
     let size : length block ≡ frame.length = ap length block_is ∙ length-take-le frame.length buffer room in
     let splits : text ≡ block ++ unread' = came.splits ∙ ap (λ (l : List ℕ). l ++ unread') (sym block_is) in
     let f = framed_block before section block unread' frame is (omega arith) (ap (frame_fault section) block_is ∙ came.passes)
-        (ap (frame_in section) block_is ∙ came.says) in
+    (ap (frame_in section) block_is ∙ came.says) in
     let whole : block_size before (block ++ unread') ≡ frame.length = ap (λ (g : Frame). g.length) f.following in
     let long : length (block ++ unread') ≡ length block + length unread' = length-append block unread' in
     let blocked : first_failing (block_checks (frame_after before (block ++ unread')) (block ++ unread')) ≡ first_failing (block_checks frame block) =
     ap (λ (g : Frame). first_failing (block_checks g (block ++ unread'))) f.following
-        ∙ ap first_failing (block_checks-append frame block unread' least (omega arith)) in
+    ∙ ap first_failing (block_checks-append frame block unread' least (omega arith)) in
     let parts : parts_after before (block ++ unread') ≡ parts_in frame block =
     ap (λ (g : Frame). parts_in g (block ++ unread')) f.following ∙ parts_in-append frame block unread' least (omega arith) in
     let P : List ℕ → Type 0 = λ t. Describes before t in
@@ -268,13 +269,13 @@ pub block_came : (before : Option Section) (section : Option Order) (interfaces 
 block_came before section interfaces interfaces' text unread' block buffer frame spans is same least room came block_is enters =
     let size : length block ≡ frame.length = ap length block_is ∙ length-take-le frame.length buffer room in
     let f = framed_block before section block [] frame is (omega arith) (ap (frame_fault section) block_is ∙ came.passes)
-        (ap (frame_in section) block_is ∙ came.says) in
+    (ap (frame_in section) block_is ∙ came.says) in
     let framed : first_failing (frame_checks (order_before before) block) ≡ None = ap (λ o. frame_fault o block) is ∙ ap (frame_fault section)
-        block_is ∙ came.passes in
+    block_is ∙ came.passes in
     let whole : block_size before block ≡ frame.length = ap (λ (g : Frame). g.length) f.alone in
     let parts : parts_after before block ≡ parts_in frame block = ap (λ (g : Frame). parts_in g block) f.alone in
     let blocked : first_failing (block_checks (frame_after before block) block) ≡ None = ap (λ (g : Frame). first_failing (block_checks g block))
-        f.alone ∙ enters.passes in
+    f.alone ∙ enters.passes in
     let among : unit_fault before block ≡ None =
     unit_fault-among before block (omega arith) framed (omega arith) blocked
     ∙ ap₂ (λ (i : List Described) (p : Parts). first_failing (checks_among i p)) same parts ∙ enters.among in

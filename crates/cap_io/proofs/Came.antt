@@ -1,13 +1,14 @@
 -- What came of a unit, from read to read.
-use Rattle.cap_io.proofs.Common.{◌≡◌, ℕ, Bool, IsTrue, IfOk, IfErr, ◌+◌, ◌<◌, ◌≤◌, inl, inr, List, [], ◌++◌, length, take, drop, Option, Some, None, is_some,
-    unwrap_or, true, false, Result, Ok, Err, refl, sym, subst, ap, ap₂, ◌∙◌, arith, take_all, length-append, take-append-drop, drop_at, drop-drop, append_assoc,
-    append-nil, TakesFull, checked, first_failing, Fault, NotACaptureFile, Truncated, ReadFailed, NoMemory, checked_ok, checked_err, Head, RecordHead, form_in,
-    header_fault, header_in, captured_len, field_checks, record_header_in, record_size, record_packet, form_in-append, header_fault-append,
-    header_fault-no_magic, header_fault-short, field_checks-append, record_header_in-append, captured_len-append, record_fault-fields, record_fault-short,
-    IsRecord-came, is_section, Declared, Nothing, PcapFile, Front, a_pcap_record, front_of, is_pcapng, most_in_unit, most_taken, stated_length, decisive_length,
-    IsTaken, TakesMemory, NoUnitCame, RestMissing, HeaderCame, PacketCame}
-use Rattle.cap_io.proofs.Fronts.{front_of-no_header, front_of-no_record, front_of-pcapng, is_section-append, is_pcapng-append, most_taken-block,
-    most_taken-header, most_taken-record, most_taken-front, length_by_header-whole, decisive_length-header}
+use Rattle.cap_io.proofs.Common.{◌≡◌, ℕ, Bool, IsTrue, IfOk, IfErr, ◌+◌, ◌<◌, ◌≤◌, inl, inr, List, [], ◌++◌, length, take, drop, Option, Some, None, is_some}
+use Rattle.cap_io.proofs.Common.{unwrap_or, true, false, Result, Ok, Err, refl, sym, subst, ap, ap₂, ◌∙◌, arith, take_all, length-append, take-append-drop}
+use Rattle.cap_io.proofs.Common.{drop_at, drop-drop, append_assoc, append-nil, TakesFull, checked, first_failing, Fault, NotACaptureFile, Truncated, ReadFailed}
+use Rattle.cap_io.proofs.Common.{NoMemory, checked_ok, checked_err, Head, RecordHead, form_in, header_fault, header_in, captured_len, field_checks}
+use Rattle.cap_io.proofs.Common.{record_header_in, record_size, record_packet, form_in-append, header_fault-append, header_fault-no_magic, header_fault-short}
+use Rattle.cap_io.proofs.Common.{field_checks-append, record_header_in-append, captured_len-append, record_fault-fields, record_fault-short, IsRecord-came}
+use Rattle.cap_io.proofs.Common.{is_section, Declared, Nothing, PcapFile, Front, a_pcap_record, front_of, is_pcapng, most_in_unit, most_taken, stated_length}
+use Rattle.cap_io.proofs.Common.{decisive_length, IsTaken, TakesMemory, NoUnitCame, RestMissing, HeaderCame, PacketCame}
+use Rattle.cap_io.proofs.Fronts.{front_of-no_header, front_of-no_record, front_of-pcapng, is_section-append, is_pcapng-append, most_taken-block}
+use Rattle.cap_io.proofs.Fronts.{most_taken-header, most_taken-record, most_taken-front, length_by_header-whole, decisive_length-header}
 use Rattle.cap_io.proofs.OwnFaults.{own-fields, own-header, own-not_failed, own-not_memory}
 use Rattle.std.proofs.{Common.length-drop, Math.ListN.drop_of_length-le}
 use Rattle.cap_pcapng.proofs.Units as block
@@ -16,7 +17,7 @@ use Rattle.cap_pcapng.proofs.Units as block
 pub Taken-following : (declared : Declared) (unread unread1 unread2 front : List ℕ) (fault : Fault) (count : ℕ) → unread ≡ front ++ unread1
     → count ≤ length unread1 → unread2 ≡ drop count unread1
     → length front + count ≤ most_taken (front_of declared unread) → (fault ≡ ReadFailed → length front + count < decisive_length declared unread)
-        → IsTaken declared unread unread2 fault
+    → IsTaken declared unread unread2 fault
 Taken-following declared unread unread1 unread2 front fault count splits there rest within unfinished = record {
   count = length front + count;
   within = within;
@@ -123,7 +124,7 @@ header_wrong unread unread2 bytes fault splits size other is =
 pub section_of_bytes : (bytes first : List ℕ) → take (length first) bytes ≡ first → 4 ≤ length first → is_section bytes ≡ is_section first
 section_of_bytes bytes first front enough =
     let joined : first ++ drop (length first) bytes ≡ bytes = ap (λ (l : List ℕ). l ++ drop (length first) bytes) (sym front)
-        ∙ take-append-drop (length first) bytes in
+    ∙ take-append-drop (length first) bytes in
     ap is_section (sym joined) ∙ is_section-append first (drop (length first) bytes) enough
 
 pub header_came : (exact : Bool) (unread unread2 bytes : List ℕ) (answer : Result Head Fault) → (IsTrue exact → unread ≡ bytes ++ unread2)
@@ -155,11 +156,11 @@ fields_came head front answer found is ok =
 pub fields_refused : (head : Head) (unread unread1 front : List ℕ) (answer : Result RecordHead Fault) (fault : Fault) → unread ≡ front ++ unread1
     → length front ≡ 16
     → answer ≡ checked (first_failing (field_checks head front)) (record_header_in head front) → answer ≡ Err fault → NoUnitCame (PcapFile head)
-        unread unread1 fault
+    unread unread1 fault
 fields_refused head unread unread1 front answer fault splits size is err =
     let fails = checked_err (first_failing (field_checks head front)) (record_header_in head front) fault (sym is ∙ err) in
     let whole : first_failing (field_checks head unread) ≡ Some fault = ap (λ (t : List ℕ). first_failing (field_checks head t)) splits
-        ∙ ap first_failing (field_checks-append head front unread1 (omega arith)) ∙ fails in
+    ∙ ap first_failing (field_checks-append head front unread1 (omega arith)) ∙ fails in
     let long : length unread ≡ length front + length unread1 = ap length splits ∙ length-append front unread1 in
     record {
       why = inl (front_of-no_record head unread fault (omega arith) (record_fault-fields head unread fault (omega arith) whole));
@@ -177,7 +178,7 @@ pub fields-has_memory : (head : Head) (front : List ℕ) (answer : Result Record
     → fault ≡ NoMemory → ⊥
 fields-has_memory head front answer fault is err =
     own-not_memory fault (own-fields head front fault (checked_err (first_failing (field_checks head front)) (record_header_in head front) fault
-        (sym is ∙ err)))
+    (sym is ∙ err)))
 
 -- nor does one of a file header
 pub header-has_memory : (bytes : List ℕ) (answer : Result Head Fault) → answer ≡ checked (header_fault bytes) (header_in bytes)
@@ -193,10 +194,10 @@ record-takes head unread unread1 front found size room is splits upper_bound fie
     let said : found.captured ≡ captured_len head front = ap (λ (h : RecordHead). h.captured) fields.says in
     let captured : captured_len head unread ≡ captured_len head front = ap (captured_len head) splits ∙ captured_len-append head front unread1 (omega arith) in
     let none : first_failing (field_checks head unread) ≡ None = ap (λ (t : List ℕ). first_failing (field_checks head t)) splits
-        ∙ ap first_failing (field_checks-append head front unread1 (omega arith)) ∙ fields.none in
+    ∙ ap first_failing (field_checks-append head front unread1 (omega arith)) ∙ fields.none in
     let enough : 16 ≤ length unread = omega (arith, upper_bound, ap length splits, length-append front unread1) in
     let stated : stated_length (PcapFile head) unread ≡ Some (record_size head unread) = length_by_header-whole 16 unread (field_checks head unread)
-        (record_size head unread) enough none in
+    (record_size head unread) enough none in
     let long : unwrap_or (stated_length (PcapFile head) unread) 0 ≡ record_size head unread = ap (λ (o : Option ℕ). unwrap_or o 0) stated in
     inl (omega (arith, less, is, long, said, captured))
 
@@ -215,9 +216,9 @@ data_missing head unread unread1 unread2 front found fault size is splits upper_
     let said : found.captured ≡ captured_len head front = ap (λ (h : RecordHead). h.captured) fields.says in
     let captured : captured_len head unread ≡ captured_len head front = ap (captured_len head) splits ∙ captured_len-append head front unread1 (omega arith) in
     let none : first_failing (field_checks head unread) ≡ None = ap (λ (t : List ℕ). first_failing (field_checks head t)) splits
-        ∙ ap first_failing (field_checks-append head front unread1 (omega arith)) ∙ fields.none in
+    ∙ ap first_failing (field_checks-append head front unread1 (omega arith)) ∙ fields.none in
     let stated : stated_length (PcapFile head) unread ≡ Some (record_size head unread) = length_by_header-whole 16 unread (field_checks head unread)
-        (record_size head unread) (omega (arith, long, upper_bound)) none in
+    (record_size head unread) (omega (arith, long, upper_bound)) none in
     let reads : decisive_length (PcapFile head) unread ≡ record_size head unread = ap (λ (o : Option ℕ). unwrap_or o 16) stated in
     record {
       why = elim missing.why [
@@ -227,28 +228,50 @@ data_missing head unread unread1 unread2 front found fault size is splits upper_
       ];
       taken = Taken-following (PcapFile head) unread unread1 unread2 front fault missing.count splits missing.there missing.rest
           (most_taken-record head unread (length front + missing.count) (omega (arith, missing.within)) (omega (arith, missing.within)))
-              (λ failed. rw reads (omega (arith, missing.within)));
+          (λ failed. rw reads (omega (arith, missing.within)));
     }
 
 pub record_came : (head : Head) (unread unread1 unread2 front unit buffer : List ℕ) (found : RecordHead) (size : ℕ) → unread ≡ front ++ unread1
     → length front ≡ 16 → FieldsCame head front found
     → size ≡ 16 + found.captured → length unit ≡ size → take (length front) unit ≡ front → unread1 ≡ drop (length front) unit ++ unread2
-        → take size buffer ≡ unit
+    → take size buffer ≡ unit
     → PacketCame (PcapFile head) unread buffer
-        (record { size = size; bytes = record { start = 16; length = found.captured }; options = record { start = 16; length = 0 }; interface = 0;
-        time = found.time; orig = found.orig }) (PcapFile head) unread2
+    (record {
+      size = size;
+      bytes = record { start = 16; length = found.captured };
+      options = record { start = 16; length = 0 };
+      interface = 0;
+      time = found.time;
+      orig = found.orig;
+    }) (PcapFile head) unread2
 record_came head unread unread1 unread2 front unit buffer found size splits upper_bound fields e whole came following there =
     let same : take 16 unit ≡ front = ap (λ (n : ℕ). take n unit) (sym upper_bound) ∙ came in
     let rest : unread1 ≡ drop 16 unit ++ unread2 = following ∙ ap (λ (n : ℕ). drop n unit ++ unread2) upper_bound in
     let said : found.captured ≡ captured_len head front = ap (λ (h : RecordHead). h.captured) fields.says in
     let joined : front ++ drop 16 unit ≡ unit = ap (λ (l : List ℕ). l ++ drop 16 unit) (sym same) ∙ take-append-drop 16 unit in
     let says : record_header_in head unit ≡ found = ap (record_header_in head) (sym joined) ∙ record_header_in-append head front (drop 16 unit)
-        (omega arith) ∙ sym fields.says in
+    (omega arith) ∙ sym fields.says in
     let bytes : take found.captured (drop 16 unit) ≡ drop 16 unit = take_all found.captured (drop 16 unit) (omega (arith, length-drop 16 unit)) in
-    let packet : record { link = head.link; snap = head.snap; name = []; time = found.time; orig = found.orig; bytes =
-        take found.captured (drop 16 unit); comment = [] } ≡ record_packet head unit =
-    ap₂ (λ (h : RecordHead) (l : List ℕ). record { link = head.link; snap = head.snap; name = []; time = h.time; orig = h.orig; bytes = l; comment =
-        [] }) (sym says) bytes in
+    let packet : record {
+      link = head.link;
+      snap = head.snap;
+      name = [];
+      time = found.time;
+      orig = found.orig;
+      bytes =
+          take found.captured (drop 16 unit);
+      comment = [];
+    } ≡ record_packet head unit =
+    ap₂ (λ (h : RecordHead) (l : List ℕ). record {
+      link = head.link;
+      snap = head.snap;
+      name = [];
+      time = h.time;
+      orig = h.orig;
+      bytes = l;
+      comment =
+          [];
+    }) (sym says) bytes in
     record {
       packet = record_packet head unit;
       is_lent = rw there (ap Some packet);

@@ -1,8 +1,8 @@
 -- Each text has one cut into units.
-use Rattle.cap_io.proofs.Common.{◌≡◌, ℕ, zero, suc, ◌+◌, ◌<◌, ◌≤◌, List, [], ◌++◌, length, take, drop, Option, refl, sym, ◌∙◌, ap, ap₂, arith, zero-add,
-    append_assoc, append-nil, length-drop, take_at, drop_at, take-append-drop, Captured, Fault, Declared, Nothing, IsUnit, Placed, placed_at, AreUnits, no_unit,
-    unit_then, Front, Whole, NoUnit, front_of, items, after_packets, ending_by, EachHasCut, EachHasOneCut, CutTellsItems, add-zero, length-append, Items,
-    no_items, items_with}
+use Rattle.cap_io.proofs.Common.{◌≡◌, ℕ, zero, suc, ◌+◌, ◌<◌, ◌≤◌, List, [], ◌++◌, length, take, drop, Option, refl, sym, ◌∙◌, ap, ap₂, arith, zero-add}
+use Rattle.cap_io.proofs.Common.{append_assoc, append-nil, length-drop, take_at, drop_at, take-append-drop, Captured, Fault, Declared, Nothing, IsUnit, Placed}
+use Rattle.cap_io.proofs.Common.{placed_at, AreUnits, no_unit, unit_then, Front, Whole, NoUnit, front_of, items, after_packets, ending_by, EachHasCut}
+use Rattle.cap_io.proofs.Common.{EachHasOneCut, CutTellsItems, add-zero, length-append, Items, no_items, items_with}
 use Rattle.cap_io.proofs.Units.{front_of-unit, front_of-is}
 use Rattle.cap_io.specs.Capture.{items_within, items_from}
 
@@ -21,7 +21,7 @@ enough-at m n (NoUnit why) b at text l r sized same = refl
 enough-at m n (Whole size ps d) b at text l r sized same =
     let p = sized size ps d refl in
     ap (after_packets (placed_at at ps)) (same d (at + size) (drop size text) (simp length-drop (omega (arith, p.0, p.1)))
-        (simp length-drop (omega (arith, p.0, p.1))))
+    (simp length-drop (omega (arith, p.0, p.1))))
 
 enough : (m n : ℕ) (b : Declared) (at : ℕ) (text : List ℕ) → length text < m → length text < n → items_within m b at text ≡ items_within n b at text
 unfolding items_within
@@ -128,7 +128,7 @@ same_units (unit_then {u = u} {more = more} one units) no_unit x y same last_x l
 same_units {at = at} (unit_then {c = c} {u = u} {more = more} {qs = qs} {ps = ps} one units)
     (unit_then {c = c'} {u = v} {more = more'} {qs = rs} {ps = ps'} other units') x y same last_x last_y =
     let front : Same u v (more ++ x) (more' ++ y) qs rs c c' = same_unit one other (more ++ x) (more' ++ y)
-        (sym (append_assoc u more x) ∙ same ∙ append_assoc v more' y) in
+    (sym (append_assoc u more x) ∙ same ∙ append_assoc v more' y) in
     let later = same_units units (rw (front.declared, front.bytes) units') x y front.rest last_x last_y in
     record {
       bytes = ap₂ (λ (a b : List ℕ). a ++ b) front.bytes later.bytes;
@@ -153,7 +153,7 @@ cut_tells text c =
       items = ap items c.cut.joined ∙ items_from-units c.cut.units c.rest
           ∙ ap (after_packets c.packets) (items_from-stops c.declared (0 + length c.done) c.rest stop.0 stop.1)
           ∙ ap₂ (λ (l : List Placed) (n : ℕ). record { packets = l; declared = c.declared; ending = ending_by stop.0 n }) (append-nil c.packets)
-              (zero-add (length c.done));
+          (zero-add (length c.done));
     }
 
 -- ---- some
@@ -200,5 +200,11 @@ units_within (suc most) declared at text enough = units_by most declared at text
 pub has_cut : EachHasCut
 has_cut text =
     let all = units_within (length text + 1) Nothing 0 text (omega arith) in
-    record { done = all.done; rest = all.rest; packets = all.packets; declared = all.after; cut =
-        record { joined = all.joined; units = all.units; last = all.last } }
+    record {
+      done = all.done;
+      rest = all.rest;
+      packets = all.packets;
+      declared = all.after;
+      cut =
+          record { joined = all.joined; units = all.units; last = all.last };
+    }

@@ -1,8 +1,9 @@
 -- The different interfaces of packets, in the order of first use.
-use Rattle.cap_io.proofs.Common.{◌≡◌, ◌≤◌, ◌&&◌, ◌||◌, ◌+◌, suc, Bool, true, false, not, cond, if◌then◌else◌, Some, number_among, is_among, refl, ap, List, [],
-    ◌∷◌, ◌++◌, length, nat_eq, sym, arith, fold, fold-append, and_parts, eqb-true, Captured, Format, Pcapng, Interface, interface_of, is_same, new_among,
-    interfaces_after_packet, kept_interfaces, ℕ, map, nat_le, ◌∙◌, ◌<◌, list_any, position_or_len, append-nil, map-append, length-append, le-leb, lt-leb,
-    most_output_interfaces, interface_in, zero, All-append, All-nil, All-push, All, HasNumber, IsFirst, FitFile, InterfaceNumber}
+use Rattle.cap_io.proofs.Common.{◌≡◌, ◌≤◌, ◌&&◌, ◌||◌, ◌+◌, suc, Bool, true, false, not, cond, if◌then◌else◌, Some, number_among, is_among, refl, ap, List, []}
+use Rattle.cap_io.proofs.Common.{◌∷◌, ◌++◌, length, nat_eq, sym, arith, fold, fold-append, and_parts, eqb-true, Captured, Format, Pcapng, Interface}
+use Rattle.cap_io.proofs.Common.{interface_of, is_same, new_among, interfaces_after_packet, kept_interfaces, ℕ, map, nat_le, ◌∙◌, ◌<◌, list_any}
+use Rattle.cap_io.proofs.Common.{position_or_len, append-nil, map-append, length-append, le-leb, lt-leb, most_output_interfaces, interface_in, zero, All-append}
+use Rattle.cap_io.proofs.Common.{All-nil, All-push, All, HasNumber, IsFirst, FitFile, InterfaceNumber}
 use Rattle.std.proofs.{Common.length-append, Common.slice_get, Math.Bool.or-true}
 use Rattle.std.proofs.lemmas.Cmp.{nat_eq_equiv, nat_list_eq_equiv}
 use Rattle.std.specs.Cmp.Lexicographic.{pointwise, same_text}
@@ -65,7 +66,7 @@ push-key false keys k = map-append interface_in keys (k ∷ [])
 
 pub insert-keys : (keys : List InterfaceKey) (k : InterfaceKey)
     → map interface_in (if list_any (same_key k) keys then keys else keys ++ k ∷ []) ≡ map interface_in keys ++ new_among (map interface_in keys)
-        (interface_in k)
+    (interface_in k)
 insert-keys keys k = push-key (list_any (same_key k) keys) keys k
     ∙ ap (λ (b : Bool). map interface_in keys ++ (if b then [] else interface_in k ∷ [])) (among-keys keys k)
 

@@ -1,8 +1,9 @@
 -- Which faults checks tell: none of them that the device failed, or that memory ran out.
-use Rattle.cap_io.proofs.Common.{◌≡◌, ◌<◌, ◌++◌, [], ◌∷◌, length, None, ap, length-append, ltb-true, most_interfaces, is_interface, section_by, section_of,
-    Section, Enters, ℕ, inl, inr, Bool, true, false, List, Option, Some, Err, refl, arith, first_failing, Fault, NoMemory, ReadFailed, Order, Parts,
-    SectionParts, InterfaceParts, EnhancedParts, SimpleParts, SkippedParts, block_checks, body_checks, body_in, parts_in, Head, header_checks, header_fault,
-    field_checks, frame_checks, Described, checks_among, Frame, IsBlockFault, AddsInterface, IsEntryFault, read_failures}
+use Rattle.cap_io.proofs.Common.{◌≡◌, ◌<◌, ◌++◌, [], ◌∷◌, length, None, ap, length-append, ltb-true, most_interfaces, is_interface, section_by, section_of}
+use Rattle.cap_io.proofs.Common.{Section, Enters, ℕ, inl, inr, Bool, true, false, List, Option, Some, Err, refl, arith, first_failing, Fault, NoMemory}
+use Rattle.cap_io.proofs.Common.{ReadFailed, Order, Parts, SectionParts, InterfaceParts, EnhancedParts, SimpleParts, SkippedParts, block_checks, body_checks}
+use Rattle.cap_io.proofs.Common.{body_in, parts_in, Head, header_checks, header_fault, field_checks, frame_checks, Described, checks_among, Frame, IsBlockFault}
+use Rattle.cap_io.proofs.Common.{AddsInterface, IsEntryFault, read_failures}
 use Rattle.cap_octet.specs.declared.fault.Fault.TheVariants.{TooManyInterfaces}
 use Rattle.cap_pcapng.specs.{Block.option_checks, declared.frames.BlockType.BlockType}
 use Rattle.cap_pcapng.proofs.Faults.{AreAll, all_failing, all_of_options}

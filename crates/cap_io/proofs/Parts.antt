@@ -1,8 +1,9 @@
 -- Parts that are written one after another, and what a sink adds by them.
-use Rattle.cap_io.proofs.Common.{◌≡◌, ◌⊎◌, inl, inr, ℕ, ◌+◌, ◌<◌, Bool, true, false, not, if◌then◌else◌, List, [], ◌∷◌, ◌++◌, length, take, Option, Some, None,
-    Result, is_ok, Ok, Err, refl, sym, ap, ap₂, subst, ◌∙◌, arith, flat_map, append_assoc, append-nil, take-append-le, checked, AppendsOrStops, Stops, Captured,
-    Fault, WriteFailed, Format, Pcap, NsecPcap, Pcapng, InterfaceNumber, SinkState, HasNumber, WritesPacket, file_start_in, appended_packet, Interface,
-    interface_of, is_among, number_among, file_start, record_text, Appends, packet_block_text, description_text}
+use Rattle.cap_io.proofs.Common.{◌≡◌, ◌⊎◌, inl, inr, ℕ, ◌+◌, ◌<◌, Bool, true, false, not, if◌then◌else◌, List, [], ◌∷◌, ◌++◌, length, take, Option, Some, None}
+use Rattle.cap_io.proofs.Common.{Result, is_ok, Ok, Err, refl, sym, ap, ap₂, subst, ◌∙◌, arith, flat_map, append_assoc, append-nil, take-append-le, checked}
+use Rattle.cap_io.proofs.Common.{AppendsOrStops, Stops, Captured, Fault, WriteFailed, Format, Pcap, NsecPcap, Pcapng, InterfaceNumber, SinkState, HasNumber}
+use Rattle.cap_io.proofs.Common.{WritesPacket, file_start_in, appended_packet, Interface, interface_of, is_among, number_among, file_start, record_text}
+use Rattle.cap_io.proofs.Common.{Appends, packet_block_text, description_text}
 use Rattle.std.proofs.{Common.length-append, Math.Seq.take-append-add}
 use Rattle.cap_octet.specs.Writer.{WritesExactly}
 use Rattle.cap_octet.specs.declared.device.{DeviceFault.DeviceFault, Output.Ghosts, Stopped.Stopped}
@@ -107,7 +108,7 @@ block-place old p place new has =
 pub record-adds : (r : Result (Unit {0}) DeviceFault) (format : Format) (state : SinkState) (interfaces : List Interface) (p : Captured)
     (written written' : List ℕ) → (format ≡ Pcap) ⊎ (format ≡ NsecPcap)
     → AppendsOrStops r written (file_start_in format state p.link ++ record_text (resolution_of format) p) written' → AppendsOrStops r written
-        (file_start_in format state p.link ++ appended_packet format interfaces p) written'
+    (file_start_in format state p.link ++ appended_packet format interfaces p) written'
 record-adds r format state interfaces p written written' form appends =
     let same = ap (λ (l : List ℕ). file_start_in format state p.link ++ l) (packet-record format interfaces p (is-pcap format form)) in
     appends-as r written _ _ written' same appends
@@ -116,11 +117,11 @@ pub block-adds : (r : Result (Unit {0}) DeviceFault) (format : Format) (state : 
     (place : InterfaceNumber) (new : List Interface) (written written' : List ℕ)
     → format ≡ Pcapng → HasNumber interfaces (interface_of p) place new
     → AppendsOrStops r written (file_start_in Pcapng state p.link ++ packet_block_text place p) written' → AppendsOrStops r written
-        (file_start_in format state p.link ++ appended_packet format interfaces p) written'
+    (file_start_in format state p.link ++ appended_packet format interfaces p) written'
 block-adds r format state interfaces p place new written written' form has appends =
     let P : Format → Type 0 = λ f. AppendsOrStops r written (file_start_in f state p.link ++ appended_packet f interfaces p) written' in
     subst P (sym form) (appends-as r written _ _ written' (ap (λ (l : List ℕ). file_start_in Pcapng state p.link ++ l)
-        (block-place interfaces p place new has)) appends)
+    (block-place interfaces p place new has)) appends)
 
 -- a packet that isn't refused, where the device failed
 pub adds-failed : (refusal : Option Fault) (bytes written written' : List ℕ) → Ok (tt {0}) ≡ checked refusal (tt {0}) → Stops written bytes written'

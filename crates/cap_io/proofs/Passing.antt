@@ -1,9 +1,10 @@
 -- From one place in a file to a later one.
-use Rattle.cap_io.proofs.Common.{◌≡◌, ℕ, ◌+◌, ◌-◌, ◌≤◌, ◌<◌, ◌^◌, Bool, false, Result, Ok, Err, HasGiven, most_in_unit, read_failures, List, [], ◌++◌, length,
-    take, drop, Option, Some, None, is_some, true, refl, sym, ap, ap₂, ◌∙◌, subst, arith, slice_get, option_map, append_assoc, drop-take, take-take,
-    length-append, length-take-le, Order, Head, Described, packet_of, Fault, NoMemory, PacketSpans, Declared, Nothing, PcapFile, PcapngFile, AreUnits, no_unit,
-    TakesMemory, held_length, no_unit_fits, packet_in_unit, EndCame, HasInterface, PacketCame, NoUnitCame, UnitPassed, span_bytes, SourceView, Reading, Ended,
-    Failed, SkipsUnits, IsBroken, FindsPacket, FindsEnd, FindsFault, block_at, end_offset, phase_at, IsBetween, HoldsIfAny}
+use Rattle.cap_io.proofs.Common.{◌≡◌, ℕ, ◌+◌, ◌-◌, ◌≤◌, ◌<◌, ◌^◌, Bool, false, Result, Ok, Err, HasGiven, most_in_unit, read_failures, List, [], ◌++◌, length}
+use Rattle.cap_io.proofs.Common.{take, drop, Option, Some, None, is_some, true, refl, sym, ap, ap₂, ◌∙◌, subst, arith, slice_get, option_map, append_assoc}
+use Rattle.cap_io.proofs.Common.{drop-take, take-take, length-append, length-take-le, Order, Head, Described, packet_of, Fault, NoMemory, PacketSpans, Declared}
+use Rattle.cap_io.proofs.Common.{Nothing, PcapFile, PcapngFile, AreUnits, no_unit, TakesMemory, held_length, no_unit_fits, packet_in_unit, EndCame}
+use Rattle.cap_io.proofs.Common.{HasInterface, PacketCame, NoUnitCame, UnitPassed, span_bytes, SourceView, Reading, Ended, Failed, SkipsUnits, IsBroken}
+use Rattle.cap_io.proofs.Common.{FindsPacket, FindsEnd, FindsFault, block_at, end_offset, phase_at, IsBetween, HoldsIfAny}
 use Rattle.cap_io.proofs.Cuts.{AreUnits-append}
 use Rattle.cap_io.proofs.Units.{FitUnits-append, FitUnits-wider, one_unit_fits, one_unit}
 use Rattle.cap_pcapng.specs.{Comment.comment_in, declared.effect.Span.Span}
@@ -14,8 +15,14 @@ use Rattle.std.specs.Result.{OnErr, OnOk}
 -- ---- no unit is gone over
 
 pub stays : (old new : SourceView) → new.declared ≡ old.declared → new.offset ≡ end_offset old → old.room ≤ new.room → SkipsUnits old new old.unread
-stays old new declared place room = record { passed = []; splits = refl; units = rw declared no_unit; offset = omega (arith, place); room = room;
-    fit = rw declared no_unit_fits }
+stays old new declared place room = record {
+  passed = [];
+  splits = refl;
+  units = rw declared no_unit;
+  offset = omega (arith, place);
+  room = room;
+  fit = rw declared no_unit_fits;
+}
 
 -- without a current unit it ends at its offset
 pub no-unit-end : (old : SourceView) (offset : ℕ) → IsBetween old → offset ≡ old.offset → offset ≡ end_offset old
@@ -65,7 +72,7 @@ SkipsUnits-next old new size between came place room fits = record {
 
 pub FindsPacket-next : (old new : SourceView) (spans : PacketSpans) (buffer : List ℕ) → PacketCame old.declared old.unread buffer spans new.declared new.unread
     → new.block ≡ take spans.size buffer → new.packet ≡ packet_in_unit new.declared spans (take spans.size buffer) → new.offset ≡ end_offset old
-        → old.room ≤ new.room → length (take spans.size buffer) ≤ new.room → new.phase ≡ Reading
+    → old.room ≤ new.room → length (take spans.size buffer) ≤ new.room → new.phase ≡ Reading
     → FindsPacket old new
 FindsPacket-next old new spans buffer came block packet place room fits phase =
     let P : List ℕ → Type 0 = λ rest. SkipsUnits old new rest in record {
@@ -170,18 +177,57 @@ found_by (Err fault) = Err fault
 pub bounds-then : (first old new : SourceView) (read : Result NextUnit Fault) → first.given ≤ old.given → old.failures ≡ first.failures
     → old.sure ≡ first.sure → first.room ≤ old.room
     → old.given + end_offset first ≡ first.given + end_offset old → NextBounds old read new → KeepsBounds first (found_by read) new
-bounds-then first old new (Ok NextUnit.Packet) given failures sure room counted next = record { given = omega (arith, given, next.given); failures =
-    omega (arith, failures, next.failures); sure = next.sure ∙ sure; enough = next.enough; block = next.block; held = next.held; room =
-    omega (arith, room, next.room); progress = λ e. omega (arith, given, (next.packet refl).0); bounded = λ e. (next.packet refl).1; packet =
-    λ e. (next.packet refl).2; counted = omega (arith, counted, next.counted); broken = tt }
-bounds-then first old new (Ok unit) given failures sure room counted next = record { given = omega (arith, given, next.given); failures =
-    omega (arith, failures, next.failures); sure = next.sure ∙ sure; enough = next.enough; block = next.block; held = next.held; room =
-    omega (arith, room, next.room); progress = λ e. absurd (cc); bounded = λ e. absurd (cc); packet = λ e. absurd (cc); counted =
-    omega (arith, counted, next.counted); broken = tt }
-bounds-then first old new (Err fault) given failures sure room counted next = record { given = omega (arith, given, next.given); failures =
-    omega (arith, failures, next.failures); sure = next.sure ∙ sure; enough = next.enough; block = next.block; held = next.held; room =
-    omega (arith, room, next.room); progress = λ e. absurd (cc); bounded = λ e. absurd (cc); packet = λ e. absurd (cc); counted = tt; broken =
-    (omega (arith, counted, next.broken.0), omega (arith, counted, next.broken.1)) }
+bounds-then first old new (Ok NextUnit.Packet) given failures sure room counted next = record {
+  given = omega (arith, given, next.given);
+  failures =
+      omega (arith, failures, next.failures);
+  sure = next.sure ∙ sure;
+  enough = next.enough;
+  block = next.block;
+  held = next.held;
+  room =
+      omega (arith, room, next.room);
+  progress = λ e. omega (arith, given, (next.packet refl).0);
+  bounded = λ e. (next.packet refl).1;
+  packet =
+      λ e. (next.packet refl).2;
+  counted = omega (arith, counted, next.counted);
+  broken = tt;
+}
+bounds-then first old new (Ok unit) given failures sure room counted next = record {
+  given = omega (arith, given, next.given);
+  failures =
+      omega (arith, failures, next.failures);
+  sure = next.sure ∙ sure;
+  enough = next.enough;
+  block = next.block;
+  held = next.held;
+  room =
+      omega (arith, room, next.room);
+  progress = λ e. absurd (cc);
+  bounded = λ e. absurd (cc);
+  packet = λ e. absurd (cc);
+  counted =
+      omega (arith, counted, next.counted);
+  broken = tt;
+}
+bounds-then first old new (Err fault) given failures sure room counted next = record {
+  given = omega (arith, given, next.given);
+  failures =
+      omega (arith, failures, next.failures);
+  sure = next.sure ∙ sure;
+  enough = next.enough;
+  block = next.block;
+  held = next.held;
+  room =
+      omega (arith, room, next.room);
+  progress = λ e. absurd (cc);
+  bounded = λ e. absurd (cc);
+  packet = λ e. absurd (cc);
+  counted = tt;
+  broken =
+      (omega (arith, counted, next.broken.0), omega (arith, counted, next.broken.1));
+}
 
 -- what `read_unit` knows of the unit that it read
 abbrev IsRead : SourceView → Result NextUnit Fault → SourceView → Type 0
@@ -194,19 +240,75 @@ IsRead old (Err fault) new = (old.given + end_offset new ≤ new.given + end_off
 pub bounds-next : (old new : SourceView) (read : Result NextUnit Fault) → old.given ≤ new.given → new.failures ≡ old.failures + read_failures read
     → new.sure ≡ old.sure → (0 < new.failures → HasGiven new.sure new.given)
     → length new.block ≤ new.room → new.room ≤ most_in_unit → old.room ≤ new.room
-        → OnOk read (new.given + end_offset old ≡ old.given + end_offset new) → IsRead old read new → NextBounds old read new
+    → OnOk read (new.given + end_offset old ≡ old.given + end_offset new) → IsRead old read new → NextBounds old read new
 bounds-next old new (Ok NextUnit.Packet) given failures sure enough block held room counted is =
-    record { given = given; failures = failures; sure = sure; enough = enough; block = block; held = held; room = room; counted = counted; broken =
-    tt; packet = λ e. is.0; ended = λ e. absurd (cc); found = λ e. is.1; passed = λ size e. absurd (cc) }
+    record {
+      given = given;
+      failures = failures;
+      sure = sure;
+      enough = enough;
+      block = block;
+      held = held;
+      room = room;
+      counted = counted;
+      broken =
+          tt;
+      packet = λ e. is.0;
+      ended = λ e. absurd (cc);
+      found = λ e. is.1;
+      passed = λ size e. absurd (cc);
+    }
 bounds-next old new (Ok (NextUnit.Other size)) given failures sure enough block held room counted is =
-    record { given = given; failures = failures; sure = sure; enough = enough; block = block; held = held; room = room; counted = counted; broken =
-    tt; packet = λ e. absurd (cc); ended = λ e. absurd (cc); found = λ e. absurd (cc); passed = λ size e. is }
+    record {
+      given = given;
+      failures = failures;
+      sure = sure;
+      enough = enough;
+      block = block;
+      held = held;
+      room = room;
+      counted = counted;
+      broken =
+          tt;
+      packet = λ e. absurd (cc);
+      ended = λ e. absurd (cc);
+      found = λ e. absurd (cc);
+      passed = λ size e. is;
+    }
 bounds-next old new (Ok NextUnit.End) given failures sure enough block held room counted is =
-    record { given = given; failures = failures; sure = sure; enough = enough; block = block; held = held; room = room; counted = counted; broken =
-    tt; packet = λ e. absurd (cc); ended = λ e. is; found = λ e. absurd (cc); passed = λ size e. absurd (cc) }
+    record {
+      given = given;
+      failures = failures;
+      sure = sure;
+      enough = enough;
+      block = block;
+      held = held;
+      room = room;
+      counted = counted;
+      broken =
+          tt;
+      packet = λ e. absurd (cc);
+      ended = λ e. is;
+      found = λ e. absurd (cc);
+      passed = λ size e. absurd (cc);
+    }
 bounds-next old new (Err fault) given failures sure enough block held room counted is =
-    record { given = given; failures = failures; sure = sure; enough = enough; block = block; held = held; room = room; counted = counted; broken =
-    is; packet = λ e. absurd (cc); ended = λ e. absurd (cc); found = λ e. absurd (cc); passed = λ size e. absurd (cc) }
+    record {
+      given = given;
+      failures = failures;
+      sure = sure;
+      enough = enough;
+      block = block;
+      held = held;
+      room = room;
+      counted = counted;
+      broken =
+          is;
+      packet = λ e. absurd (cc);
+      ended = λ e. absurd (cc);
+      found = λ e. absurd (cc);
+      passed = λ size e. absurd (cc);
+    }
 
 -- ---- from past the current unit
 
@@ -225,8 +327,21 @@ past-bounds old between new r is kept =
     let place : end_offset (past_unit old) ≡ end_offset old = omega arith in
     let P : ℕ → Type 0 = λ e. OnOk r (new.given + e ≡ old.given + end_offset new) in
     let Q : ℕ → Type 0 = λ e. OnErr r ((old.given + end_offset new ≤ new.given + e) × (new.given + e ≤ old.given + end_offset new + most_in_unit)) in
-    record { given = k.given; failures = k.failures; sure = k.sure; enough = k.enough; block = k.block; held = k.held; room = k.room; progress =
-        k.progress; bounded = k.bounded; packet = k.packet; counted = subst P place k.counted; broken = subst Q place k.broken }
+    record {
+      given = k.given;
+      failures = k.failures;
+      sure = k.sure;
+      enough = k.enough;
+      block = k.block;
+      held = k.held;
+      room = k.room;
+      progress =
+          k.progress;
+      bounded = k.bounded;
+      packet = k.packet;
+      counted = subst P place k.counted;
+      broken = subst Q place k.broken;
+    }
 
 -- ---- the packet in hand
 
@@ -243,7 +358,7 @@ part-lent span size bytes buffer within same =
 
 pub pcap-lent : (head : Head) (spans : PacketSpans) (bytes block : List ℕ) → bytes ≡ span_bytes spans.bytes block
     → Some (record { link = head.link; snap = head.snap; name = []; time = spans.time; orig = spans.orig; bytes = bytes; comment = [] }) ≡
-        packet_in_unit (PcapFile head) spans block
+    packet_in_unit (PcapFile head) spans block
 pcap-lent head spans bytes block same =
     ap (λ (l : List ℕ). Some (record { link = head.link; snap = head.snap; name = []; time = spans.time; orig = spans.orig; bytes = l; comment = [] })) same
 
@@ -254,7 +369,7 @@ pub pcapng-lent : (order : Order) (first : Option ℕ) (interfaces : List Descri
 pcapng-lent order first interfaces i spans bytes comment options block known same commented optional =
     ap₂ (λ (l m : List ℕ). Some (packet_of i spans.time spans.orig l m)) same (commented ∙ ap (comment_in order) optional)
     ∙ ap (option_map (λ (j : Described). packet_of j spans.time spans.orig (span_bytes spans.bytes block)
-        (comment_in order (span_bytes spans.options block)))) (sym known)
+    (comment_in order (span_bytes spans.options block)))) (sym known)
 
 pub time-held : (declared : Declared) (spans : PacketSpans) (block : List ℕ) → HasInterface declared spans → Some spans.time ≡ option_map
     (λ p. p.time) (packet_in_unit declared spans block)
@@ -264,8 +379,8 @@ time-held (PcapngFile first section) spans block known = by_interface (slice_get
   where
     by_interface : (found : Option Described) → is_some found ≡ true
         → Some spans.time ≡ option_map (λ p. p.time)
-            (option_map (λ (i : Described). packet_of i spans.time spans.orig (span_bytes spans.bytes block)
-            (comment_in section.order (span_bytes spans.options block))) found)
+        (option_map (λ (i : Described). packet_of i spans.time spans.orig (span_bytes spans.bytes block)
+        (comment_in section.order (span_bytes spans.options block))) found)
     by_interface None known = (cc)
     by_interface (Some i) known = refl
 

@@ -1,10 +1,10 @@
 -- What is written in a pcap form reads back.
 use Rattle.cap_io.proofs.Backs.{Holds, each-following, holds-none, holds-unit, reads-back}
-use Rattle.cap_io.proofs.Common.{◌≡◌, ℕ, ◌+◌, ◌*◌, ◌/◌, ◌%◌, ◌^◌, ◌<◌, ◌≤◌, Bool, List, [], ◌∷◌, ◌++◌, length, drop, nat_lt, None, refl, sym, ap, subst, ◌∙◌,
-    arith, leb-true, lt-ltb, AllByRecursion, flat_map, eqb-true, ltb-true, first_failing, u32_in, Captured, Fault, LinkTypesDiffer, Pcap, NsecPcap, Little,
-    all_met, none_failing, IsHeader, header_checks, IsRecord, field_checks, most_captured, nanoseconds_of_part, record_packet, parts_of_second, Head,
-    Resolution, Microseconds, Nanoseconds, record_fault-whole, PcapFile, a_pcap_header, a_pcap_record, Back, InRange, IsPlain, ReadsBack, has_link, record_text,
-    state_after}
+use Rattle.cap_io.proofs.Common.{◌≡◌, ℕ, ◌+◌, ◌*◌, ◌/◌, ◌%◌, ◌^◌, ◌<◌, ◌≤◌, Bool, List, [], ◌∷◌, ◌++◌, length, drop, nat_lt, None, refl, sym, ap, subst, ◌∙◌}
+use Rattle.cap_io.proofs.Common.{arith, leb-true, lt-ltb, AllByRecursion, flat_map, eqb-true, ltb-true, first_failing, u32_in, Captured, Fault, LinkTypesDiffer}
+use Rattle.cap_io.proofs.Common.{Pcap, NsecPcap, Little, all_met, none_failing, IsHeader, header_checks, IsRecord, field_checks, most_captured}
+use Rattle.cap_io.proofs.Common.{nanoseconds_of_part, record_packet, parts_of_second, Head, Resolution, Microseconds, Nanoseconds, record_fault-whole, PcapFile}
+use Rattle.cap_io.proofs.Common.{a_pcap_header, a_pcap_record, Back, InRange, IsPlain, ReadsBack, has_link, record_text, state_after}
 use Rattle.cap_io.proofs.Texts.{bare_text, text-start}
 use Rattle.std.proofs.Common.{le-leb}
 use Rattle.cap_octet.specs.Number.{number_in}
@@ -54,13 +54,18 @@ record-back r link p kept =
     let head : Head = written_head r link in
     let seconds_are : u32_in Little bytes 0 ≡ p.time / 1000000000 = number_at 4 bytes 0 (p.time / 1000000000) (drop 4 bytes) refl kept.seconds in
     let part_is : u32_in Little bytes 4 ≡ p.time % 1000000000 / nanoseconds_of_part r =
-        number_at 4 bytes 4 (p.time % 1000000000 / nanoseconds_of_part r) (drop 8 bytes) refl (part-small r p.time) in
+    number_at 4 bytes 4 (p.time % 1000000000 / nanoseconds_of_part r) (drop 8 bytes) refl (part-small r p.time) in
     let captured_is : u32_in Little bytes 8 ≡ length p.bytes = number_at 4 bytes 8 (length p.bytes) (drop 12 bytes) refl (omega (arith, kept.upper_bound)) in
     let orig_is : u32_in Little bytes 12 ≡ p.orig = number_at 4 bytes 12 p.orig (drop 16 bytes) refl kept.orig in
     let size : length bytes ≡ 16 + length p.bytes = omega arith in
     let fields : first_failing (field_checks head bytes) ≡ None =
-    rw (captured_is, part_is, le-leb (length p.bytes) most_captured kept.upper_bound, lt-ltb (p.time % 1000000000 / nanoseconds_of_part r)
-        (parts_of_second r) (part-fits r p.time)) refl in
+    rw (
+      captured_is,
+      part_is,
+      le-leb (length p.bytes) most_captured kept.upper_bound,
+      lt-ltb (p.time % 1000000000 / nanoseconds_of_part r)
+          (parts_of_second r) (part-fits r p.time),
+    ) refl in
     let time_is : u32_in Little bytes 0 * 1000000000 + u32_in Little bytes 4 * nanoseconds_of_part r ≡ p.time =
     ap (λ (n : ℕ). n * 1000000000 + u32_in Little bytes 4 * nanoseconds_of_part r) seconds_are
     ∙ ap (λ (n : ℕ). p.time / 1000000000 * 1000000000 + n * nanoseconds_of_part r) part_is
@@ -70,8 +75,16 @@ record-back r link p kept =
         passes = record_fault-whole head bytes (omega arith) fields (omega (arith, captured_is));
         whole = omega (arith, captured_is);
       };
-      packet = λ k. record { link = sym kept.link_is k; snap = sym kept.plain.snap k; name = sym kept.plain.name k; time = time_is k; orig =
-          orig_is k; bytes = p.bytes; comment = sym kept.plain.comment k };
+      packet = λ k. record {
+        link = sym kept.link_is k;
+        snap = sym kept.plain.snap k;
+        name = sym kept.plain.name k;
+        time = time_is k;
+        orig =
+            orig_is k;
+        bytes = p.bytes;
+        comment = sym kept.plain.comment k;
+      };
     }
 
 -- ---- the file header
@@ -104,7 +117,7 @@ records-hold r link at (p ∷ ps) kept =
     let back = record-back r link p kept.0 in
     let unit = a_pcap_record (written_head r link) (record_text r p) back.is_record in
     let all : Holds (PcapFile (written_head r link)) at (record_text r p ++ flat_map (record_text r) ps)
-        (record_packet (written_head r link) (record_text r p) ∷ ps) =
+    (record_packet (written_head r link) (record_text r p) ∷ ps) =
     holds-unit unit at (flat_map (record_text r) ps) ps (records-hold r link (at + length (record_text r p)) ps kept.1) in
     rw back.packet at all
 
@@ -159,7 +172,7 @@ pub pcap-back : Back Pcap
 pcap-back p ps carries =
     let kept = each-following (IsKept Microseconds p.link) (p ∷ ps)
     (λ earlier q later is. let one = carries.each earlier q later is in kept-of Microseconds p q ps earlier later is one.in_range one.kept.0
-        one.kept.1 one.taken) [] (p ∷ ps) refl in
+    one.kept.1 one.taken) [] (p ∷ ps) refl in
     let one = carries.each [] p ps refl in
     let R : List ℕ → Type 0 = λ t. ReadsBack t (p ∷ ps) in
     subst R (sym (text-start Pcap p ps ∙ ap (λ (l : List ℕ). pcap.file_header Microseconds p.link ++ l) (text-pcap [] (p ∷ ps))))
@@ -169,7 +182,7 @@ pub nanoseconds-back : Back NsecPcap
 nanoseconds-back p ps carries =
     let kept = each-following (IsKept Nanoseconds p.link) (p ∷ ps)
     (λ earlier q later is. let one = carries.each earlier q later is in kept-of Nanoseconds p q ps earlier later is one.in_range one.kept tt
-        one.taken) [] (p ∷ ps) refl in
+    one.taken) [] (p ∷ ps) refl in
     let one = carries.each [] p ps refl in
     let R : List ℕ → Type 0 = λ t. ReadsBack t (p ∷ ps) in
     subst R (sym (text-start NsecPcap p ps ∙ ap (λ (l : List ℕ). pcap.file_header Nanoseconds p.link ++ l) (text-nanoseconds [] (p ∷ ps))))

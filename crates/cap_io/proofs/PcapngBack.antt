@@ -1,10 +1,11 @@
 -- What is written in pcapng reads back.
 use Rattle.cap_io.proofs.Backs.{Holds, each-following, holds-none, holds-unit, reads-back}
-use Rattle.cap_io.proofs.Common.{◌≡◌, ℕ, ◌<◌, ◌≤◌, Bool, true, false, List, [], ◌∷◌, ◌++◌, length, map, if◌then◌else◌, Option, None, Some, refl, sym, ap, subst,
-    ◌∙◌, arith, AllByRecursion, flat_map, fold, slice_get, option_map, fold-append, append_assoc, append-nil, length-map, map-append, slice_get-map,
-    slice_get_within, first_failing, Captured, Pcapng, all_met, none_failing, Described, most_interfaces, Section, packets_in, Nothing, PcapngFile, IsUnit,
-    a_first_block, a_block, first_link_after, Back, InRange, IsCarried, ReadsBack, Interface, checks_in, interface_of, interfaces_after_packet, is_among,
-    kept_interfaces, new_among, number_among, state_after}
+use Rattle.cap_io.proofs.Common.{◌≡◌, ℕ, ◌<◌, ◌≤◌, Bool, true, false, List, [], ◌∷◌, ◌++◌, length, map, if◌then◌else◌, Option, None, Some, refl, sym, ap, subst}
+use Rattle.cap_io.proofs.Common.{◌∙◌, arith, AllByRecursion, flat_map, fold, slice_get, option_map, fold-append, append_assoc, append-nil, length-map}
+use Rattle.cap_io.proofs.Common.{map-append, slice_get-map, slice_get_within, first_failing, Captured, Pcapng, all_met, none_failing, Described}
+use Rattle.cap_io.proofs.Common.{most_interfaces, Section, packets_in, Nothing, PcapngFile, IsUnit, a_first_block, a_block, first_link_after, Back, InRange}
+use Rattle.cap_io.proofs.Common.{IsCarried, ReadsBack, Interface, checks_in, interface_of, interfaces_after_packet, is_among, kept_interfaces, new_among}
+use Rattle.cap_io.proofs.Common.{number_among, state_after}
 use Rattle.cap_io.proofs.Interfaces.{found, kept-grows, kept-push}
 use Rattle.cap_io.proofs.Texts.{bare_text, text-start}
 use Rattle.std.proofs.Common.{length-append}
@@ -61,12 +62,12 @@ interface-holds : (interfaces : List Interface) (p : Captured) (more : List ℕ)
     → HoldsAfter (interfaces ++ interface_of p ∷ []) more ps → HoldsAfter interfaces (pcapng.interface_text p.link p.snap p.name ++ more) ps
 interface-holds interfaces p more ps room in_range later first at =
     let one = interface_back (map described interfaces) p.link p.snap p.name (omega (arith, length-map interfaces described)) in_range.link
-        in_range.snap in_range.name in
+    in_range.snap in_range.name in
     let same : written_section (map described interfaces ++ written_interface p.link p.snap p.name ∷ []) ≡ section_of (interfaces ++ interface_of p ∷ []) =
     ap written_section (sym (map-append described interfaces (interface_of p ∷ []))) in
     let R : Section → Type 0 = λ s. ReadsAs (Some (section_of interfaces)) (pcapng.interface_text p.link p.snap p.name) s [] in
     let unit = unit-of first (section_of interfaces) (section_of (interfaces ++ interface_of p ∷ [])) (pcapng.interface_text p.link p.snap p.name) []
-        (subst R same one) in
+    (subst R same one) in
     holds-unit unit at more ps (later _ _)
 
 -- a packet, after the description of its interface where that is new
@@ -75,10 +76,10 @@ described-holds : (b : Bool) (interfaces : List Interface) (number : ℕ) (p : C
     → length (interfaces ++ (if b then [] else interface_of p ∷ [])) ≤ most_interfaces → IsKept p
     → HoldsAfter (interfaces ++ (if b then [] else interface_of p ∷ [])) more ps
     → HoldsAfter interfaces ((flat_map (λ (i : Interface). pcapng.interface_text i.link i.snap i.name) (if b then [] else interface_of p ∷ [])
-        ++ pcapng.packet_block number p) ++ more) (p ∷ ps)
+    ++ pcapng.packet_block number p) ++ more) (p ∷ ps)
 described-holds true interfaces number p more ps known upper_bound kept later =
     packet-holds interfaces number p more ps (rw (append-nil interfaces) at known) (rw (append-nil interfaces) at upper_bound) kept
-        (rw (append-nil interfaces) at later)
+    (rw (append-nil interfaces) at later)
 described-holds false interfaces number p more ps known upper_bound kept later =
     let bytes : List ℕ = pcapng.interface_text p.link p.snap p.name in
     let split : ((bytes ++ []) ++ pcapng.packet_block number p) ++ more ≡ bytes ++ (pcapng.packet_block number p ++ more) =
@@ -86,7 +87,7 @@ described-holds false interfaces number p more ps known upper_bound kept later =
     let H : List ℕ → Type 0 = λ l. HoldsAfter interfaces l (p ∷ ps) in
     subst H (sym split)
     (interface-holds interfaces p (pcapng.packet_block number p ++ more) (p ∷ ps)
-        (omega (arith, upper_bound, length-append interfaces (interface_of p ∷ []))) kept.in_range
+    (omega (arith, upper_bound, length-append interfaces (interface_of p ∷ []))) kept.in_range
     (packet-holds (interfaces ++ interface_of p ∷ []) number p more ps known upper_bound kept later))
 
 -- ---- packets
@@ -94,7 +95,7 @@ described-holds false interfaces number p more ps known upper_bound kept later =
 few-front : (xs ys : List Captured) (n : ℕ) → length (kept_interfaces Pcapng (xs ++ ys)) ≤ n → length (kept_interfaces Pcapng xs) ≤ n
 few-front xs ys n upper_bound =
     let all : kept_interfaces Pcapng (xs ++ ys) ≡ fold (interfaces_after_packet Pcapng) (kept_interfaces Pcapng xs) ys =
-        fold-append (interfaces_after_packet Pcapng) [] xs ys in
+    fold-append (interfaces_after_packet Pcapng) [] xs ys in
     let size = ap length all in
     let more = kept-grows (kept_interfaces Pcapng xs) ys in
     omega (arith, upper_bound, size, more)

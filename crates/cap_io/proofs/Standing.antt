@@ -1,8 +1,9 @@
 -- Where a source stands in its text, from one call to the next.
-use Rattle.cap_io.proofs.Common.{◌≡◌, ℕ, ◌+◌, ◌-◌, ◌<◌, ◌⊎◌, inl, inr, Bool, true, false, List, [], ◌∷◌, ◌++◌, length, Option, Some, refl, sym, ◌∙◌, ap, arith,
-    add-zero, zero-add, Result, Ok, append_assoc, append-nil, length-append, length-drop, Fault, ReadFailed, NoMemory, Declared, Nothing, Placed, placed_at,
-    AreUnits, no_unit, items, after_packets, ending_by, FaultAt, front_of, NoUnit, SourceView, Phase, Reading, Ended, Failed, source_at, SkipsUnits,
-    FindsPacket, FindsEnd, FindsFault, Advances, Finds, FitUnits, no_unit_fits, decisive_length}
+use Rattle.cap_io.proofs.Common.{◌≡◌, ℕ, ◌+◌, ◌-◌, ◌<◌, ◌⊎◌, inl, inr, Bool, true, false, List, [], ◌∷◌, ◌++◌, length, Option, Some, refl, sym, ◌∙◌, ap, arith}
+use Rattle.cap_io.proofs.Common.{add-zero, zero-add, Result, Ok, append_assoc, append-nil, length-append, length-drop, Fault, ReadFailed, NoMemory, Declared}
+use Rattle.cap_io.proofs.Common.{Nothing, Placed, placed_at, AreUnits, no_unit, items, after_packets, ending_by, FaultAt, front_of, NoUnit, SourceView, Phase}
+use Rattle.cap_io.proofs.Common.{Reading, Ended, Failed, source_at, SkipsUnits, FindsPacket, FindsEnd, FindsFault, Advances, Finds, FitUnits, no_unit_fits}
+use Rattle.cap_io.proofs.Common.{decisive_length}
 use Rattle.cap_io.proofs.Cuts.{AreUnits-append, items_from-units, items_from-stops}
 use Rattle.cap_io.proofs.Units.{FitUnits-append, FitUnits-wider, held_length-le, one_unit_fits, one_unit}
 use Rattle.cap_io.specs.Capture.{items_from}
@@ -56,8 +57,15 @@ Advances-sound text done packets s s' r at advances = by_phase s.phase refl adva
     stays e same =
         let over = at.ended e in
         rw (same.0, same.1) (record {
-          passes = record { passed = []; splits = over.unread; units = no_unit; offset = rw over.block (simp (add-zero)); room = omega arith; fit =
-              no_unit_fits };
+          passes = record {
+            passed = [];
+            splits = over.unread;
+            units = no_unit;
+            offset = rw over.block (simp (add-zero));
+            room = omega arith;
+            fit =
+                no_unit_fits;
+          };
           ends = over.ends;
           unread = over.unread;
           block = over.block;
@@ -146,11 +154,11 @@ items-begin done rest packets declared units = items_from-units units rest ∙ r
 -- the first packets of the whole text are those that are done, and the one that waits
 pub IsAt-items : (text done : List ℕ) (packets : List Placed) (s : SourceView) (at : IsAt text done packets true s)
     → items text ≡ after_packets (packets ++ record { offset = s.offset; packet = (at.waits refl).packet } ∷ [])
-        (items_from s.declared (length (done ++ s.block)) s.unread)
+    (items_from s.declared (length (done ++ s.block)) s.unread)
 IsAt-items text done packets s at =
     let decided = IsAt-decided text done packets s at in
     rw decided.1.whole (items-begin (done ++ s.block) s.unread (packets ++ record { offset = s.offset; packet = (at.waits refl).packet } ∷ [])
-        s.declared decided.1.units)
+    s.declared decided.1.units)
 
 -- why there was no unit: the text has a fault there; or it is cut short by a failed read or because
 -- memory runs out
@@ -191,5 +199,5 @@ IsAt-fault text done packets s s' fault at finds =
         let left : length s'.unread ≡ length finds.broken.rest - taken.count = ap length taken.rest ∙ length-drop taken.count finds.broken.rest in
         let long : length text ≡ length (done ++ finds.broken.passes.passed) + length finds.broken.rest =
         ap length (passed-whole text done packets s s' finds.broken.rest at finds.broken.passes) ∙ length-append (done ++ finds.broken.passes.passed)
-            finds.broken.rest in
+        finds.broken.rest in
         omega (arith, left, long, taken.there, taken.unfinished failed, finds.broken.counted)

@@ -1,11 +1,12 @@
 -- What a sink wrote is the text of the packets that were put to it.
-use Rattle.cap_io.proofs.Common.{◌≡◌, ◌⊎◌, inl, inr, ℕ, ◌+◌, ◌/◌, ◌^◌, nat_le, nat_lt, length, Bool, true, false, List, [], ◌∷◌, ◌++◌, Option, None, Some,
-    Result, Ok, Err, refl, sym, ◌∙◌, ap, ap₂, subst, append_assoc, append-nil, first_failing, AppendsOrStops, Captured, Fault, WriteFailed, NoMemory,
-    LinkTypesDiffer, TooLong, TimeOutOfRange, TooManyOutputInterfaces, Format, Pcap, NsecPcap, Pcapng, most_captured, most_block, SinkState, Empty, Started,
-    Broken, Interface, added_text, appended_packet, checks_in, file_start, file_start_in, has_link, has_room, interfaces_after_packet, kept_interfaces,
-    packets_text, refusal_of, state_after, state_after_packet, takes_memory, takes_memory_in, text, SinkView, sink_at, HasPut, HasPackets, AddsPacket, PutsNext,
-    WritesPacket, PutsPacket, PutWrites, IsPutAnswer, Finishes, FinishWrites, FinishesEmpty, link_or_ethernet, refusal_in, added_in, EachPutGoesByPackets,
-    PutExtendsText}
+use Rattle.cap_io.proofs.Common.{◌≡◌, ◌⊎◌, inl, inr, ℕ, ◌+◌, ◌/◌, ◌^◌, nat_le, nat_lt, length, Bool, true, false, List, [], ◌∷◌, ◌++◌, Option, None, Some}
+use Rattle.cap_io.proofs.Common.{Result, Ok, Err, refl, sym, ◌∙◌, ap, ap₂, subst, append_assoc, append-nil, first_failing, AppendsOrStops, Captured, Fault}
+use Rattle.cap_io.proofs.Common.{WriteFailed, NoMemory, LinkTypesDiffer, TooLong, TimeOutOfRange, TooManyOutputInterfaces, Format, Pcap, NsecPcap, Pcapng}
+use Rattle.cap_io.proofs.Common.{most_captured, most_block, SinkState, Empty, Started, Broken, Interface, added_text, appended_packet, checks_in, file_start}
+use Rattle.cap_io.proofs.Common.{file_start_in, has_link, has_room, interfaces_after_packet, kept_interfaces, packets_text, refusal_of, state_after}
+use Rattle.cap_io.proofs.Common.{state_after_packet, takes_memory, takes_memory_in, text, SinkView, sink_at, HasPut, HasPackets, AddsPacket, PutsNext}
+use Rattle.cap_io.proofs.Common.{WritesPacket, PutsPacket, PutWrites, IsPutAnswer, Finishes, FinishWrites, FinishesEmpty, link_or_ethernet, refusal_in}
+use Rattle.cap_io.proofs.Common.{added_in, EachPutGoesByPackets, PutExtendsText}
 use Rattle.cap_io.proofs.Interfaces.{kept-push}
 use Rattle.cap_pcapng.specs.Padding.{padded_length}
 use Rattle.cap_pcapng.specs.Encoding as pcapng
@@ -27,7 +28,7 @@ packets_text-append format earlier (x ∷ xs) ys =
     ap (λ (t : List ℕ). added_text format earlier x ++ t) (packets_text-append format (earlier ++ x ∷ []) xs ys)
     ∙ sym (append_assoc (added_text format earlier x) (packets_text format (earlier ++ x ∷ []) xs) (packets_text format ((earlier ++ x ∷ []) ++ xs) ys))
     ∙ ap (λ (b : List Captured). (added_text format earlier x ++ packets_text format (earlier ++ x ∷ []) xs) ++ packets_text format b ys)
-        (append_assoc earlier (x ∷ []) xs)
+    (append_assoc earlier (x ∷ []) xs)
 
 -- a packet adds its part after the text of those before it
 pub text-more : (format : Format) (ps : List Captured) (p : Captured) (xs : List Captured)
@@ -75,7 +76,7 @@ refused-failure NsecPcap ps p fault is e =
     record_by (has_link (state_after ps) p) (nat_le (length p.bytes) most_captured) (nat_lt (p.time / 1000000000) (2 ^ 32)) fault is e
 refused-failure Pcapng ps p fault is e =
     block_by (nat_le (32 + padded_length (length p.bytes) + length (pcapng.comment_text p.comment)) most_block)
-        (has_room (kept_interfaces Pcapng ps) p) fault is e
+    (has_room (kept_interfaces Pcapng ps) p) fault is e
 
 pub refused-write_failed : (format : Format) (ps : List Captured) (p : Captured) → refusal_of format ps p ≡ Some WriteFailed → ⊥
 refused-write_failed format ps p e = refused-failure format ps p WriteFailed (inl refl) e
@@ -201,7 +202,7 @@ finish-none before old first r new has finishes = let P : SinkState → Type 0 =
 
 pub finish-none-writes : (before : List ℕ) (old : SinkView) (first : Option ℕ) (r : Result (Unit {0}) Fault) (new : SinkView)
     → HasPackets before old [] → FinishWrites old.state old first r new → AppendsOrStops r old.written
-        (file_start old.format (link_or_ethernet first)) new.written
+    (file_start old.format (link_or_ethernet first)) new.written
 finish-none-writes before old first r new has writes = let P : SinkState → Type 0 = λ st. FinishWrites st old first r new in subst P has.put.state writes
 
 -- packets were put: all is written

@@ -1,14 +1,15 @@
 -- A unit and what a text begins with.
 use Rattle.std.proofs.Math.Bool.{or-false}
-use Rattle.cap_io.proofs.Common.{◌≡◌, ℕ, Bool, true, false, ◌&&◌, cond, is_some, ◌⊎◌, inl, inr, ◌<◌, ◌≤◌, List, [], ◌∷◌, ◌++◌, length, take, drop, Option, None,
-    Some, refl, sym, ◌∙◌, ap, arith, append-nil, length-append, length-take-le, take-append-drop, take_at, Captured, Fault, Head, Resolution, Microseconds,
-    Nanoseconds, form_in, header_checks, header_fault, header_in, magic, IsHeader, record_fault, record_size, record_packet, IsRecord, header_fault-append,
-    header_fault-none, header_in-append, IsRecord-front, IsRecord-take, ◌==◌, nat_le, le-leb, u32_in, Little, Big, all_met, frame_checks, is_section,
-    section_type, IsBlock, Section, block_size, packets_in, unit_fault, Declared, Nothing, PcapFile, PcapngFile, IsUnit, a_pcap_header, a_pcap_record,
-    a_first_block, a_block, file_after, is_pcapng, placed_at, AreUnits, no_unit, unit_then, Whole, front_of, subst, append_assoc, FitUnits, no_unit_fits,
-    unit_fits, held_length}
-use Rattle.cap_io.proofs.Fronts.{block_unless, front_of_file, header_unless, record_unless, front_of-header, front_of-record, front_of-pcapng,
-    front_of-following, front_of_block-whole}
+use Rattle.cap_io.proofs.Common.{◌≡◌, ℕ, Bool, true, false, ◌&&◌, cond, is_some, ◌⊎◌, inl, inr, ◌<◌, ◌≤◌, List, [], ◌∷◌, ◌++◌, length, take, drop, Option, None}
+use Rattle.cap_io.proofs.Common.{Some, refl, sym, ◌∙◌, ap, arith, append-nil, length-append, length-take-le, take-append-drop, take_at, Captured, Fault, Head}
+use Rattle.cap_io.proofs.Common.{Resolution, Microseconds, Nanoseconds, form_in, header_checks, header_fault, header_in, magic, IsHeader, record_fault}
+use Rattle.cap_io.proofs.Common.{record_size, record_packet, IsRecord, header_fault-append, header_fault-none, header_in-append, IsRecord-front, IsRecord-take}
+use Rattle.cap_io.proofs.Common.{◌==◌, nat_le, le-leb, u32_in, Little, Big, all_met, frame_checks, is_section, section_type, IsBlock, Section, block_size}
+use Rattle.cap_io.proofs.Common.{packets_in, unit_fault, Declared, Nothing, PcapFile, PcapngFile, IsUnit, a_pcap_header, a_pcap_record, a_first_block, a_block}
+use Rattle.cap_io.proofs.Common.{file_after, is_pcapng, placed_at, AreUnits, no_unit, unit_then, Whole, front_of, subst, append_assoc, FitUnits, no_unit_fits}
+use Rattle.cap_io.proofs.Common.{unit_fits, held_length}
+use Rattle.cap_io.proofs.Fronts.{block_unless, front_of_file, header_unless, record_unless, front_of-header, front_of-record, front_of-pcapng}
+use Rattle.cap_io.proofs.Fronts.{front_of-following, front_of_block-whole}
 use Rattle.std.proofs.Common.{eqb-true}
 use Rattle.cap_pcap.proofs.Records.{passes}
 use Rattle.cap_octet.specs.Number.{number_in}
@@ -35,10 +36,10 @@ and_second false b e = absurd (cc)
 pub header-other : (text : List ℕ) → is_pcapng text ≡ true → header_fault text ≡ None → ⊥
 header-other text is none =
     let little : u32_in Little text 0 ≡ section_type = eqb-true (u32_in Little text 0) section_type
-        (and_second (nat_le 4 (length text)) (is_section text) is) in
+    (and_second (nat_le 4 (length text)) (is_section text) is) in
     let some : is_some (form_in text) ≡ true = and_second (nat_le 4 (length text)) (is_some (form_in text)) (all_met (header_checks text) none).0 in
     let form = some_form (u32_in Big text 0 == magic Microseconds) (u32_in Big text 0 == magic Nanoseconds) (Big, Microseconds) (Big, Nanoseconds)
-        (rw little at some) in
+    (rw little at some) in
     let enough : 4 ≤ length text = omega (arith, header_fault-none text none) in
     elim form [
       | inl e ↦ not_swapped text Microseconds enough little (eqb-true (u32_in Big text 0) (magic Microseconds) e)
@@ -76,7 +77,7 @@ record-front head bytes more is =
 
 block-front : (first : Option ℕ) (before : Option Section) (bytes more : List ℕ) → IsBlock before bytes
     → block_unless (unit_fault before (bytes ++ more)) first before (bytes ++ more) ≡ Whole (length bytes) (packets_in before bytes)
-        (file_after first before bytes)
+    (file_after first before bytes)
 block-front first before bytes more is =
     let p = block.IsBlock-front before bytes more is in
     front_of_block-whole first before (bytes ++ more) p.0
@@ -119,8 +120,12 @@ header-is text size packets after None none e =
     let passes : header_fault (take 24 text) ≡ None = sym (header_fault-append (take 24 text) (drop 24 text) (omega arith)) ∙ ap header_fault joined ∙ none in
     let says : header_in text ≡ header_in (take 24 text) = ap header_in (sym joined) ∙ header_in-append (take 24 text) (drop 24 text) (omega arith) in
     let is : IsFront Nothing text 24 [] (PcapFile (header_in text)) =
-    record { unit = a_pcap_header (take 24 text) (header_in text) (record { passes = passes; whole = long; says = says }); there = enough; some =
-        omega arith } in
+    record {
+      unit = a_pcap_header (take 24 text) (header_in text) (record { passes = passes; whole = long; says = says });
+      there = enough;
+      some =
+          omega arith;
+    } in
     same_front Nothing text 24 size [] packets (PcapFile (header_in text)) after e is
 header-is text size packets after (Some fault) fails e = (cc)
 
@@ -162,7 +167,7 @@ front_of-is (PcapFile head) (b ∷ bytes) size packets after e = record-is head 
 front_of-is (PcapngFile first section) [] size packets after e = (cc)
 front_of-is (PcapngFile first section) (b ∷ bytes) size packets after e =
     block-is (PcapngFile first section) first (Some section) (b ∷ bytes) size packets after (unit_fault (Some section) (b ∷ bytes)) refl e
-        (λ u is. a_block first section u is)
+    (λ u is. a_block first section u is)
 
 -- one unit alone
 pub one_unit : {b c : Declared} {at : ℕ} {u : List ℕ} {qs : List Captured} → IsUnit b u qs c → AreUnits b at u (placed_at at qs) c

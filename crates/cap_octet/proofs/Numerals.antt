@@ -1,7 +1,7 @@
 -- What digits write: more digits make it no less, and few digits less than 2^64.
-use Rattle.cap_octet.proofs.Common.{◌≡◌, ℕ, ◌+◌, ◌*◌, ◌^◌, ◌<◌, ◌≤◌, Bool, true, false, nat_lt, ◌&&◌, ◌==◌, not, List, [], ◌∷◌, length, drop, get_or, Some,
-    None, refl, arith, if◌then◌else◌, mul-le-mul_left, pow-le-pow_right, lt-ltb, at_drop_more, AllDigits, digits_value_after, digits_value, are_digits,
-    decimal_value, in_u64}
+use Rattle.cap_octet.proofs.Common.{◌≡◌, ℕ, ◌+◌, ◌*◌, ◌^◌, ◌<◌, ◌≤◌, Bool, true, false, nat_lt, ◌&&◌, ◌==◌, not, List, [], ◌∷◌, length, drop, get_or, Some}
+use Rattle.cap_octet.proofs.Common.{None, refl, arith, if◌then◌else◌, mul-le-mul_left, pow-le-pow_right, lt-ltb, at_drop_more, AllDigits, digits_value_after}
+use Rattle.cap_octet.proofs.Common.{digits_value, are_digits, decimal_value, in_u64}
 use Rattle.std.proofs.lemmas.{Bool.Decides.nat_tests, Int.Digits.digits_value-lt}
 use Rattle.std.specs.Char.{digit_value}
 

@@ -89,9 +89,9 @@ IsRecord-came head bytes enough none size =
     let front : length (take 16 bytes) ≡ 16 = length-take-le 16 bytes enough in
     let joined : take 16 bytes ++ drop 16 bytes ≡ bytes = take-append-drop 16 bytes in
     let same : captured_len head bytes ≡ captured_len head (take 16 bytes) = ap (captured_len head) (sym joined) ∙ captured_len-append head
-        (take 16 bytes) (drop 16 bytes) (omega arith) in
+    (take 16 bytes) (drop 16 bytes) (omega arith) in
     let fields : field_checks head bytes ≡ field_checks head (take 16 bytes) = ap (field_checks head) (sym joined) ∙ field_checks-append head
-        (take 16 bytes) (drop 16 bytes) (omega arith) in
+    (take 16 bytes) (drop 16 bytes) (omega arith) in
     record {
       passes = record_fault-whole head bytes enough (ap first_failing fields ∙ none) (omega arith);
       whole = omega arith;
@@ -105,9 +105,9 @@ IsRecord-take head text none =
     let size : length front ≡ record_size head text = length-take-le (record_size head text) text p.whole in
     let joined : front ++ drop (record_size head text) text ≡ text = take-append-drop (record_size head text) text in
     let same : captured_len head text ≡ captured_len head front = ap (captured_len head) (sym joined) ∙ captured_len-append head front
-        (drop (record_size head text) text) (omega arith) in
+    (drop (record_size head text) text) (omega arith) in
     let fields : field_checks head text ≡ field_checks head front = ap (field_checks head) (sym joined) ∙ field_checks-append head front
-        (drop (record_size head text) text) (omega arith) in
+    (drop (record_size head text) text) (omega arith) in
     record {
       passes = record_fault-whole head front (omega arith) (ap first_failing (sym fields) ∙ p.fields) (omega arith);
       whole = omega arith;

@@ -1,10 +1,12 @@
 -- A block finds its place in the table of interfaces, and its packet its data.
-use Rattle.cap_pcapng.proofs.Common.{◌≡◌, ℕ, ◌+◌, ◌-◌, ◌^◌, ◌<◌, ◌≤◌, Bool, true, false, List, [], ◌∷◌, length, take, drop, Option, Some, None, Ok, refl, sym,
-    ap, ap₂, subst, ◌∙◌, arith, lit≤, leb-true, length-drop, inl, inr, if◌then◌else◌, nat_lt, is_some, unwrap_or, AllByRecursion, slice_get, option_map, ok_or,
-    drop-drop, drop-take, take-take, length-take-le, length-take, take_all, first_failing, Fault, TimeOutOfRange, TooManyInterfaces, Order, all_met, met_front,
-    Parts, InterfaceParts, EnhancedParts, SimpleParts, block_checks, block_fault, option_checks, body_checks, body_in, data_checks, parts_in, parts_in_body,
-    parts_of, simple_captured, comment_code, comment_in, Described, most_interfaces, first_value, fitting_options, padded_length, representable_time,
-    checks_among, packet_by, packet_of, section_by, Frame, Enters, IsBlockFault, held_packet, section_of, span_bytes}
+use Rattle.cap_pcapng.proofs.Common.{◌≡◌, ℕ, ◌+◌, ◌-◌, ◌^◌, ◌<◌, ◌≤◌, Bool, true, false, List, [], ◌∷◌, length, take, drop, Option, Some, None, Ok, refl, sym}
+use Rattle.cap_pcapng.proofs.Common.{ap, ap₂, subst, ◌∙◌, arith, lit≤, leb-true, length-drop, inl, inr, if◌then◌else◌, nat_lt, is_some, unwrap_or}
+use Rattle.cap_pcapng.proofs.Common.{AllByRecursion, slice_get, option_map, ok_or, drop-drop, drop-take, take-take, length-take-le, length-take, take_all}
+use Rattle.cap_pcapng.proofs.Common.{first_failing, Fault, TimeOutOfRange, TooManyInterfaces, Order, all_met, met_front, Parts, InterfaceParts, EnhancedParts}
+use Rattle.cap_pcapng.proofs.Common.{SimpleParts, block_checks, block_fault, option_checks, body_checks, body_in, data_checks, parts_in, parts_in_body}
+use Rattle.cap_pcapng.proofs.Common.{parts_of, simple_captured, comment_code, comment_in, Described, most_interfaces, first_value, fitting_options}
+use Rattle.cap_pcapng.proofs.Common.{padded_length, representable_time, checks_among, packet_by, packet_of, section_by, Frame, Enters, IsBlockFault}
+use Rattle.cap_pcapng.proofs.Common.{held_packet, section_of, span_bytes}
 use Rattle.cap_pcapng.proofs.{Faults.all_failing, Faults.all_of_options, OptionLists.options_in-none}
 use Rattle.cap_pcapng.proofs.WholeBlocks.{block_fails, block_passes}
 use Rattle.cap_pcapng.specs.declared.blocks.{Block.Block, EnhancedBlock.EnhancedBlock, SimpleBlock.SimpleBlock}
@@ -42,7 +44,7 @@ pub enhanced_found : (order : Order) (interfaces : List Described) (i : Describe
     → Ok time ≡ ok_or (representable_time ticks i.units i.offset) TimeOutOfRange → time < 2 ^ 63
     → options ≡ drop (padded_length captured) rest → optional ≡ length options
     → IsFound (checks_among interfaces (EnhancedParts number ticks captured orig order rest))
-        (PacketFound order interfaces (EnhancedParts number ticks captured orig order rest) 28 size rest
+    (PacketFound order interfaces (EnhancedParts number ticks captured orig order rest) 28 size rest
     (record {
       size = size;
       bytes = record { start = 28; length = captured };
@@ -54,7 +56,7 @@ pub enhanced_found : (order : Order) (interfaces : List Described) (i : Describe
 enhanced_found order interfaces i number ticks captured orig time size optional rest options known upper_bound exact small following optional_is =
     let room : padded_length captured ≤ length rest = leb-true (padded_length captured) (length rest) (all_met (data_checks captured rest) upper_bound).0 in
     let lies_there : take optional (drop (28 + length rest - optional - 28) rest) ≡ options = options_after (padded_length captured) optional rest
-        options room following optional_is in
+    options room following optional_is in
     let left : length options ≡ length rest - padded_length captured = ap length following ∙ length-drop (padded_length captured) rest in
     let fits : captured ≤ length rest = captured_fits captured rest upper_bound in
     let at : representable_time ticks i.units i.offset ≡ Some time = found_by (representable_time ticks i.units i.offset) TimeOutOfRange time (sym exact) in (
@@ -134,7 +136,7 @@ part_lies block rest most start at count is within =
     let whole : at + (most - at) ≡ most = omega arith in
     let same : drop at rest ≡ take (most - at) (drop (start + at) block) =
     ap (drop at) is ∙ ap (λ n. drop at (take n (drop start block))) (sym whole) ∙ drop-take at (most - at) (drop start block)
-        ∙ ap (take (most - at)) (drop-drop at start block) in
+    ∙ ap (take (most - at)) (drop-drop at start block) in
     sym (take-take count (most - at) (drop (start + at) block) (omega arith)) ∙ ap (take count) (sym same)
 
 -- ---- a block with a packet
@@ -142,7 +144,7 @@ part_lies block rest most start at count is within =
 packet_enters : (frame : Frame) (interfaces : List Described) (block rest : List ℕ) (parts : Parts) (skip : ℕ) (spans : PacketSpans)
     → length block ≡ frame.length → 12 ≤ frame.length
     → parts ≡ parts_in frame block → first_failing (block_checks frame block) ≡ None → rest ≡ drop skip (body_in frame block)
-        → skip ≤ length (body_in frame block)
+    → skip ≤ length (body_in frame block)
     → first_failing (checks_among interfaces parts) ≡ None → PacketFound frame.order interfaces parts (8 + skip) frame.length rest spans
     → section_by (Some (section_of frame.order interfaces)) frame.order parts ≡ section_of frame.order interfaces
     → Enters frame interfaces block (Some spans) interfaces
@@ -156,10 +158,10 @@ packet_enters frame interfaces block rest parts skip spans whole least is passes
     let further : ℕ = spans.options.start - spans.bytes.start in
     let bytes : span_bytes spans.bytes block ≡ take spans.bytes.length rest =
     ap (λ n. take spans.bytes.length (drop n block)) (omega (arith, f.from)) ∙ part_lies block rest most (8 + skip) 0 spans.bytes.length rest_is
-        (omega (arith, f.there)) in
+    (omega (arith, f.there)) in
     let options : span_bytes spans.options block ≡ take spans.options.length (drop further rest) =
     ap (λ n. take spans.options.length (drop n block)) (omega (arith, f.from, f.following)) ∙ part_lies block rest most (8 + skip) further
-        spans.options.length rest_is f.options in
+    spans.options.length rest_is f.options in
     record {
       passes = passes;
       among = ap (λ p. first_failing (checks_among interfaces p)) (sym is) ∙ among;
@@ -179,7 +181,7 @@ pub enhanced_room : (frame : Frame) (block : List ℕ) (b : EnhancedBlock) → l
 enhanced_room frame block b whole least is none =
     let passes = (block_passes frame block least (omega (arith, whole)) none).0 in
     let body = enhanced_body frame.block_type frame.order b.order (body_in frame block) b.rest.now b.interface b.ticks b.captured b.orig (sym is)
-        (body_passes frame block passes) in
+    (body_passes frame block passes) in
     let size : length (body_in frame block) ≡ frame.length - 12 = length-take-le (frame.length - 12) (drop 8 block) (omega (arith, length-drop 8 block)) in
     omega (arith, size, body.1, ap length body.0, length-drop 20 (body_in frame block), least)
 
@@ -187,21 +189,21 @@ pub enhanced_enters : (frame : Frame) (interfaces : List Described) (block : Lis
     → length block ≡ frame.length → 12 ≤ frame.length
     → parts_of (Block.Enhanced b) ≡ parts_in frame block → block_fault frame block ≡ None
     → IsFound (checks_among interfaces (parts_of (Block.Enhanced b))) (PacketFound b.order interfaces (parts_of (Block.Enhanced b)) 28 frame.length
-        b.rest.now spans)
+    b.rest.now spans)
     → Enters frame interfaces block (Some spans) interfaces
 enhanced_enters frame interfaces block b spans whole least is none found =
     let passes = (block_passes frame block least (omega (arith, whole)) none).0 in
     let body = enhanced_body frame.block_type frame.order b.order (body_in frame block) b.rest.now b.interface b.ticks b.captured b.orig (sym is)
-        (body_passes frame block passes) in
+    (body_passes frame block passes) in
     let P : Order → Type 0 = λ order. PacketFound order interfaces (parts_of (Block.Enhanced b)) 28 frame.length b.rest.now spans in
     packet_enters frame interfaces block b.rest.now (parts_of (Block.Enhanced b)) 20 spans whole least is passes body.0 body.1 found.0
-        (subst P body.2 found.1) refl
+    (subst P body.2 found.1) refl
 
 pub simple_enters : (frame : Frame) (interfaces : List Described) (block : List ℕ) (b : SimpleBlock) (spans : PacketSpans)
     → length block ≡ frame.length → 12 ≤ frame.length
     → parts_of (Block.Simple b) ≡ parts_in frame block → block_fault frame block ≡ None
     → IsFound (checks_among interfaces (parts_of (Block.Simple b))) ((order : Order) → PacketFound order interfaces (parts_of (Block.Simple b)) 12
-        frame.length b.rest.now spans)
+    frame.length b.rest.now spans)
     → Enters frame interfaces block (Some spans) interfaces
 simple_enters frame interfaces block b spans whole least is none found =
     let passes = (block_passes frame block least (omega (arith, whole)) none).0 in

@@ -1,8 +1,9 @@
 -- What holds of the faults of all checks holds of the first that fails; and which faults options
 -- have.
-use Rattle.cap_pcapng.proofs.Common.{◌≡◌, ℕ, zero, suc, Bool, true, false, List, [], ◌∷◌, ◌++◌, length, drop, Some, Result, Ok, Err, cond, subst, ◌==◌, is_some,
-    AllByRecursion, first_failing, Fault, BadOption, BadTimeResolution, Order, Parts, InterfaceParts, option_checks, checks_after, first_value, list_checks,
-    name_checks, name_code, offset_checks, offset_code, resolution_checks, resolution_code, CodedValue, ends_at, fits_at, option_at, option_size, padded_length}
+use Rattle.cap_pcapng.proofs.Common.{◌≡◌, ℕ, zero, suc, Bool, true, false, List, [], ◌∷◌, ◌++◌, length, drop, Some, Result, Ok, Err, cond, subst, ◌==◌, is_some}
+use Rattle.cap_pcapng.proofs.Common.{AllByRecursion, first_failing, Fault, BadOption, BadTimeResolution, Order, Parts, InterfaceParts, option_checks}
+use Rattle.cap_pcapng.proofs.Common.{checks_after, first_value, list_checks, name_checks, name_code, offset_checks, offset_code, resolution_checks}
+use Rattle.cap_pcapng.proofs.Common.{resolution_code, CodedValue, ends_at, fits_at, option_at, option_size, padded_length}
 use Rattle.cap_pcapng.specs.OptionList.{options_in, options_within}
 
 -- ---- the faults of some rows
@@ -54,7 +55,7 @@ items_within P bad zero order text = tt
 items_within P bad (suc most) order text =
     by_either (AllByRecursion (IsItemOf P)) (ends_at order text) [] _ tt
     (by_either (AllByRecursion (IsItemOf P)) (fits_at order text)
-        (Ok (option_at order text) ∷ options_within most order (drop (padded_length (option_size order text)) text)) _
+    (Ok (option_at order text) ∷ options_within most order (drop (padded_length (option_size order text)) text)) _
     (tt, items_within P bad most order (drop (padded_length (option_size order text)) text)) (bad, tt))
 
 items_in : (P : Fault → Type 0) → P BadOption → (order : Order) (text : List ℕ) → AllByRecursion (IsItemOf P) (options_in order text)

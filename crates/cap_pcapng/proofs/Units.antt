@@ -1,9 +1,9 @@
 -- What a text begins with is told by its first bytes alone: a block.
-use Rattle.cap_pcapng.proofs.Common.{◌≡◌, Parts, ℕ, ◌+◌, ◌-◌, ◌<◌, ◌≤◌, Bool, true, false, ◌&&◌, List, [], ◌∷◌, ◌++◌, length, take, drop, Option, Some, None,
-    refl, sym, ap, ap₂, ◌∙◌, arith, leb-true, le-leb, nat_le, ◌==◌, lt-leb, length-take-le, take-append-drop, take-append-le, drop-append-le, first_failing,
-    Fault, BadBlockLength, Truncated, Order, Little, Big, all_met, failing_front, met_front, block_checks, body_checks, body_in, parts_in, parts_in_body,
-    frame_checks, frame_in, length_in, order_in, IsBlock, Section, block_size, checks_among, frame_after, interfaces_before, order_before, parts_after,
-    unit_fault, Frame}
+use Rattle.cap_pcapng.proofs.Common.{◌≡◌, Parts, ℕ, ◌+◌, ◌-◌, ◌<◌, ◌≤◌, Bool, true, false, ◌&&◌, List, [], ◌∷◌, ◌++◌, length, take, drop, Option, Some, None}
+use Rattle.cap_pcapng.proofs.Common.{refl, sym, ap, ap₂, ◌∙◌, arith, leb-true, le-leb, nat_le, ◌==◌, lt-leb, length-take-le, take-append-drop, take-append-le}
+use Rattle.cap_pcapng.proofs.Common.{drop-append-le, first_failing, Fault, BadBlockLength, Truncated, Order, Little, Big, all_met, failing_front, met_front}
+use Rattle.cap_pcapng.proofs.Common.{block_checks, body_checks, body_in, parts_in, parts_in_body, frame_checks, frame_in, length_in, order_in, IsBlock, Section}
+use Rattle.cap_pcapng.proofs.Common.{block_size, checks_among, frame_after, interfaces_before, order_before, parts_after, unit_fault, Frame}
 use Rattle.std.proofs.lemmas.List.{length-append, length-drop}
 use Rattle.cap_octet.proofs.Numbers.{number_in-append}
 
@@ -53,7 +53,7 @@ after_frame before text =
 
 past_first : (before : Option Section) (text : List ℕ) → 12 ≤ length text
     → unit_fault before text ≡ first_failing (frame_checks (order_before before) text
-        ++ ((nat_le (block_size before text) (length text), Truncated) ∷ after_frame before text))
+    ++ ((nat_le (block_size before text) (length text), Truncated) ∷ after_frame before text))
 unfolding after_frame
 past_first before text enough = rw (le-leb 12 (length text) enough) refl
 

@@ -1,8 +1,8 @@
 -- A block is its pieces, joined.
-use Rattle.cap_pcapng.proofs.Common.{◌≡◌, ℕ, ◌+◌, ◌-◌, ◌<◌, ◌≤◌, List, [], ◌∷◌, ◌++◌, length, take, drop, replicate, refl, sym, ap, ap₂, ◌∙◌, arith,
-    append_assoc, length-append, ne_eqb, ◌/◌, ◌%◌, ◌^◌, ◌==◌, false, true, false≢true, append-nil, drop_at, length-replicate, replicate-append-replicate,
-    take_all, little_bytes, Captured, padded_length, comment_text, end_text, interface_body, interface_header, interface_text, name_text, packet_body,
-    packet_header, packet_block, padded_text, resolution_text}
+use Rattle.cap_pcapng.proofs.Common.{◌≡◌, ℕ, ◌+◌, ◌-◌, ◌<◌, ◌≤◌, List, [], ◌∷◌, ◌++◌, length, take, drop, replicate, refl, sym, ap, ap₂, ◌∙◌, arith}
+use Rattle.cap_pcapng.proofs.Common.{append_assoc, length-append, ne_eqb, ◌/◌, ◌%◌, ◌^◌, ◌==◌, false, true, false≢true, append-nil, drop_at, length-replicate}
+use Rattle.cap_pcapng.proofs.Common.{replicate-append-replicate, take_all, little_bytes, Captured, padded_length, comment_text, end_text, interface_body}
+use Rattle.cap_pcapng.proofs.Common.{interface_header, interface_text, name_text, packet_body, packet_header, packet_block, padded_text, resolution_text}
 
 -- the last of the zeros in front of more bytes, and these
 block_end : (k zeros n : ℕ) (more end : List ℕ) → zeros ≤ k → end ≡ replicate k 0 ++ more → n ≡ k + length more
@@ -20,7 +20,7 @@ block_end k zeros n more end upper_bound is size =
 pub length-packet_body : (number : ℕ) (p : Captured) → length (packet_body number p) ≡ 20 + padded_length (length p.bytes) + length (comment_text p.comment)
 length-packet_body number p =
     length-append (little_bytes 4 number ++ little_bytes 4 (p.time / 2 ^ 32) ++ little_bytes 4 (p.time % 2 ^ 32) ++ little_bytes 4 (length p.bytes)
-        ++ little_bytes 4 p.orig ++ padded_text p.bytes) (comment_text p.comment)
+    ++ little_bytes 4 p.orig ++ padded_text p.bytes) (comment_text p.comment)
     ∙ ap (λ (n : ℕ). n + length (comment_text p.comment)) (simp (length-append, length-replicate) (omega arith))
 
 -- a comment's bytes with the end of the options are whole fours
@@ -57,7 +57,7 @@ comment_after padding following bytes (b ∷ rest) option some upper_bound paddi
     let zeros : padding ≡ padded_length (length bytes) - length bytes = omega arith in
     let more : following ≡ padded_length (length comment) - length comment = omega arith in
     ap₂ (λ (o z : List ℕ). o ++ (comment ++ z)) (block_end 3 padding 7 head option (omega arith) option_is refl)
-        (sym (replicate-append-replicate following 4 0))
+    (sym (replicate-append-replicate following 4 0))
     ∙ commented (replicate padding 0) head comment (replicate following 0) end_text
     ∙ ap₂ (λ (n m : ℕ). replicate n 0 ++ (head ++ (comment ++ replicate m 0) ++ end_text)) zeros more
 
@@ -77,7 +77,7 @@ packet_joined number zeros p head option end upper_bound following head_is end_i
     let sizes = simp (length-append, length-replicate) at (ap length following) in
     let whole : size ≡ 12 + length (packet_body number p) = omega (arith, sizes, length-packet_body number p) in
     ap₂ (λ (h t : List ℕ). h ++ (p.bytes ++ (option ++ (p.comment ++ (t ++ []))))) head_is
-        (block_end 7 zeros 11 (little_bytes 4 size) end upper_bound end_is refl)
+    (block_end 7 zeros 11 (little_bytes 4 size) end upper_bound end_is refl)
     ∙ ap (λ (t : List ℕ). packet_header size number p ++ t)
     (pieces p.bytes option p.comment (replicate zeros 0) (little_bytes 4 size)
     ∙ ap (λ (t : List ℕ). p.bytes ++ t ++ little_bytes 4 size) following

@@ -1,7 +1,8 @@
 -- The index stays an index when a mark comes, when the oldest goes, and when all get new numbers.
-use Rattle.cap_process.proofs.Common.{◌≡◌, ◌≢◌, ℕ, zero, suc, ◌+◌, ◌-◌, ◌^◌, ◌<◌, ◌≤◌, inl, inr, List, [], ◌∷◌, ◌++◌, length, get_or, drop, refl, sym, ap, ◌∙◌,
-    arith, set, length-append, length-drop, eq-zero-or-pos, cases_order, get_or-append_right, get_or-set_other, get_or-set_same, length-set, take, Links, Mark,
-    IsHung, IsIndex, IsPutOnTop, IsSoundIndex, IsWay, Ends, Goes, Agrees, hash_of, mark_at, last}
+use Rattle.cap_process.proofs.Common.{◌≡◌, ◌≢◌, ℕ, zero, suc, ◌+◌, ◌-◌, ◌^◌, ◌<◌, ◌≤◌, inl, inr, List, [], ◌∷◌, ◌++◌, length, get_or, drop, refl, sym, ap, ◌∙◌}
+use Rattle.cap_process.proofs.Common.{arith, set, length-append, length-drop, eq-zero-or-pos, cases_order, get_or-append_right, get_or-set_other}
+use Rattle.cap_process.proofs.Common.{get_or-set_same, length-set, take, Links, Mark, IsHung, IsIndex, IsPutOnTop, IsSoundIndex, IsWay, Ends, Goes, Agrees}
+use Rattle.cap_process.proofs.Common.{hash_of, mark_at, last}
 use Rattle.std.proofs.lemmas.Grind.{common_steps, get_or-set_at}
 use Rattle.cap_process.proofs.Trees.{appended, dropped, raised, relinked}
 use Rattle.std.proofs.lemmas.Nat.{and_le_r}
@@ -102,8 +103,11 @@ index_placed mask ms ls new heads newest m a wide long counted small placed =
       trees = λ e. elim (cases_order (hash_of mask e) x) [
         | inl same ↦ (let there : get_or (set heads x (newest + 1)) x 0 ≡ newest + 1 = get_or-set_same heads x (newest + 1) 0 inside in
             let one : newest + 1 + 1 - (newest + 1) ≡ 1 = omega arith in
-            let agrees : Agrees mask 0 e (mark_at ms (length ms - 1)) = record { hash = ap (hash_of mask) a.there ∙ sym same; bits =
-                λ i lt. absurd (omega arith) } in
+            let agrees : Agrees mask 0 e (mark_at ms (length ms - 1)) = record {
+              hash = ap (hash_of mask) a.there ∙ sym same;
+              bits =
+                  λ i lt. absurd (omega arith);
+            } in
             rw (same, there, one)
             (Goes {limit = length ms} {d = 1} (omega arith) (omega arith) agrees (λ lacks j low high. absurd (omega arith)) (placed.below e agrees)))
         | inr apart ↦ (let other : hash_of mask e ≢ x = λ same. elim apart [ inl lt ↦ omega arith | inr gt ↦ omega arith ] in

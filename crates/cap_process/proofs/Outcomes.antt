@@ -1,8 +1,9 @@
 -- How far a job comes over events that came, and over what comes next.
-use Rattle.cap_process.proofs.Common.{◌≡◌, List, [], ◌∷◌, ◌++◌, Option, None, Some, refl, ◌∙◌, ap, Event, SequenceEnd, Sequence, with_front, Policy, Form,
-    JobProgress, no_progress, unless_ended, apply_event, next_progress, apply_events, end_with, end_unless_ended, final_progress, ℕ, ◌+◌, sym, subst,
-    append_assoc, append-nil, Captured, Fault, Placed, Kind, Report, Packet, InputEnd, Complete, Edit, Filter, KeepAll, Count, SelectorState, Verdict, Pass,
-    PassLast, Skip, Refuse, judge, decide, unless_refused, apply_verdict, end_input, form_refuses}
+use Rattle.cap_process.proofs.Common.{◌≡◌, List, [], ◌∷◌, ◌++◌, Option, None, Some, refl, ◌∙◌, ap, Event, SequenceEnd, Sequence, with_front, Policy, Form}
+use Rattle.cap_process.proofs.Common.{JobProgress, no_progress, unless_ended, apply_event, next_progress, apply_events, end_with, end_unless_ended}
+use Rattle.cap_process.proofs.Common.{final_progress, ℕ, ◌+◌, sym, subst, append_assoc, append-nil, Captured, Fault, Placed, Kind, Report, Packet, InputEnd}
+use Rattle.cap_process.proofs.Common.{Complete, Edit, Filter, KeepAll, Count, SelectorState, Verdict, Pass, PassLast, Skip, Refuse, judge, decide}
+use Rattle.cap_process.proofs.Common.{unless_refused, apply_verdict, end_input, form_refuses}
 
 pub progress-append : (a : Policy) (f : Form) (w : JobProgress) (xs ys : List Event) → apply_events a f w (xs ++ ys) ≡ apply_events a f
     (apply_events a f w xs) ys
@@ -23,7 +24,7 @@ course-stop a f sequence more es e w w' c is far step end =
     ap (final_progress a f) is
     ∙ ap (λ (v : JobProgress). end_unless_ended v more.end)
     (progress-append a f no_progress es (e ∷ more.events) ∙ ap (λ (v : JobProgress). apply_events a f (next_progress a f v e) more.events) far
-        ∙ ap (λ (v : JobProgress). apply_events a f v more.events) step ∙ progress-ended a f w' more.events c end)
+    ∙ ap (λ (v : JobProgress). apply_events a f v more.events) step ∙ progress-ended a f w' more.events c end)
     ∙ ap (λ (o : Option SequenceEnd). unless_ended o w' (end_with w' more.end)) end
 
 -- nothing more comes
@@ -62,8 +63,13 @@ verdict-grows form w i x (Refuse fault) state = grows-none w (apply_verdict form
 
 closed-grows : (policy : Policy) (w : JobProgress) (i : ℕ) (kind : Option Kind) (size : ℕ) → Grows w (end_input policy w i kind size)
 closed-grows Count w i kind size =
-    record { packets = []; packets_is = sym (append-nil w.packets); reports = record { input = i; kind = kind; size = size; tally = w.state.tally } ∷
-        []; reports_is = refl }
+    record {
+      packets = [];
+      packets_is = sym (append-nil w.packets);
+      reports = record { input = i; kind = kind; size = size; tally = w.state.tally } ∷
+          [];
+      reports_is = refl;
+    }
 closed-grows _ w i kind size = grows-none w w refl refl
 
 goes-grows : (policy : Policy) (form : Form) (w : JobProgress) (e : Event) → Grows w (apply_event policy form w e)
@@ -87,7 +93,7 @@ progress-grows : (policy : Policy) (form : Form) (w : JobProgress) (es : List Ev
 progress-grows policy form w [] = grows-none w w refl refl
 progress-grows policy form w (e ∷ es) =
     grows-on w (next_progress policy form w e) (apply_events policy form (next_progress policy form w e) es)
-        (unless-grows w.end w (apply_event policy form w e) (goes-grows policy form w e)) (progress-grows policy form (next_progress policy form w e) es)
+    (unless-grows w.end w (apply_event policy form w e) (goes-grows policy form w e)) (progress-grows policy form (next_progress policy form w e) es)
 
 -- how far a job comes after events that come first
 pub course-grows : (policy : Policy) (form : Form) (sequence more : Sequence) (es : List Event) (w : JobProgress) → sequence ≡ with_front es more
@@ -97,7 +103,7 @@ course-grows policy form sequence more es w is far =
     let all : final_progress policy form sequence ≡ end_unless_ended last more.end =
     ap (final_progress policy form) is
     ∙ ap (λ (v : JobProgress). end_unless_ended v more.end) (progress-append policy form no_progress es more.events
-        ∙ ap (λ (v : JobProgress). apply_events policy form v more.events) far) in
+    ∙ ap (λ (v : JobProgress). apply_events policy form v more.events) far) in
     let G : JobProgress → Type 0 = λ v. Grows w v in
     subst G (sym all) (grows-on w last (end_unless_ended last more.end) (progress-grows policy form w more.events)
-        (unless-grows last.end last (end_with last more.end) (grows-none last (end_with last more.end) refl refl)))
+    (unless-grows last.end last (end_with last more.end) (grows-none last (end_with last more.end) refl refl)))

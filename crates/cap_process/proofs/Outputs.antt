@@ -1,8 +1,9 @@
 -- Where a job writes, from one call to the next.
-use Rattle.cap_process.proofs.Common.{◌≡◌, inl, inr, ℕ, ◌+◌, Bool, List, [], ◌∷◌, ◌++◌, length, Option, None, Some, Ok, Err, refl, sym, ◌∙◌, ap, add-zero, true,
-    append_assoc, append-nil, Stops, Captured, Fault, NoMemory, WriteFailed, Format, Options, takes_memory, added_text, refusal_of, Report, Complete,
-    SelectorState, Form, AsCapture, AsReports, AsLines, closing_text, lines_text, final_text, form_refuses, output_text, Target, Capture, Text, Lines,
-    HasWrittenTo, form_to, written_to, failures_to, report_text, reports_text}
+use Rattle.cap_process.proofs.Common.{◌≡◌, inl, inr, ℕ, ◌+◌, Bool, List, [], ◌∷◌, ◌++◌, length, Option, None, Some, Ok, Err, refl, sym, ◌∙◌, ap, add-zero, true}
+use Rattle.cap_process.proofs.Common.{append_assoc, append-nil, Stops, Captured, Fault, NoMemory, WriteFailed, Format, Options, takes_memory, added_text}
+use Rattle.cap_process.proofs.Common.{refusal_of, Report, Complete, SelectorState, Form, AsCapture, AsReports, AsLines, closing_text, lines_text, final_text}
+use Rattle.cap_process.proofs.Common.{form_refuses, output_text, Target, Capture, Text, Lines, HasWrittenTo, form_to, written_to, failures_to, report_text}
+use Rattle.cap_process.proofs.Common.{reports_text}
 use Rattle.std.proofs.lemmas.Grind.{flat_map-append}
 use Rattle.cap_print.specs.Rendering.{printed_text}
 use Rattle.cap_io.specs.Sink as sinks
@@ -118,16 +119,23 @@ unput before ps q old new NoMemory has puts writes =
     let next = put-next ps old q (Err NoMemory) new has.put puts in
     let answer = put-answer ps old q (Err NoMemory) new has.put next in
     let bytes = put-writes ps old q (Err NoMemory) new has.put writes in
-    let none = not-refused old.format ps q NoMemory (refused-no_memory old.format ps q) answer in
-    (none, memory-taken (refusal_of old.format ps q) (takes_memory old.format ps q) none answer, stayed-written (refusal_of old.format ps q)
-        (added_text old.format ps q) old.written new.written none bytes, next.adds.failures ∙ add-zero old.failures)
+    let none = not-refused old.format ps q NoMemory (refused-no_memory old.format ps q) answer in (
+      none,
+      memory-taken (refusal_of old.format ps q) (takes_memory old.format ps q) none answer,
+      stayed-written (refusal_of old.format ps q)
+          (added_text old.format ps q) old.written new.written none bytes,
+      next.adds.failures ∙ add-zero old.failures,
+    )
 unput before ps q old new fault has puts writes =
     let next = put-next ps old q (Err fault) new has.put puts in
     let answer = put-answer ps old q (Err fault) new has.put next in
     let bytes = put-writes ps old q (Err fault) new has.put writes in
-    let is = refusal-is (refusal_of old.format ps q) (takes_memory old.format ps q) fault answer (λ same. (cc)) (λ same. (cc)) in
-    (is, stays-written (refusal_of old.format ps q) fault (added_text old.format ps q) old.written new.written is bytes, next.adds.failures
-        ∙ add-zero old.failures)
+    let is = refusal-is (refusal_of old.format ps q) (takes_memory old.format ps q) fault answer (λ same. (cc)) (λ same. (cc)) in (
+      is,
+      stays-written (refusal_of old.format ps q) fault (added_text old.format ps q) old.written new.written is bytes,
+      next.adds.failures
+          ∙ add-zero old.failures,
+    )
 
 -- ---- the clean end
 
@@ -143,7 +151,7 @@ closing-some before names form t link ps rs n state has same some =
     drained-text before names t ps rs has
     ∙ ap (λ (f : Form). before ++ output_text f ps rs) same
     ∙ ap (λ (l : List ℕ). before ++ l) (sym (append-nil (output_text form ps rs)) ∙ ap (λ (l : List ℕ). output_text form ps rs ++ l)
-        (sym (closing-none form link ps some)))
+    (sym (closing-none form link ps some)))
 
 -- ---- a report
 

@@ -1,9 +1,10 @@
 -- What a selector returns.
-use Rattle.cap_process.proofs.Common.{◌≡◌, ℕ, ◌+◌, ◌^◌, ◌<◌, ◌≤◌, nat_le, Bool, true, false, length, if◌then◌else◌, List, Option, None, Some, Ok, refl, sym,
-    ◌∙◌, ap, arith, nat_tests, Captured, TooManyPackets, WindowView, Mark, Policy, Edit, Filter, KeepAll, Count, SelectorState, Judgement, Pass, PassLast, Skip,
-    is_too_many, judge, judge_by, refuses, is_last, Tally, tally_with, is_count, spent_by, spent_by_verdict, marks_in, places, state_of, PolicyState,
-    IsWindowFor, ReturnsVerdict, count_limit, TakesTally, verdict_if, verdict_of, IsVerdict, ◌↔◌, ◌-◌, not, IsTrue, [], ◌∷◌, ◌++◌, Contains, has_same, last,
-    mark_of, window, unique, skip_judgement, passes}
+use Rattle.cap_process.proofs.Common.{◌≡◌, ℕ, ◌+◌, ◌^◌, ◌<◌, ◌≤◌, nat_le, Bool, true, false, length, if◌then◌else◌, List, Option, None, Some, Ok, refl, sym}
+use Rattle.cap_process.proofs.Common.{◌∙◌, ap, arith, nat_tests, Captured, TooManyPackets, WindowView, Mark, Policy, Edit, Filter, KeepAll, Count}
+use Rattle.cap_process.proofs.Common.{SelectorState, Judgement, Pass, PassLast, Skip, is_too_many, judge, judge_by, refuses, is_last, Tally, tally_with}
+use Rattle.cap_process.proofs.Common.{is_count, spent_by, spent_by_verdict, marks_in, places, state_of, PolicyState, IsWindowFor, ReturnsVerdict, count_limit}
+use Rattle.cap_process.proofs.Common.{TakesTally, verdict_if, verdict_of, IsVerdict, ◌↔◌, ◌-◌, not, IsTrue, [], ◌∷◌, ◌++◌, Contains, has_same, last, mark_of}
+use Rattle.cap_process.proofs.Common.{window, unique, skip_judgement, passes}
 use Rattle.cap_process.proofs.Marks.{answers-has_same}
 use Rattle.flt_bpf.specs.Content.{Content}
 use Rattle.cap_process.specs.declared.selector.Verdict as code
@@ -64,7 +65,7 @@ tells-some count j state p v keeps is =
 pub tells-passed : (policy policy' : Policy) (state after : SelectorState) (number : ℕ) (p q : Captured) (v : code.Verdict) → is_count policy ≡ false
     → number < 2 ^ 63
     → ReturnsVerdict (count_limit policy) (judge_by policy state number p) (Ok true) q after → policy' ≡ policy → verdict_of v q ≡ verdict_if q
-        (is_last (count_limit policy') (after.passed + 1))
+    (is_last (count_limit policy') (after.passed + 1))
     → IsVerdict (judge policy state number p) (Ok v) q (state_of (after.passed + 1) after.window after.tally)
 tells-passed policy policy' state after number p q v judges less keeps same is =
     rw (upper_bound policy state number p judges less) (tells-some (count_limit policy) (judge_by policy state number p) after q v keeps
@@ -95,12 +96,12 @@ pub unique-seen : (n : Option ℕ) (w new : WindowView) (passed : ℕ) (tally : 
     → IsTrue seen ↔ Contains w.marks (mark_of p.bytes)
     → new ≡ window (last w.capacity (w.marks ++ mark_of p.bytes ∷ [])) w.capacity
     → unique n (state_of passed w.marks tally) p ≡ (if seen then skip_judgement (state_of passed new.marks tally) else passes
-        (state_of passed new.marks tally) p)
+    (state_of passed new.marks tally) p)
 unique-seen None w new passed tally p seen is answers new_is = absurd is
 unique-seen (Some n) w new passed tally p seen is answers new_is =
     let same : seen ≡ has_same w.marks (mark_of p.bytes) = answers-has_same w.marks (mark_of p.bytes) seen answers in
     let marks : new.marks ≡ last (n - 1) (w.marks ++ mark_of p.bytes ∷ []) = ap (λ (v : WindowView). v.marks) new_is
-        ∙ ap (λ (k : ℕ). last k (w.marks ++ mark_of p.bytes ∷ [])) is.0 in
+    ∙ ap (λ (k : ℕ). last k (w.marks ++ mark_of p.bytes ∷ [])) is.0 in
     rw (marks, same) refl
 
 -- a packet that was not seen is kept

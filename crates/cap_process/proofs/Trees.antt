@@ -1,7 +1,8 @@
 -- The ways of searches, as marks and links change.
-use Rattle.cap_process.proofs.Common.{◌≡◌, ◌≢◌, ℕ, zero, suc, ◌+◌, ◌-◌, ◌^◌, ◌<◌, ◌≤◌, ◌⊎◌, inl, inr, Bool, true, false, not, List, [], ◌∷◌, ◌++◌, length, refl,
-    sym, ap, ◌∙◌, arith, min, set, cases_order, get_or_append_left, length-append, get_or-set_other, get_or-set_same, IsWay, Ends, Goes, Agrees, Lacks, IsHung,
-    IsOnTop, IsPutOnTop, IsSameOutside, mark_bit, link_by_bit, links_at, mark_at, Links, Mark}
+use Rattle.cap_process.proofs.Common.{◌≡◌, ◌≢◌, ℕ, zero, suc, ◌+◌, ◌-◌, ◌^◌, ◌<◌, ◌≤◌, ◌⊎◌, inl, inr, Bool, true, false, not, List, [], ◌∷◌, ◌++◌, length, refl}
+use Rattle.cap_process.proofs.Common.{sym, ap, ◌∙◌, arith, min, set, cases_order, get_or_append_left, length-append, get_or-set_other, get_or-set_same, IsWay}
+use Rattle.cap_process.proofs.Common.{Ends, Goes, Agrees, Lacks, IsHung, IsOnTop, IsPutOnTop, IsSameOutside, mark_bit, link_by_bit, links_at, mark_at, Links}
+use Rattle.cap_process.proofs.Common.{Mark}
 
 below_or : (a b : ℕ) → (a < b) ⊎ (b ≤ a)
 below_or a b = elim (cases_order a b) [ inl e ↦ inr (omega arith) | inr (inl lt) ↦ inl lt | inr (inr gt) ↦ inr (omega arith) ]
@@ -134,7 +135,7 @@ module _ {mask : ℕ} {ms : List Mark} {start now : List Links} {newest depth pl
   placing_end past within zeros ones =
       p.finish (set now place l) outside_set
       (λ e agrees. Ends (rw (set_same now place l within) (elim (mark_bit e depth) as (λ bit. place < link_by_bit l bit)
-          [ true ↦ omega arith | false ↦ omega arith ])) (ended (p.tree e agrees) past))
+      [ true ↦ omega arith | false ↦ omega arith ])) (ended (p.tree e agrees) past))
 
   -- the tree of one bit below the top becomes one below the mark that takes its place, if the top is none of it
   moved : {e : Mark} (done : List Links) (d' : ℕ) → HasTop mask ms now e depth place (place - d) → d ≤ place → place + 1 < 2 ^ 32
@@ -144,12 +145,12 @@ module _ {mask : ℕ} {ms : List Mark} {start now : List Links} {newest depth pl
   moved done d' t within upper_bound links other reach =
       let step = step_at p in
       raised place d' (relinked done t.below links) (λ lacks. past_top t (other lacks) lacks) (λ near. (omega arith, omega arith, omega arith))
-          (λ far. omega arith)
+      (λ far. omega arith)
 
   -- the mark that is taken the place of is equal
   pub placing_equal : d ≤ place → place < length now → place < length ms → place + 1 < 2 ^ 32 → mark_at ms place ≡ mark_at ms (place - d)
       → ((bit : Bool) → link_by_bit l bit ≡ min (link_by_bit (links_at now (place - d)) bit + d) (2 ^ 32 - 1)) → IsPutOnTop mask ms start
-          (set now place l) newest
+      (set now place l) newest
   placing_equal within inside there upper_bound equal reach =
       let step = step_at p in
       p.finish (set now place l) outside_set

@@ -1,14 +1,17 @@
 -- The job of a command of which nothing is done.
 use Rattle.cap_tools.proofs.Coming.{come-first}
-use Rattle.cap_tools.proofs.Common.{◌≡◌, inl, inr, ℕ, ◌+◌, ◌≤◌, Bool, true, not, List, [], map, length, None, Option, Result, Ok, Err, refl, sym, ap, arith,
-    subst, ◌∙◌, nat_eq, nat_le, ◌&&◌, add-zero, DeviceFault, Stops, listing, Target, Capture, Text, Lines, target_at, written_to, failures_to, failures_by,
-    Reports, is_text, written_by, MessagesView, is_proper, is_proper_edit, is_proper_print, most_inputs, IsCompiled, IsTold, Insn, Link, Turn, InTurn, Count,
-    KeepAll, Call, JobView, JobEnd, first_job, state_at, end_message, end_of_write, end_status, fresh_inputs, nothing_done, order_of, InputsView, EndsList,
-    ending, Assignment, Preparing, assignment, SelectorView, initial_state, CompileGives, DecidedBy, PreparesBy, PreparesOnly, RefusesStart, Refusal,
-    refusal_status, IsReadyIf, IsSound, Some, spent_in, with_preparing, suc, ◌*◌, ◌^◌, ◌<◌, ◌∷◌, drop, Writing, HasWrittenTo, append-nil, IsAt-start,
-    HasPackets-none, InputItems, sequence_in_turn, sequence_by_time, PacketOrder, ByTime, Policy, FreshInput, fresh_view, Future, AreInputsAfter, KnowGreatest,
-    AreFutures, AreSettled, ended_count, inputs_with, inputs_left, input_items, steps_left_in, steps_left, most_steps, reads_of, most_turns, steps_owed_in_all,
-    owed_in, PacketsDecided, false, ap₂, All, is_some, option_map, Content, empty, truth, Rule, by_reading, by_answer, AreNew, preparing_of, MakesStep}
+use Rattle.cap_tools.proofs.Common.{◌≡◌, inl, inr, ℕ, ◌+◌, ◌≤◌, Bool, true, not, List, [], map, length, None, Option, Result, Ok, Err, refl, sym, ap, arith}
+use Rattle.cap_tools.proofs.Common.{subst, ◌∙◌, nat_eq, nat_le, ◌&&◌, add-zero, DeviceFault, Stops, listing, Target, Capture, Text, Lines, target_at}
+use Rattle.cap_tools.proofs.Common.{written_to, failures_to, failures_by, Reports, is_text, written_by, MessagesView, is_proper, is_proper_edit}
+use Rattle.cap_tools.proofs.Common.{is_proper_print, most_inputs, IsCompiled, IsTold, Insn, Link, Turn, InTurn, Count, KeepAll, Call, JobView, JobEnd}
+use Rattle.cap_tools.proofs.Common.{first_job, state_at, end_message, end_of_write, end_status, fresh_inputs, nothing_done, order_of, InputsView, EndsList}
+use Rattle.cap_tools.proofs.Common.{ending, Assignment, Preparing, assignment, SelectorView, initial_state, CompileGives, DecidedBy, PreparesBy, PreparesOnly}
+use Rattle.cap_tools.proofs.Common.{RefusesStart, Refusal, refusal_status, IsReadyIf, IsSound, Some, spent_in, with_preparing, suc, ◌*◌, ◌^◌, ◌<◌, ◌∷◌, drop}
+use Rattle.cap_tools.proofs.Common.{Writing, HasWrittenTo, append-nil, IsAt-start, HasPackets-none, InputItems, sequence_in_turn, sequence_by_time, PacketOrder}
+use Rattle.cap_tools.proofs.Common.{ByTime, Policy, FreshInput, fresh_view, Future, AreInputsAfter, KnowGreatest, AreFutures, AreSettled, ended_count}
+use Rattle.cap_tools.proofs.Common.{inputs_with, inputs_left, input_items, steps_left_in, steps_left, most_steps, reads_of, most_turns, steps_owed_in_all}
+use Rattle.cap_tools.proofs.Common.{owed_in, PacketsDecided, false, ap₂, All, is_some, option_map, Content, empty, truth, Rule, by_reading, by_answer, AreNew}
+use Rattle.cap_tools.proofs.Common.{preparing_of, MakesStep}
 use Rattle.cap_tools.proofs.{Fetches.mk, Programs.new-for}
 use Rattle.std.proofs.lemmas.Bool.{and_parts, eqb-true, leb-true}
 use Rattle.cap_octet.specs.Device.{AppendsOrStops, failures_of}
@@ -100,14 +103,18 @@ first-step inputs_tell output_tells tells p old r new fresh prepares keeps only 
 pub refused-step : (inputs_tell output_tells tells : Bool) (p : Preparing) (refusal : Refusal) (old : JobView) (r : Turn) (new : JobView)
     → IsFresh old → r ≡ Turn.Done (refusal_status refusal) → RefusesStart refusal tells old (refusal_status refusal) new
     → (RefusesStart refusal tells (with_preparing (Some p) old) (refusal_status refusal) new → PreparesBy (Some p) output_tells tells
-        (with_preparing (Some p) old) (Turn.Done (refusal_status refusal)) new) → KeepsFirst old r new → MakesStep inputs_tell output_tells tells
-        (with_preparing (Some p) old) r new
+    (with_preparing (Some p) old) (Turn.Done (refusal_status refusal)) new) → KeepsFirst old r new → MakesStep inputs_tell output_tells tells
+    (with_preparing (Some p) old) r new
 refused-step inputs_tell output_tells tells p refusal old r new fresh is refuses gives keeps =
     let P : Turn → Type 0 = λ t. PreparesBy (Some p) output_tells tells (with_preparing (Some p) old) t new in
     first-step inputs_tell output_tells tells p old r new fresh
-        (subst P (sym is) (gives (record { status_is = refl; exact = refuses.exact; new_is = refuses.new_is }))) keeps
-    (record { inputs = ap (λ (j : JobView). j.state.inputs) refuses.new_is; decided = ap (λ (j : JobView). j.state.decided) refuses.new_is; unspent =
-        ap (λ (j : JobView). spent_in j.programs) refuses.new_is })
+    (subst P (sym is) (gives (record { status_is = refl; exact = refuses.exact; new_is = refuses.new_is }))) keeps
+    (record {
+      inputs = ap (λ (j : JobView). j.state.inputs) refuses.new_is;
+      decided = ap (λ (j : JobView). j.state.decided) refuses.new_is;
+      unspent =
+          ap (λ (j : JobView). spent_in j.programs) refuses.new_is;
+    })
 
 pub lists-some : (tells : Bool) (words : List ℕ) (link : Link) (prog : List Insn) (p : Option Preparing) (old new : JobView) (r : Turn)
     → IsCompiled words link prog → EndsList prog tells old r new → CompileGives words link tells (with_preparing p old) r new
@@ -126,8 +133,14 @@ pub made-no-step : (old now : JobView) (p : Preparing) → old ≡ now → IsSou
 made-no-step old now p is sound some = (let R : Option Preparing → Type 0 = λ o. IsReadyIf o old in subst R some sound.6)
 
 pub taken-fresh : (old now : JobView) (p : Option Preparing) → old ≡ now → IsFresh old → IsFresh (with_preparing p old)
-taken-fresh old now p is fresh = record { turns = fresh.turns; done = fresh.done; programs = fresh.programs; left = fresh.left; upper_bound =
-    fresh.upper_bound }
+taken-fresh old now p is fresh = record {
+  turns = fresh.turns;
+  done = fresh.done;
+  programs = fresh.programs;
+  left = fresh.left;
+  upper_bound =
+      fresh.upper_bound;
+}
 
 -- the job before it was taken out
 pub untaken : (old now : JobView) (p : Option Preparing) → old ≡ now → old.preparing ≡ p → with_preparing p old ≡ now
@@ -170,24 +183,48 @@ first-ready (Command.Edit edit) call upper_bound = tt
 first-ready (Command.Merge merge) call upper_bound = tt
 first-ready Command.Infos call upper_bound = tt
 first-ready (Command.Print print) call upper_bound =
-    record { turns = refl; done = refl; programs = refl; left = first-less (assignment (Command.Print print)).order call.inputs upper_bound;
-    upper_bound = first-few (assignment (Command.Print print)).order call.inputs }
-first-ready (Command.Compile compile) call upper_bound =
-    (record { turns = refl; done = refl; programs = refl; left = first-less (assignment (Command.Compile compile)).order call.inputs upper_bound;
-        upper_bound = first-few (assignment (Command.Compile compile)).order call.inputs }, refl)
+    record {
+      turns = refl;
+      done = refl;
+      programs = refl;
+      left = first-less (assignment (Command.Print print)).order call.inputs upper_bound;
+      upper_bound = first-few (assignment (Command.Print print)).order call.inputs;
+    }
+first-ready (Command.Compile compile) call upper_bound = (
+  record {
+    turns = refl;
+    done = refl;
+    programs = refl;
+    left = first-less (assignment (Command.Compile compile)).order call.inputs upper_bound;
+    upper_bound = first-few (assignment (Command.Compile compile)).order call.inputs;
+  },
+  refl,
+)
 
 -- nothing is decided of the inputs
 pub first-decided : {Z : Type 0} (c : Command Z) (call : Call)
     → DecidedBy (assignment c).preparing (map nothing_done call.inputs) call.output.written (first_job (assignment c) call)
-first-decided (Command.Edit edit) call = record { packets = nothing-decided (assignment (Command.Edit edit)).order call.inputs call.output.written
-    (assignment (Command.Edit edit)).policy call.names (assignment (Command.Edit edit)).writing call.output.failures call.room; programs = refl }
-first-decided (Command.Merge merge) call = record { packets = nothing-decided (order_of (not merge.append)) call.inputs call.output.written KeepAll
-    call.names (Writing.Capture merge.format) call.output.failures call.room; programs = refl }
-first-decided Command.Infos call = record { packets = nothing-decided InTurn call.inputs call.output.written Count call.names Writing.Text
-    call.output.failures call.room; programs = refl }
-first-decided (Command.Print print) call = λ rule is programs made. record { packets = nothing-decided (assignment (Command.Print print)).order
-    call.inputs call.output.written _ call.names (assignment (Command.Print print)).writing call.output.failures call.room; programs =
-    new-for rule programs made }
+first-decided (Command.Edit edit) call = record {
+  packets = nothing-decided (assignment (Command.Edit edit)).order call.inputs call.output.written
+      (assignment (Command.Edit edit)).policy call.names (assignment (Command.Edit edit)).writing call.output.failures call.room;
+  programs = refl;
+}
+first-decided (Command.Merge merge) call = record {
+  packets = nothing-decided (order_of (not merge.append)) call.inputs call.output.written KeepAll
+      call.names (Writing.Capture merge.format) call.output.failures call.room;
+  programs = refl;
+}
+first-decided Command.Infos call = record {
+  packets = nothing-decided InTurn call.inputs call.output.written Count call.names Writing.Text
+      call.output.failures call.room;
+  programs = refl;
+}
+first-decided (Command.Print print) call = λ rule is programs made. record {
+  packets = nothing-decided (assignment (Command.Print print)).order
+      call.inputs call.output.written _ call.names (assignment (Command.Print print)).writing call.output.failures call.room;
+  programs =
+      new-for rule programs made;
+}
 first-decided (Command.Compile compile) call = tt
 
 -- ---- a listing is written
@@ -205,7 +242,7 @@ pub listed : (insns : List Insn) (tells : Bool) (old new : JobView) (output : Ta
     true → Reports (listing insns) old.state.output r output
     → new ≡ ending (end_of_write r) new.err (record old { state = record old.state { output = output } })
     → IsTold tells old.err (end_message old.state.names old.state.inputs.cursors (end_of_write r)) new.err
-        → (end_of_write r ≡ JobEnd.Complete → new.err ≡ old.err) → EndsList insns tells old (Turn.Done (end_status (end_of_write r))) new
+    → (end_of_write r ≡ JobEnd.Complete → new.err ≡ old.err) → EndsList insns tells old (Turn.Done (end_status (end_of_write r))) new
 listed insns tells old new output (Ok done) text lists is told quiet =
     let to = appended old.state.output output (listing insns) (Ok done) text lists in
     inl (record {

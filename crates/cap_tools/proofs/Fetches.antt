@@ -1,17 +1,20 @@
 -- The steps that read an input on.
-use Rattle.cap_tools.proofs.Coming.{carries-found, carries-closed, come-first, true-wholes, true-fits, finds, get-at, get-input, At, Fit, stands-split,
-    stands-join, stands-length, fits-join, wholes-join, rests-join, finish-here, come-on}
-use Rattle.cap_tools.proofs.Common.{length-map, map-append, texts, Captured, greatest_of, an_end, InputEnd, ◌≡◌, inl, inr, ℕ, suc, ◌+◌, ◌<◌, ◌≤◌, Bool, true,
-    false, List, [], ◌∷◌, ◌++◌, length, map, Option, None, Some, Result, Ok, Err, refl, sym, ◌∙◌, ap, arith, subst, append_assoc, append-nil, slice_set,
-    HasGiven, Stops, DeviceFault, Fault, ReadFailed, Kind, Placed, Items, FaultAt, no_items, kind_of, after_packets, SourceView, Phase, Reading, Ended, Failed,
-    Steps, FindsPacket, FindsEnd, FindsFault, Advances, IsAt, IsAt-found, IsAt-closed, IsAt-fault, JobEnd, Report, Tally, InputItems, Event, FaultIn,
-    PacketOrder, InTurn, ByTime, Sequence, sequence_of, with_front, whole_input, Policy, Edit, Filter, KeepAll, Count, SelectorState, IsWithin, is_count,
-    PolicyState, with_empty_tally, Form, JobProgress, cut_at, no_progress, apply_events, final_progress, end_with, final_text, output_text, first_link, Target,
-    Capture, Text, Lines, HasWrittenTo, form_to, written_to, failures_to, Reports, InputView, InputsView, Future, InputPast, AreInputsAfter, AreSettled,
-    IsInput, ReadsInput, waiting_packets, input_after, input_items, inputs_with, inputs_left, limits_of, sequence_left, IsNext, actual_future, is_in_turn,
-    report_text, JobState, AppendsOnce, PacketsDecided, GoesOn, CompletesOutput, WhyBroken, StopsWriting, StepLeaves, asks_report, progress_at, progress_of,
-    progress_over, output_form, failures_by, written_by, wholes_of, Closes, ClosesBy, unless_failed, sieve, report_at, drained-text, ReportOk, report-ok,
-    progress-append, course-close, greatest-here, greatest-same, limits-at, limits-kept, set-here, next-is-of, Next}
+use Rattle.cap_tools.proofs.Coming.{carries-found, carries-closed, come-first, true-wholes, true-fits, finds, get-at, get-input, At, Fit, stands-split}
+use Rattle.cap_tools.proofs.Coming.{stands-join, stands-length, fits-join, wholes-join, rests-join, finish-here, come-on}
+use Rattle.cap_tools.proofs.Common.{length-map, map-append, texts, Captured, greatest_of, an_end, InputEnd, ◌≡◌, inl, inr, ℕ, suc, ◌+◌, ◌<◌, ◌≤◌, Bool, true}
+use Rattle.cap_tools.proofs.Common.{false, List, [], ◌∷◌, ◌++◌, length, map, Option, None, Some, Result, Ok, Err, refl, sym, ◌∙◌, ap, arith, subst}
+use Rattle.cap_tools.proofs.Common.{append_assoc, append-nil, slice_set, HasGiven, Stops, DeviceFault, Fault, ReadFailed, Kind, Placed, Items, FaultAt}
+use Rattle.cap_tools.proofs.Common.{no_items, kind_of, after_packets, SourceView, Phase, Reading, Ended, Failed, Steps, FindsPacket, FindsEnd, FindsFault}
+use Rattle.cap_tools.proofs.Common.{Advances, IsAt, IsAt-found, IsAt-closed, IsAt-fault, JobEnd, Report, Tally, InputItems, Event, FaultIn, PacketOrder, InTurn}
+use Rattle.cap_tools.proofs.Common.{ByTime, Sequence, sequence_of, with_front, whole_input, Policy, Edit, Filter, KeepAll, Count, SelectorState, IsWithin}
+use Rattle.cap_tools.proofs.Common.{is_count, PolicyState, with_empty_tally, Form, JobProgress, cut_at, no_progress, apply_events, final_progress, end_with}
+use Rattle.cap_tools.proofs.Common.{final_text, output_text, first_link, Target, Capture, Text, Lines, HasWrittenTo, form_to, written_to, failures_to, Reports}
+use Rattle.cap_tools.proofs.Common.{InputView, InputsView, Future, InputPast, AreInputsAfter, AreSettled, IsInput, ReadsInput, waiting_packets, input_after}
+use Rattle.cap_tools.proofs.Common.{input_items, inputs_with, inputs_left, limits_of, sequence_left, IsNext, actual_future, is_in_turn, report_text, JobState}
+use Rattle.cap_tools.proofs.Common.{AppendsOnce, PacketsDecided, GoesOn, CompletesOutput, WhyBroken, StopsWriting, StepLeaves, asks_report, progress_at}
+use Rattle.cap_tools.proofs.Common.{progress_of, progress_over, output_form, failures_by, written_by, wholes_of, Closes, ClosesBy, unless_failed, sieve}
+use Rattle.cap_tools.proofs.Common.{report_at, drained-text, ReportOk, report-ok, progress-append, course-close, greatest-here, greatest-same, limits-at}
+use Rattle.cap_tools.proofs.Common.{limits-kept, set-here, next-is-of, Next}
 use Rattle.cap_tools.proofs.Laws.{ReadLaws, ReadAt, closed_in, read-at}
 use Rattle.cap_tools.proofs.Nexts.{report-answer, stops-at, once-nothing, once-report}
 use Rattle.cap_process.specs.inside.Selector as selecting_inside
@@ -20,8 +23,14 @@ abbrev pub inputs_at : PacketOrder → List InputView → InputsView
 inputs_at order cursors = record { order = order; cursors = cursors }
 
 abbrev pub mk : List InputView → PacketOrder → Policy → SelectorState → (names : List (List ℕ)) → Target → ℕ → JobState
-mk cursors order policy state names output decided = record { names = names; inputs = inputs_at order cursors; policy = policy; state = state;
-    output = output; decided = decided }
+mk cursors order policy state names output decided = record {
+  names = names;
+  inputs = inputs_at order cursors;
+  policy = policy;
+  state = state;
+  output = output;
+  decided = decided;
+}
 
 pub among-same : (cursors : List InputView) (i : ℕ) (h h' : InputView) → IsInput cursors i h → IsInput cursors i h' → h ≡ h'
 among-same cursors i h h' a b = let e = sym (get-input cursors i h a) ∙ get-input cursors i h' b in cc
@@ -36,52 +45,58 @@ pub goes-one : (us vs : List InputPast) (s : InputPast) (before : List ℕ) (xs 
     (policy : Policy) (state state' : SelectorState) (names : List (List ℕ)) (output output' : Target) (decided decided' : ℕ) (finished : List ℕ)
     (placed : List Placed) (new : List Event) (packets : List Captured) (reports : List Report)
     → length xs ≡ turn → AreInputsAfter us xs → AreInputsAfter (us ++ past-of s finished placed ∷ vs) (xs ++ h' ∷ ys)
-        → (h.greatest ≡ greatest_of s.packets → h'.greatest ≡ greatest_of (s.packets ++ placed)) → limits_of h'.source ≡ limits_of h.source
+    → (h.greatest ≡ greatest_of s.packets → h'.greatest ≡ greatest_of (s.packets ++ placed)) → limits_of h'.source ≡ limits_of h.source
     → (d : PacketsDecided (us ++ s ∷ vs) before (mk (xs ++ h ∷ ys) order policy state names output decided))
     → AreSettled (us ++ past-of s finished placed ∷ vs) (inputs_at order (xs ++ h' ∷ ys)) (d.events ++ new)
-    → apply_events policy (form_to names output) (progress_of d) new ≡ record { decided = decided'; state = state'; packets = packets; reports =
-        reports; end = None }
+    → apply_events policy (form_to names output) (progress_of d) new ≡ record {
+      decided = decided';
+      state = state';
+      packets = packets;
+      reports =
+          reports;
+      end = None;
+    }
     → HasWrittenTo before names output' packets reports → form_to names output' ≡ form_to names output → failures_to output' ≡ failures_to output
     → AppendsOnce (form_to names output) (first_link (wholes_of (us ++ s ∷ vs))) (progress_of d)
-        (record { decided = decided'; state = state'; packets = packets; reports = reports; end = None }) output output'
+    (record { decided = decided'; state = state'; packets = packets; reports = reports; end = None }) output output'
     → state'.passed ≤ decided' → IsWithin decided' state'.tally → decided' ≤ decided + 1
     → GoesOn d (mk (xs ++ h' ∷ ys) order policy state' names output' decided')
 goes-one us vs s before xs ys h h' order turn policy state state' names output output' decided decided' finished placed new packets reports here front
     following greatest limits d come goes written form failures once passed counted few = record {
-  input = turn;
-  finished = finished;
-  packets = placed;
-  past = us ++ past-of s finished placed ∷ vs;
-  past_is = sym (finish-here us vs s turn finished placed (stands-length us xs front ∙ here));
-  decided = record {
-    following = following;
-    greatest = greatest-here us vs s (past-of s finished placed) xs ys h h' front d.greatest greatest;
-    events = d.events ++ new;
-    first = come-first (us ++ past-of s finished placed ∷ vs) (inputs_at order (xs ++ h' ∷ ys)) (d.events ++ new) following come;
-    come = come;
-    packets = packets;
-    reports = reports;
-    progress = ap (λ (f : Form). apply_events policy f no_progress (d.events ++ new)) form
-        ∙ progress-append policy (form_to names output) no_progress d.events new
+      input = turn;
+      finished = finished;
+      packets = placed;
+      past = us ++ past-of s finished placed ∷ vs;
+      past_is = sym (finish-here us vs s turn finished placed (stands-length us xs front ∙ here));
+      decided = record {
+        following = following;
+        greatest = greatest-here us vs s (past-of s finished placed) xs ys h h' front d.greatest greatest;
+        events = d.events ++ new;
+        first = come-first (us ++ past-of s finished placed ∷ vs) (inputs_at order (xs ++ h' ∷ ys)) (d.events ++ new) following come;
+        come = come;
+        packets = packets;
+        reports = reports;
+        progress = ap (λ (f : Form). apply_events policy f no_progress (d.events ++ new)) form
+            ∙ progress-append policy (form_to names output) no_progress d.events new
             ∙ ap (λ (v : JobProgress). apply_events policy (form_to names output) v new) d.progress ∙ goes;
-    output = written;
-    passed = passed;
-    counted = counted;
-  };
-  at_most_one = few;
-  form = form;
-  once = once;
-  output = failures;
-  order = refl;
-  limits = limits-at xs ys h h' limits;
-}
+        output = written;
+        passed = passed;
+        counted = counted;
+      };
+      at_most_one = few;
+      form = form;
+      once = once;
+      output = failures;
+      order = refl;
+      limits = limits-at xs ys h h' limits;
+    }
 
 -- ---- a packet is found
 
 found-goes : (us vs : List InputPast) (s : InputPast) (before : List ℕ) (xs ys : List InputView) (h : InputView) (s' : SourceView)
     (order : PacketOrder) (turn : ℕ) (policy : Policy) (state : SelectorState) (names : List (List ℕ)) (output : Target) (decided : ℕ)
     → ReadLaws order turn xs ys h → AreInputsAfter us xs → At s h → AreInputsAfter vs ys → Advances h.source.phase h.source (Ok true) s'
-        → limits_of s' ≡ limits_of h.source
+    → limits_of s' ≡ limits_of h.source
     → (d : PacketsDecided (us ++ s ∷ vs) before (mk (xs ++ h ∷ ys) order policy state names output decided))
     → GoesOn d (mk (xs ++ input_after h (Ok true) s' ∷ ys) order policy state names output decided)
 found-goes us vs s before xs ys h s' order turn policy state names output decided laws front at back advances limits d =
@@ -96,7 +111,7 @@ found-goes us vs s before xs ys h s' order turn policy state names output decide
     goes-one us vs s before xs ys h h' order turn policy state state names output output decided decided found.passes.passed [] [] d.packets d.reports
     laws.here front (stands-join us vs past xs ys h' front here back) (greatest-same h.greatest s.packets) limits d come refl d.output refl refl
     (once-nothing (form_to names output) (first_link (wholes_of (us ++ s ∷ vs))) (progress_of d) (progress_of d) output output refl refl refl)
-        d.passed d.counted (omega arith)
+    d.passed d.counted (omega arith)
 
 -- ---- a clean end is met
 
@@ -109,7 +124,7 @@ record ReadOut (us vs : List InputPast) (s : InputPast) (xs ys : List InputView)
 closed-out : (us vs : List InputPast) (s : InputPast) (before : List ℕ) (xs ys : List InputView) (h : InputView) (s' : SourceView)
     (order : PacketOrder) (turn : ℕ) (policy : Policy) (state : SelectorState) (names : List (List ℕ)) (output : Target) (decided : ℕ)
     → (laws : ReadLaws order turn xs ys h) → AreInputsAfter us xs → At s h → AreInputsAfter vs ys → Advances h.source.phase h.source (Ok false) s'
-        → (found : FindsEnd h.source s')
+    → (found : FindsEnd h.source s')
     → (d : PacketsDecided (us ++ s ∷ vs) before (mk (xs ++ h ∷ ys) order policy state names output decided))
     → ReadOut us vs s xs ys (input_after h (Ok false) s') order (d.events ++ laws.closed_events (kind_of s'.declared) s'.offset) found.passes.passed
 closed-out us vs s before xs ys h s' order turn policy state names output decided laws front at back advances found d =
@@ -123,7 +138,7 @@ closed-out us vs s before xs ys h s' order turn policy state names output decide
       following = stands-join us vs (past-of s found.passes.passed []) xs ys (input_after h (Ok false) s') front here back;
       come = come-on us vs s (past-of s found.passes.passed []) xs ys h (input_after h (Ok false) s') order d.events es front d.come
           (λ f' fit. carries-closed s xs ys h s' order es (λ fs gs before with_front. laws.closed_left (input_after h (Ok false) s') found.phase
-              s'.declared h.greatest s'.offset fs gs before with_front) waits advances found f' fit);
+          s'.declared h.greatest s'.offset fs gs before with_front) waits advances found f' fit);
     }
 
 -- it goes on, with what closing the input makes of the progress
@@ -131,13 +146,13 @@ closed-goes : (us vs : List InputPast) (s : InputPast) (before : List ℕ) (xs y
     (order : PacketOrder) (turn : ℕ) (policy : Policy) (state : SelectorState) (names : List (List ℕ)) (output : Target) (decided : ℕ)
     (state' : SelectorState) (output' : Target) (reports : List Report)
     → (laws : ReadLaws order turn xs ys h) → AreInputsAfter us xs → At s h → AreInputsAfter vs ys → Advances h.source.phase h.source (Ok false) s'
-        → limits_of s' ≡ limits_of h.source
+    → limits_of s' ≡ limits_of h.source
     → (d : PacketsDecided (us ++ s ∷ vs) before (mk (xs ++ h ∷ ys) order policy state names output decided))
     → closed_in order policy (progress_at (mk (xs ++ h ∷ ys) order policy state names output decided) d.packets d.reports) turn (kind_of s'.declared) s'.offset
     ≡ record { decided = decided; state = state'; packets = d.packets; reports = reports; end = None }
     → HasWrittenTo before names output' d.packets reports → AppendsOnce (form_to names output) (first_link (wholes_of (us ++ s ∷ vs))) (progress_of d)
-        (record { decided = decided; state = state'; packets = d.packets; reports = reports; end = None }) output output' → form_to names output' ≡
-        form_to names output → failures_to output' ≡ failures_to output
+    (record { decided = decided; state = state'; packets = d.packets; reports = reports; end = None }) output output' → form_to names output' ≡
+    form_to names output → failures_to output' ≡ failures_to output
     → state'.passed ≤ decided → IsWithin decided state'.tally
     → GoesOn d (mk (xs ++ input_after h (Ok false) s' ∷ ys) order policy state' names output' decided)
 closed-goes us vs s before xs ys h s' order turn policy state names output decided state' output' reports laws front at back advances limits d goes
@@ -146,9 +161,9 @@ closed-goes us vs s before xs ys h s' order turn policy state names output decid
     let out = closed-out us vs s before xs ys h s' order turn policy state names output decided laws front at back advances found d in
     let w : JobProgress = progress_at (mk (xs ++ h ∷ ys) order policy state names output decided) d.packets d.reports in
     goes-one us vs s before xs ys h (input_after h (Ok false) s') order turn policy state state' names output output' decided decided
-        found.passes.passed [] (laws.closed_events (kind_of s'.declared) s'.offset) d.packets reports
+    found.passes.passed [] (laws.closed_events (kind_of s'.declared) s'.offset) d.packets reports
     laws.here front out.following (greatest-same h.greatest s.packets) limits d out.come
-        (laws.closed_way policy (form_to names output) w (kind_of s'.declared) s'.offset refl ∙ goes) final_text form failures once passed counted (omega arith)
+    (laws.closed_way policy (form_to names output) w (kind_of s'.declared) s'.offset refl ∙ goes) final_text form failures once passed counted (omega arith)
 
 -- ---- it ends by a fault
 
@@ -196,7 +211,7 @@ risen s h s' fault at steps is = by_phase h.source.phase refl steps
 pub broken-ends : (us vs : List InputPast) (s : InputPast) (before : List ℕ) (xs ys : List InputView) (h : InputView) (s' : SourceView)
     (fault : Fault) (order : PacketOrder) (turn : ℕ) (policy : Policy) (state : SelectorState) (names : List (List ℕ)) (output : Target) (decided : ℕ)
     → ReadLaws order turn xs ys h → IsNext (inputs_at order (xs ++ h ∷ ys)) (Next.Read turn) → AreInputsAfter us xs → At s h → AreInputsAfter vs ys
-        → Advances h.source.phase h.source (Err fault) s'
+    → Advances h.source.phase h.source (Err fault) s'
     → Steps h.source.phase h.source (Err fault) s'
     → (d : PacketsDecided (us ++ s ∷ vs) before (mk (xs ++ h ∷ ys) order policy state names output decided))
     → WhyBroken d (mk (xs ++ input_after h (Err fault) s' ∷ ys) order policy state names output decided) turn fault s'
@@ -209,7 +224,7 @@ broken-ends us vs s before xs ys h s' fault order turn policy state names output
       | inl faulty ↦ inl (comes-broken (us ++ s ∷ vs) before m (wholes_of (us ++ s ∷ vs)) d new turn fault s'.offset
           (ap (λ (l : List InputItems). final_progress policy (form_to names output) (sequence_of order l))
           (wholes_of-join us vs s ∙ ap (λ (r : InputItems). wholes_of us ++ r ∷ wholes_of vs)
-              (ap (λ (i : Items). record { greatest = 0; items = i; size = length s.text }) faulty.items))
+          (ap (λ (i : Items). record { greatest = 0; items = i; size = length s.text }) faulty.items))
           ∙ cut-course)
           refl refl)
       | inr cut ↦ inr (inl (record {
@@ -231,10 +246,10 @@ broken-ends us vs s before xs ys h s' fault order turn policy state names output
             turn fault s'.offset
             (ap (λ (l : List InputItems). final_progress policy (form_to names output) (sequence_of order l))
             (ap (λ (l : List InputItems). cut_at l turn (record { packets = s.packets; declared = s'.declared; ending = FaultAt fault s'.offset }))
-                (wholes_of-join us vs s)
+            (wholes_of-join us vs s)
             ∙ cut-here (wholes_of us) (wholes_of vs) (whole_input s.text) turn
-                (record { packets = s.packets; declared = s'.declared; ending = FaultAt fault s'.offset })
-                (length-map (texts us) whole_input ∙ length-map us (λ (p : InputPast). p.text) ∙ stands-length us xs front ∙ laws.here))
+            (record { packets = s.packets; declared = s'.declared; ending = FaultAt fault s'.offset })
+            (length-map (texts us) whole_input ∙ length-map us (λ (p : InputPast). p.text) ∙ stands-length us xs front ∙ laws.here))
             ∙ cut-course)
             refl refl;
       }))
@@ -264,25 +279,29 @@ broken-ends us vs s before xs ys h s' fault order turn policy state names output
 
     cut-course : final_progress policy (form_to names output)
         (sequence_of order (wholes_of us
-        ++ record { greatest = 0; items = record { packets = s.packets; declared = s'.declared; ending = FaultAt fault s'.offset }; size =
-        length s.text } ∷ wholes_of vs))
+        ++ record {
+          greatest = 0;
+          items = record { packets = s.packets; declared = s'.declared; ending = FaultAt fault s'.offset };
+          size =
+              length s.text;
+        } ∷ wholes_of vs))
         ≡ end_with (progress_at m d.packets d.reports) (FaultIn turn fault s'.offset)
     cut-course =
         course-close policy (form_to names output) _ d.events (progress_at m d.packets d.reports) (FaultIn turn fault s'.offset)
         (ap (sequence_of order)
         (ap (λ (l : List Placed). wholes_of us
-            ++ record { greatest = 0; items = record { packets = l; declared = s'.declared; ending = FaultAt fault s'.offset }; size = length s.text }
-            ∷ wholes_of vs) (sym (append-nil s.packets))
+        ++ record { greatest = 0; items = record { packets = l; declared = s'.declared; ending = FaultAt fault s'.offset }; size = length s.text }
+        ∷ wholes_of vs) (sym (append-nil s.packets))
         ∙ ap (λ b. wholes_of us ++ record { greatest = 0; items = after s.packets b; size = length s.text } ∷ wholes_of vs) (sym laws.waits)
         ∙ ap (λ (l : List InputItems). l ++ input_items s h f ∷ wholes_of vs) (sym (true-wholes us xs front))
         ∙ ap (λ (l : List InputItems). inputs_with us xs (laters xs) ++ input_items s h f ∷ l) (sym (true-wholes vs ys back))
         ∙ sym (wholes-join us vs s xs ys h (laters xs) (laters ys) f front (true-fits us xs front)))
         ∙ d.come (laters xs ++ f ∷ laters ys) (fits-join xs ys h (laters xs) (laters ys) f (true-fits us xs front) fit (true-fits vs ys back))
         ∙ ap (λ (l : List InputItems). with_front d.events (sequence_left order (xs ++ h ∷ ys) l))
-            (rests-join xs ys h (laters xs) (laters ys) f (true-fits us xs front)
-            ∙ ap (λ b. inputs_left xs (laters xs) ++ rest_as b ∷ inputs_left ys (laters ys)) laws.waits)
+        (rests-join xs ys h (laters xs) (laters ys) f (true-fits us xs front)
+        ∙ ap (λ b. inputs_left xs (laters xs) ++ rest_as b ∷ inputs_left ys (laters ys)) laws.waits)
         ∙ ap (with_front d.events) (laws.broken_left s'.declared fault s'.offset h.greatest (length s.text) (laters xs) (laters ys)
-            (true-fits us xs front) (true-fits vs ys back)))
+        (true-fits us xs front) (true-fits vs ys back)))
         d.progress refl
 
 -- ---- an input is reported
@@ -315,7 +334,7 @@ report-stops : (us vs : List InputPast) (s : InputPast) (before : List ℕ) (xs 
     (order : PacketOrder) (turn : ℕ) (policy : Policy) (state : SelectorState) (names : List (List ℕ)) (target : Target) (decided : ℕ)
     (state' : SelectorState) (output' : Target) (fault : DeviceFault)
     → (laws : ReadLaws order turn xs ys h) → IsNext (inputs_at order (xs ++ h ∷ ys)) (Next.Read turn) → AreInputsAfter us xs → At s h
-        → AreInputsAfter vs ys → Advances h.source.phase h.source (Ok false) s' → Steps h.source.phase h.source (Ok false) s'
+    → AreInputsAfter vs ys → Advances h.source.phase h.source (Ok false) s' → Steps h.source.phase h.source (Ok false) s'
     → (d : PacketsDecided (us ++ s ∷ vs) before (mk (xs ++ h ∷ ys) order policy state names target decided))
     → asks_report order policy ≡ true
     → Reports (report_text names (report_at turn (input_after h (Ok false) s') state.tally)) target (Err fault) output'
@@ -362,19 +381,19 @@ closed-core : (us vs : List InputPast) (s : InputPast) (before : List ℕ) (xs y
     (order : PacketOrder) (turn : ℕ) (policy : Policy) (state : SelectorState) (names : List (List ℕ)) (output : Target) (decided : ℕ)
     (r : Option JobEnd) (selector' : PolicyState) (output' : Target)
     → (laws : ReadLaws order turn xs ys h) → IsNext (inputs_at order (xs ++ h ∷ ys)) (Next.Read turn) → AreInputsAfter us xs → At s h
-        → AreInputsAfter vs ys → Advances h.source.phase h.source (Ok false) s' → Steps h.source.phase h.source (Ok false) s'
+    → AreInputsAfter vs ys → Advances h.source.phase h.source (Ok false) s' → Steps h.source.phase h.source (Ok false) s'
     → (d : PacketsDecided (us ++ s ∷ vs) before (mk (xs ++ h ∷ ys) order policy state names output decided))
     → (b : Bool) → asks_report order policy ≡ b → ClosesBy b names turn (input_after h (Ok false) s')
-        (sieve (record { policy = policy; state = state }) output) r (sieve selector' output')
+    (sieve (record { policy = policy; state = state }) output) r (sieve selector' output')
     → StepLeaves d r (mk (xs ++ input_after h (Ok false) s' ∷ ys) order policy selector'.state names output' decided)
 closed-core us vs s before xs ys h s' order turn policy state names output decided r selector' output' laws tells front at back advances steps d false asks by =
     rw (by.0, by.1, by.2)
     (closed-goes us vs s before xs ys h s' order turn policy state names output decided state output d.reports laws front at back advances
-        (limits-kept h.source s' false steps advances) d
+    (limits-kept h.source s' false steps advances) d
     (quiet-closed order policy (progress_at (mk (xs ++ h ∷ ys) order policy state names output decided) d.packets d.reports) turn
-        (kind_of s'.declared) s'.offset asks)
+    (kind_of s'.declared) s'.offset asks)
     d.output (once-nothing (form_to names output) (first_link (wholes_of (us ++ s ∷ vs))) (progress_of d) (progress_of d) output output refl refl
-        refl) refl refl d.passed d.counted)
+    refl) refl refl d.passed d.counted)
 closed-core us vs s before xs ys h s' order turn policy state names output decided r selector' output' laws tells front at back advances steps d true asks by =
     rw (by.is, by.selector_is) (by_answer by.answer by.reports)
   where
@@ -390,10 +409,10 @@ closed-core us vs s before xs ys h s' order turn policy state names output decid
         let ok : ReportOk before d.packets d.reports report names output output' =
         report-ok before d.packets d.reports report names output output' d.output reports in
         closed-goes us vs s before xs ys h s' order turn policy state names output decided (with_empty_tally state) output' (d.reports ++ report ∷ [])
-            laws front at back advances (limits-kept h.source s' false steps advances) d
+        laws front at back advances (limits-kept h.source s' false steps advances) d
         (told-closed order policy (progress_at old d.packets d.reports) turn (kind_of s'.declared) s'.offset asks)
         ok.output (once-report (first_link (wholes_of (us ++ s ∷ vs))) before (progress_of d) (with_report (progress_of d) report) names output
-            output' report d.output ok.output ok.form refl refl) ok.form ok.failures d.passed (omega arith, omega arith, omega arith)
+        output' report d.output ok.output ok.form refl refl) ok.form ok.failures d.passed (omega arith, omega arith, omega arith)
     by_answer (Err fault) reports = report-stops us vs s before xs ys h s' order turn policy state names output decided (with_empty_tally state)
         output' fault laws tells front at back advances steps d asks reports
 
@@ -409,39 +428,39 @@ read_input-core : (us vs : List InputPast) (s : InputPast) (before : List ℕ) (
     (a : Result Bool Fault) (order : PacketOrder) (turn : ℕ) (policy : Policy) (state : SelectorState) (names : List (List ℕ)) (output : Target)
     (decided : ℕ) (r : Option JobEnd) (selector' : PolicyState) (output' : Target)
     → ReadLaws order turn xs ys h → IsNext (inputs_at order (xs ++ h ∷ ys)) (Next.Read turn) → AreInputsAfter us xs → At s h → AreInputsAfter vs ys
-        → Advances h.source.phase h.source a s' → Steps h.source.phase h.source a s'
+    → Advances h.source.phase h.source a s' → Steps h.source.phase h.source a s'
     → (d : PacketsDecided (us ++ s ∷ vs) before (mk (xs ++ h ∷ ys) order policy state names output decided))
     → Follows a names (record { order = order; cursors = xs ++ input_after h a s' ∷ ys }) turn (record { policy = policy; state = state }) output r
-        selector' output'
+    selector' output'
     → StepLeaves d r (mk (xs ++ input_after h a s' ∷ ys) order policy selector'.state names output' decided)
 read_input-core us vs s before xs ys h s' (Ok true) order turn policy state names output decided r selector' output' laws tells front at back advances
     steps d follows =
     rw (follows.0, follows.1, follows.2) (found-goes us vs s before xs ys h s' order turn policy state names output decided laws front at back
-        advances (limits-kept h.source s' true steps advances) d)
+    advances (limits-kept h.source s' true steps advances) d)
 read_input-core us vs s before xs ys h s' (Ok false) order turn policy state names output decided r selector' output' laws tells front at back
     advances steps d follows =
     let h' : InputView = input_after h (Ok false) s' in
     let same : follows.cursor ≡ h' = (let e = sym follows.among ∙ get-at xs ys h' turn laws.here in cc) in
     let P : InputView → Type 0 = λ v. ClosesBy (asks_report order policy) names turn v (sieve (record { policy = policy; state = state }) output) r
-        (sieve selector' output') in
+    (sieve selector' output') in
     let Q : PacketOrder → Type 0 = λ o. ClosesBy (asks_report o policy) names turn h' (sieve (record { policy = policy; state = state }) output) r
-        (sieve selector' output') in
+    (sieve selector' output') in
     closed-core us vs s before xs ys h s' order turn policy state names output decided r selector' output' laws tells front at back advances steps d
-        (asks_report order policy) refl
+    (asks_report order policy) refl
     (subst P same follows.by)
 read_input-core us vs s before xs ys h s' (Err fault) order turn policy state names output decided r selector' output' laws tells front at back
     advances steps d follows = rw (follows.0, follows.1, follows.2) (record {
-  cursor = input_after h (Err fault) s';
-  among = get-at xs ys (input_after h (Err fault) s') turn laws.here;
-  why = broken-ends us vs s before xs ys h s' fault order turn policy state names output decided laws tells front at back advances steps d;
-})
+      cursor = input_after h (Err fault) s';
+      among = get-at xs ys (input_after h (Err fault) s') turn laws.here;
+      why = broken-ends us vs s before xs ys h s' fault order turn policy state names output decided laws tells front at back advances steps d;
+    })
 
 -- one input taken out of a step's premises
 pub read_input-leaves : (ss : List InputPast) (before : List ℕ) (cursors : List InputView) (order : PacketOrder) (policy : Policy)
     (state : SelectorState) (names : List (List ℕ)) (output : Target) (decided : ℕ) (i : ℕ) (a : Result Bool Fault) (inputs' : InputsView)
     (r : Option JobEnd) (selector' : PolicyState) (output' : Target)
     → IsNext (inputs_at order cursors) (Next.Read i) → ReadsInput (record { order = order; cursors = cursors }) i a inputs'
-        → (d : PacketsDecided ss before (mk cursors order policy state names output decided))
+    → (d : PacketsDecided ss before (mk cursors order policy state names output decided))
     → Follows a names inputs' i (record { policy = policy; state = state }) output r selector' output'
     → StepLeaves d r (mk inputs'.cursors inputs'.order policy selector'.state names output' decided)
 read_input-leaves ss before cursors order policy state names output decided i a inputs' r selector' output' tells fetches d follows =
@@ -464,12 +483,12 @@ read_input-leaves ss before cursors order policy state names output decided i a 
     let st = stands-split ss m.front m.back h d'.following in
     let new : JobState = mk (m.front ++ h' ∷ m.back) order policy selector'.state names output' decided in
     let core : (e : PacketsDecided (st.front ++ st.here ∷ st.back) before (mk (m.front ++ h ∷ m.back) order policy state names output decided))
-        → StepLeaves e r new = λ e.
+    → StepLeaves e r new = λ e.
     read_input-core st.front st.back st.here before m.front m.back h fetches.source a order i policy state names output decided r selector' output'
-        at.laws (subst T m.splits tells) st.before st.at st.following (subst A same fetches.advances) (subst S same fetches.steps) e
-        (subst F feed'_is follows) in
+    at.laws (subst T m.splits tells) st.before st.at st.following (subst A same fetches.advances) (subst S same fetches.steps) e
+    (subst F feed'_is follows) in
     let G : List InputPast → Type 0 = λ l. (e : PacketsDecided l before (mk (m.front ++ h ∷ m.back) order policy state names output decided))
-        → StepLeaves e r new in
+    → StepLeaves e r new in
     let H : List InputView → Type 0 = λ l. (e : PacketsDecided ss before (mk l order policy state names output decided)) → StepLeaves e r new in
     let N : InputsView → Type 0 = λ f. StepLeaves d r (mk f.cursors f.order policy selector'.state names output' decided) in
     let whole_input : H cursors = subst H (sym m.splits) (subst G (sym st.is) core) in
@@ -480,7 +499,7 @@ read_input-leaves ss before cursors order policy state names output decided i a 
 pub closes-by : (order : PacketOrder) (input : ℕ) (cursor : InputView) (selector selector' : PolicyState) (names : List (List ℕ))
     (output output' : Target) (r : Option JobEnd) (tally : Tally) (report : Report) (answer : Result (Unit {0}) DeviceFault) → is_in_turn order ≡ true
     → selecting_inside.TakesTally (is_count selector.policy) selector (Some tally) selector' → report ≡ report_at input cursor tally
-        → Reports (report_text names report) output answer output' → r ≡ unless_failed answer
+    → Reports (report_text names report) output answer output' → r ≡ unless_failed answer
     → ClosesBy (asks_report order selector.policy) names input cursor (sieve selector output) r (sieve selector' output')
 closes-by ByTime input cursor selector selector' names output output' r tally report answer turn taken is reports ends = (cc)
 closes-by InTurn input cursor selector selector' names output output' r tally report answer here taken is reports ends =

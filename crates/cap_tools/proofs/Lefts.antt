@@ -1,9 +1,10 @@
 -- Each step leaves less to do, and is paid by what was read.
-use Rattle.cap_tools.proofs.Common.{◌≡◌, ℕ, ◌+◌, ◌*◌, ◌^◌, ◌<◌, ◌≤◌, suc, Bool, true, false, List, [], ◌∷◌, ◌++◌, length, Result, Ok, Err, refl, sym, ◌∙◌, ap,
-    arith, length-append, slice_set, Fault, SourceView, Phase, Reading, Ended, Failed, Steps, end_offset, phase_after, PacketOrder, InTurn, ByTime, InputView,
-    InputsView, IsInput, MarksDecided, ReadSteps, input_after, input_after_decided, input_steps_left, is_packet_found, steps_left_in, steps_owed, with_cursor,
-    owed_by, steps_left, IsNext, IsNextIn, IsOpen, set-here, most_turns, reads_of, IsPaid, steps_owed_in_all, owed_in, Option, None, Some, most_steps,
-    HasFewTurns, OutputView, Preparing, JobView, StepReads, reads_on, decides_one, leaves_one, reads_nothing, Next, IsCounted}
+use Rattle.cap_tools.proofs.Common.{◌≡◌, ℕ, ◌+◌, ◌*◌, ◌^◌, ◌<◌, ◌≤◌, suc, Bool, true, false, List, [], ◌∷◌, ◌++◌, length, Result, Ok, Err, refl, sym, ◌∙◌, ap}
+use Rattle.cap_tools.proofs.Common.{arith, length-append, slice_set, Fault, SourceView, Phase, Reading, Ended, Failed, Steps, end_offset, phase_after}
+use Rattle.cap_tools.proofs.Common.{PacketOrder, InTurn, ByTime, InputView, InputsView, IsInput, MarksDecided, ReadSteps, input_after, input_after_decided}
+use Rattle.cap_tools.proofs.Common.{input_steps_left, is_packet_found, steps_left_in, steps_owed, with_cursor, owed_by, steps_left, IsNext, IsNextIn, IsOpen}
+use Rattle.cap_tools.proofs.Common.{set-here, most_turns, reads_of, IsPaid, steps_owed_in_all, owed_in, Option, None, Some, most_steps, HasFewTurns, OutputView}
+use Rattle.cap_tools.proofs.Common.{Preparing, JobView, StepReads, reads_on, decides_one, leaves_one, reads_nothing, Next, IsCounted}
 use Rattle.cap_tools.proofs.Fetches.{among-same}
 use Rattle.std.specs.Prelude.{OnOk}
 
@@ -31,14 +32,14 @@ record Exchanged (cursors cursors' : List InputView) (h h' : InputView) : Type 0
 exchanged : (cursors : List InputView) (i : ℕ) (h h' : InputView) → IsInput cursors i h → Exchanged cursors (slice_set cursors i h') h h'
 exchanged cursors i h h' a =
     let set : slice_set cursors i h' ≡ a.front ++ h' ∷ a.back = ap (λ (l : List InputView). slice_set l i h') a.splits ∙ set-here a.front a.back h h'
-        i a.place in
+    i a.place in
     let left : steps_left_in cursors ≡ steps_left_in a.front + (input_steps_left h + steps_left_in a.back) = ap steps_left_in a.splits
-        ∙ left-append a.front (h ∷ a.back) in
+    ∙ left-append a.front (h ∷ a.back) in
     let left' : steps_left_in (slice_set cursors i h') ≡ steps_left_in a.front + (input_steps_left h' + steps_left_in a.back) = ap steps_left_in set
-        ∙ left-append a.front (h' ∷ a.back) in
+    ∙ left-append a.front (h' ∷ a.back) in
     let reads : reads_of cursors ≡ reads_of a.front + (end_offset h.source + reads_of a.back) = ap reads_of a.splits ∙ reads-append a.front (h ∷ a.back) in
     let reads' : reads_of (slice_set cursors i h') ≡ reads_of a.front + (end_offset h'.source + reads_of a.back) = ap reads_of set
-        ∙ reads-append a.front (h' ∷ a.back) in
+    ∙ reads-append a.front (h' ∷ a.back) in
     let owes : owed_in cursors ≡ owed_in a.front + (owed_by h + owed_in a.back) = ap owed_in a.splits ∙ owed-append a.front (h ∷ a.back) in
     let owes' : owed_in (slice_set cursors i h') ≡ owed_in a.front + (owed_by h' + owed_in a.back) = ap owed_in set ∙ owed-append a.front (h' ∷ a.back) in
     let count : length cursors ≡ length a.front + suc (length a.back) = ap length a.splits ∙ length-append a.front (h ∷ a.back) in
@@ -132,7 +133,7 @@ pub read-on : (inputs inputs' : InputsView) (i : ℕ) (r : Result Bool Fault) �
     → ReadOn inputs inputs' r
 read-on inputs inputs' i r tells f =
     by_result r (gave f.cursor.source f.source r f.steps) (exchanged inputs.cursors i f.cursor (input_after f.cursor r f.source) f.among)
-        (ap (steps_owed (is_packet_found r)) f.phase) (ap steps_left f.is) (ap steps_owed_in_all f.is) (ap most_turns f.is)
+    (ap (steps_owed (is_packet_found r)) f.phase) (ap steps_left f.is) (ap steps_owed_in_all f.is) (ap most_turns f.is)
   where
     one : owed_by f.cursor ≡ 1
     one = unready-owes f.cursor (to-read inputs i f.cursor tells f.among)
@@ -144,7 +145,7 @@ read-on inputs inputs' i r tells f =
         (slice_set inputs.cursors i (input_after f.cursor r f.source)) f.cursor (input_after f.cursor r f.source)
         → owed_by (input_after f.cursor r f.source) ≡ steps_owed (is_packet_found r) (phase_after r)
         → steps_left inputs' ≡ steps_left (after r) → steps_owed_in_all inputs' ≡ steps_owed_in_all (after r) → most_turns inputs' ≡ most_turns
-            (after r) → ReadOn inputs inputs' r
+        (after r) → ReadOn inputs inputs' r
     by_result (Ok true) g ex new left owed turns =
         let more = g.more refl in
         let given = more.0 in
@@ -187,13 +188,34 @@ few-kept (Some status) turns inputs inputs' paid upper_bound = tt
 pub reads-kept : (tells goes : Bool) (old mid : JobView) (p : Option Preparing) (err : OutputView) (turns : ℕ) (ended : Option ℕ) → StepReads tells goes old mid
     → StepReads tells goes old (record { preparing = p; state = mid.state; programs = mid.programs; err = err; turns = turns; done = ended })
 reads-kept tells goes old mid p err turns ended (reads_on i answer on reads) =
-    reads_on i answer on (record { next = reads.next; fetches = reads.fetches; exact = reads.exact; decided = reads.decided; output = reads.output;
-    programs = reads.programs })
+    reads_on i answer on (record {
+      next = reads.next;
+      fetches = reads.fetches;
+      exact = reads.exact;
+      decided = reads.decided;
+      output = reads.output;
+      programs = reads.programs;
+    })
 reads-kept tells goes old mid p err turns ended (decides_one i one settles more) =
-    decides_one i (record { next = one.next; cursor = one.cursor; among = one.among; packet = one.packet; held = one.held; programs = one.programs;
-    cost = one.cost }) settles more
+    decides_one i (record {
+      next = one.next;
+      cursor = one.cursor;
+      among = one.among;
+      packet = one.packet;
+      held = one.held;
+      programs = one.programs;
+      cost = one.cost;
+    }) settles more
 reads-kept tells goes old mid p err turns ended (leaves_one i ends one inputs same) =
-    leaves_one i ends (record { next = one.next; cursor = one.cursor; among = one.among; packet = one.packet; held = one.held; programs =
-    one.programs; cost = one.cost }) inputs same
+    leaves_one i ends (record {
+      next = one.next;
+      cursor = one.cursor;
+      among = one.among;
+      packet = one.packet;
+      held = one.held;
+      programs =
+          one.programs;
+      cost = one.cost;
+    }) inputs same
 reads-kept tells goes old mid p err turns ended (reads_nothing ends none) =
     reads_nothing ends (record { inputs = none.inputs; decided = none.decided; programs = none.programs })

@@ -1,12 +1,14 @@
 -- What comes next, as a step knows it, is what comes next in the order.
-use Rattle.cap_tools.proofs.Common.{IsNextEvent, ap₂, append_assoc, append-nil, Stops, AsCapture, AsReports, AsLines, text, added_text, packets_text, text-more,
-    lines_text, lines-more, report_text, reports_text, reports-more, Report, Sequence, sequence_of, no_progress, apply_events, end_with, final_text,
-    output_text, text_at_end, Grows, course-grows, course-close, drained-text, StopsWriting, progress_over, failures_by, written_by, ◌≡◌, ℕ, ◌+◌, true, List,
-    [], ◌∷◌, ◌++◌, Option, None, Some, refl, sym, ◌∙◌, ap, Captured, Fault, Kind, Placed, Event, Packet, InputEnd, Complete, PacketOrder, InTurn, ByTime,
-    InputPast, Policy, Edit, Filter, KeepAll, Count, SelectorState, Verdict, Pass, PassLast, PassesAs, Skip, Refuse, judge, Form, JobProgress, IsNextAnswer,
-    apply_event, apply_verdict, closing_text, decide, unless_refused, end_input, first_link, form_refuses, packet_bytes, report_bytes, text_of_progress,
-    progress-next, JobState, Meets, PacketsDecided, asks_report, output_form, progress_of, wholes_of, work_of, Target, HasWrittenTo, form_to, written_to,
-    AppendsOnce, nothing, packet, report, closes, lines-one}
+use Rattle.cap_tools.proofs.Common.{IsNextEvent, ap₂, append_assoc, append-nil, Stops, AsCapture, AsReports, AsLines, text, added_text, packets_text, text-more}
+use Rattle.cap_tools.proofs.Common.{lines_text, lines-more, report_text, reports_text, reports-more, Report, Sequence, sequence_of, no_progress, apply_events}
+use Rattle.cap_tools.proofs.Common.{end_with, final_text, output_text, text_at_end, Grows, course-grows, course-close, drained-text, StopsWriting}
+use Rattle.cap_tools.proofs.Common.{progress_over, failures_by, written_by, ◌≡◌, ℕ, ◌+◌, true, List, [], ◌∷◌, ◌++◌, Option, None, Some, refl, sym, ◌∙◌, ap}
+use Rattle.cap_tools.proofs.Common.{Captured, Fault, Kind, Placed, Event, Packet, InputEnd, Complete, PacketOrder, InTurn, ByTime, InputPast, Policy, Edit}
+use Rattle.cap_tools.proofs.Common.{Filter, KeepAll, Count, SelectorState, Verdict, Pass, PassLast, PassesAs, Skip, Refuse, judge, Form, JobProgress}
+use Rattle.cap_tools.proofs.Common.{IsNextAnswer, apply_event, apply_verdict, closing_text, decide, unless_refused, end_input, first_link, form_refuses}
+use Rattle.cap_tools.proofs.Common.{packet_bytes, report_bytes, text_of_progress, progress-next, JobState, Meets, PacketsDecided, asks_report, output_form}
+use Rattle.cap_tools.proofs.Common.{progress_of, wholes_of, work_of, Target, HasWrittenTo, form_to, written_to, AppendsOnce, nothing, packet, report, closes}
+use Rattle.cap_tools.proofs.Common.{lines-one}
 use Rattle.cap_print.specs.Rendering.{printed_text}
 
 pub once-nothing : (form : Form) (link : Option ℕ) (far next : JobProgress) (old new : Target) → next.packets ≡ far.packets
@@ -23,7 +25,7 @@ appended : (before : List ℕ) (names : List (List ℕ)) (old new : Target) (ps 
     → written_to new ≡ before ++ (output_text (form_to names old) ps rs ++ bytes) → written_to new ≡ written_to old ++ bytes
 appended before names old new ps rs bytes has is =
     is ∙ sym (append_assoc before (output_text (form_to names old) ps rs) bytes) ∙ ap (λ (l : List ℕ). l ++ bytes)
-        (sym (drained-text before names old ps rs has))
+    (sym (drained-text before names old ps rs has))
 
 -- ---- a packet more, and a report more
 
@@ -87,17 +89,17 @@ passes-adds : (form : Form) (w : JobProgress) (i : ℕ) (x : Placed) (v : Verdic
     → text_of_progress form (apply_verdict form w i x v state) ≡ text_of_progress form w ++ packet_bytes form w.packets q
 passes-adds form w i x (Pass p) state q is taken =
     rw is (ap (λ (o : Option Fault). text_of_progress form (unless_refused o w i x (decide w state (q ∷ []) None))) taken ∙ packet-more form w.packets
-        q w.reports)
+    q w.reports)
 passes-adds form w i x (PassLast p) state q is taken =
     rw is (ap (λ (o : Option Fault). text_of_progress form (unless_refused o w i x (decide w state (q ∷ []) (Some Complete)))) taken
-        ∙ packet-more form w.packets q w.reports)
+    ∙ packet-more form w.packets q w.reports)
 passes-adds form w i x Skip state q is taken = absurd is
 passes-adds form w i x (Refuse fault) state q is taken = absurd is
 
 -- a report
 report-adds : (order : PacketOrder) (policy : Policy) (form : Form) (w : JobProgress) (i : ℕ) (kind : Option Kind) (size : ℕ) → asks_report order policy ≡ true
     → text_of_progress form (end_input policy w i kind size) ≡ text_of_progress form w
-        ++ report_bytes form (record { input = i; kind = kind; size = size; tally = w.state.tally })
+    ++ report_bytes form (record { input = i; kind = kind; size = size; tally = w.state.tally })
 report-adds ByTime policy form w i kind size asks = (cc)
 report-adds InTurn Count form w i kind size asks = report-more form w.packets w.reports (record { input = i; kind = kind; size = size; tally = w.state.tally })
 report-adds InTurn (Edit s) form w i kind size asks = (cc)
@@ -109,7 +111,7 @@ report-adds InTurn KeepAll form w i kind size asks = (cc)
 next-adds : (ss : List InputPast) (before : List ℕ) (old : JobState) (bytes : List ℕ) (d : PacketsDecided ss before old) (e : Event)
     → IsNextEvent (work_of old) (wholes_of ss) d.events e
     → text_of_progress (output_form old) (apply_event old.policy (output_form old) (progress_of d) e) ≡ text_of_progress (output_form old)
-        (progress_of d) ++ bytes → IsNextAnswer (work_of old) (wholes_of ss) d.events (Some e) bytes
+    (progress_of d) ++ bytes → IsNextAnswer (work_of old) (wholes_of ss) d.events (Some e) bytes
 next-adds ss before old bytes d e comes adds =
     let form : Form = output_form old in
     let w : JobProgress = progress_of d in (
@@ -123,20 +125,20 @@ next-adds ss before old bytes d e comes adds =
 pub packet-answer : (ss : List InputPast) (before : List ℕ) (old : JobState) (d : PacketsDecided ss before old) (i : ℕ) (x : Placed) (q : Captured)
     → IsNextEvent (work_of old) (wholes_of ss) d.events (Packet i x) → PassesAs (judge old.policy old.state (old.decided + 1) x.packet).verdict q
     → form_refuses (output_form old) d.packets q ≡ None → IsNextAnswer (work_of old) (wholes_of ss) d.events (Some (Packet i x))
-        (packet_bytes (output_form old) d.packets q)
+    (packet_bytes (output_form old) d.packets q)
 packet-answer ss before old d i x q comes passes taken =
     let j = judge old.policy old.state (old.decided + 1) x.packet in
     next-adds ss before old (packet_bytes (output_form old) d.packets q) d (Packet i x) comes
-        (passes-adds (output_form old) (progress_of d) i x j.verdict j.state q passes taken)
+    (passes-adds (output_form old) (progress_of d) i x j.verdict j.state q passes taken)
 
 -- the report of an input
 pub report-answer : (ss : List InputPast) (before : List ℕ) (old : JobState) (d : PacketsDecided ss before old) (i : ℕ) (kind : Option Kind)
     (size : ℕ) → IsNextEvent (work_of old) (wholes_of ss) d.events (InputEnd i kind size) → asks_report old.inputs.order old.policy ≡ true
     → IsNextAnswer (work_of old) (wholes_of ss) d.events (Some (InputEnd i kind size))
-        (report_bytes (output_form old) (record { input = i; kind = kind; size = size; tally = old.state.tally }))
+    (report_bytes (output_form old) (record { input = i; kind = kind; size = size; tally = old.state.tally }))
 report-answer ss before old d i kind size comes asks =
     next-adds ss before old (report_bytes (output_form old) (record { input = i; kind = kind; size = size; tally = old.state.tally })) d
-        (InputEnd i kind size) comes (report-adds old.inputs.order old.policy (output_form old) (progress_of d) i kind size asks)
+    (InputEnd i kind size) comes (report-adds old.inputs.order old.policy (output_form old) (progress_of d) i kind size asks)
 
 -- ---- the output's device failed at it
 
@@ -149,18 +151,24 @@ added : (form : Form) (ps qs : List Captured) (rs ts : List Report) → Added fo
 added (AsCapture format) ps [] rs ts = record { tail = []; is = ap (text format) (append-nil ps) ∙ sym (append-nil (text format ps)) }
 added (AsCapture format) ps (q ∷ qs) rs ts = record { tail = added_text format ps q ++ packets_text format (ps ++ q ∷ []) qs; is = text-more format ps q qs }
 added (AsReports names) ps qs rs [] = record { tail = []; is = ap (reports_text names) (append-nil rs) ∙ sym (append-nil (reports_text names rs)) }
-added (AsReports names) ps qs rs (t ∷ ts) = record { tail = report_text names t ++ reports_text names ts; is =
-    ap (reports_text names) (sym (append_assoc rs (t ∷ []) ts)) ∙ reports-more names rs t ts }
+added (AsReports names) ps qs rs (t ∷ ts) = record {
+  tail = report_text names t ++ reports_text names ts;
+  is =
+      ap (reports_text names) (sym (append_assoc rs (t ∷ []) ts)) ∙ reports-more names rs t ts;
+}
 added (AsLines options) ps [] rs ts = record { tail = []; is = ap (lines_text options) (append-nil ps) ∙ sym (append-nil (lines_text options ps)) }
-added (AsLines options) ps (q ∷ qs) rs ts = record { tail = printed_text options q ++ lines_text options qs; is =
-    ap (lines_text options) (sym (append_assoc ps (q ∷ []) qs)) ∙ lines-more options ps q qs }
+added (AsLines options) ps (q ∷ qs) rs ts = record {
+  tail = printed_text options q ++ lines_text options qs;
+  is =
+      ap (lines_text options) (sym (append_assoc ps (q ∷ []) qs)) ∙ lines-more options ps q qs;
+}
 
 -- how far the job comes where all events came
 pub all-course : (ss : List InputPast) (before : List ℕ) (old : JobState) (d : PacketsDecided ss before old) → sequence_of old.inputs.order
     (wholes_of ss) ≡ record { events = d.events; end = Complete } → progress_over old (wholes_of ss) ≡ end_with (progress_of d) Complete
 all-course ss before old d is =
     course-close old.policy (output_form old) (sequence_of old.inputs.order (wholes_of ss)) d.events (progress_of d) Complete
-        (is ∙ ap (λ (l : List Event). record { events = l; end = Complete }) (sym (append-nil d.events))) d.progress refl
+    (is ∙ ap (λ (l : List Event). record { events = l; end = Complete }) (sym (append-nil d.events))) d.progress refl
 
 -- the next answer, in all that would be written
 record InWhole {ss : List InputPast} {before : List ℕ} {old : JobState} (d : PacketsDecided ss before old) (bytes : List ℕ) : Type 0 where
@@ -197,7 +205,7 @@ in-whole ss before old bytes d None answer =
       back = [];
       is = ap (final_text form link) (all-course ss before old d answer.0.is)
           ∙ ap (λ (l : List ℕ). output_text form d.packets d.reports ++ l)
-              (ap (λ (v : JobProgress). closing_text form link v.packets) (sym d.progress) ∙ sym answer.1 ∙ sym (append-nil bytes));
+          (ap (λ (v : JobProgress). closing_text form link v.packets) (sym d.progress) ∙ sym answer.1 ∙ sym (append-nil bytes));
     }
 
 pub stops-at : (ss : List InputPast) (before : List ℕ) (old new : JobState) (bytes : List ℕ) (d : PacketsDecided ss before old) (event : Option Event)

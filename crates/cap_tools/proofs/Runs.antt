@@ -1,15 +1,18 @@
 -- A run of a job, from its first view on, in terms of its call.
-use Rattle.cap_tools.proofs.Common.{◌≡◌, ℕ, Bool, zero, suc, List, [], ◌∷◌, map, Option, None, Some, IsTrue, refl, sym, ◌∙◌, ap, subst, Placed, InputPast,
-    DeviceLimits, FreshInput, fresh_view, nothing_done, device_limits, Writing, target_at, written_to, failures_to, form_to, room_to, failures_by, finish_at,
-    texts, work_of, JobView, Decided, JobGives, StaysDecided, first_job, Policy, IsPolicy, IsWork, form_asked, Call, Content, Assignment, Preparing,
-    ReadsFilter, Compiles, Filter, DecidedBy, PreparesBy, inl, inr, ◌+◌, ◌-◌, ◌<◌, ◌≤◌, arith, false, ◌++◌, length, Ok, add-zero, append-nil, length-map,
-    length-set, slice_get-map, slice_get, option_map, HasGiven, Stops, Fault, Declared, ReadFailsAt, given_in_all, decisive_length, Link, listing, Refusal,
-    fault_message, refusal_message, write_failed_message, refusal_status, OutputView, IsTold, InputView, InputsView, input_after, limits_of, offset_of,
-    offset_at, InputItems, Event, SequenceEnd, Complete, FaultIn, whole_input, RunResult, NoMemory, EndsJob, end_status, end_message, JobEnd, SourceView,
-    JobState, PacketsDecided, CompletesOutput, EndLeaves, EndsByCut, Meets, StopsWriting, WantsMemory, a_packet, all_ends, an_end, output_form, wholes_of,
-    written_by, Outcome, JobProgress, Work, IsNextAnswer, NeedsMemory, cut_at, message, outcome, status, text_after, text_of_progress, name_at, CommandRuns,
-    HasLeft, HasLostOutput, IsWhyRefused, ends, fault_outcome, listing_answer, listing_outcome, of_cut_input, of_events, of_listing, of_packets, of_refusal,
-    output_failed, packets_answer, refusal_outcome, whole_inputs, ListsSome, RefusesStart, drained-text, Turn, MakesStep}
+use Rattle.cap_tools.proofs.Common.{◌≡◌, ℕ, Bool, zero, suc, List, [], ◌∷◌, map, Option, None, Some, IsTrue, refl, sym, ◌∙◌, ap, subst, Placed, InputPast}
+use Rattle.cap_tools.proofs.Common.{DeviceLimits, FreshInput, fresh_view, nothing_done, device_limits, Writing, target_at, written_to, failures_to, form_to}
+use Rattle.cap_tools.proofs.Common.{room_to, failures_by, finish_at, texts, work_of, JobView, Decided, JobGives, StaysDecided, first_job, Policy, IsPolicy}
+use Rattle.cap_tools.proofs.Common.{IsWork, form_asked, Call, Content, Assignment, Preparing, ReadsFilter, Compiles, Filter, DecidedBy, PreparesBy, inl, inr}
+use Rattle.cap_tools.proofs.Common.{◌+◌, ◌-◌, ◌<◌, ◌≤◌, arith, false, ◌++◌, length, Ok, add-zero, append-nil, length-map, length-set, slice_get-map, slice_get}
+use Rattle.cap_tools.proofs.Common.{option_map, HasGiven, Stops, Fault, Declared, ReadFailsAt, given_in_all, decisive_length, Link, listing, Refusal}
+use Rattle.cap_tools.proofs.Common.{fault_message, refusal_message, write_failed_message, refusal_status, OutputView, IsTold, InputView, InputsView}
+use Rattle.cap_tools.proofs.Common.{input_after, limits_of, offset_of, offset_at, InputItems, Event, SequenceEnd, Complete, FaultIn, whole_input, RunResult}
+use Rattle.cap_tools.proofs.Common.{NoMemory, EndsJob, end_status, end_message, JobEnd, SourceView, JobState, PacketsDecided, CompletesOutput, EndLeaves}
+use Rattle.cap_tools.proofs.Common.{EndsByCut, Meets, StopsWriting, WantsMemory, a_packet, all_ends, an_end, output_form, wholes_of, written_by, Outcome}
+use Rattle.cap_tools.proofs.Common.{JobProgress, Work, IsNextAnswer, NeedsMemory, cut_at, message, outcome, status, text_after, text_of_progress, name_at}
+use Rattle.cap_tools.proofs.Common.{CommandRuns, HasLeft, HasLostOutput, IsWhyRefused, ends, fault_outcome, listing_answer, listing_outcome, of_cut_input}
+use Rattle.cap_tools.proofs.Common.{of_events, of_listing, of_packets, of_refusal, output_failed, packets_answer, refusal_outcome, whole_inputs, ListsSome}
+use Rattle.cap_tools.proofs.Common.{RefusesStart, drained-text, Turn, MakesStep}
 use Rattle.cap_inputs.specs.inside.Fresh.{fresh_limits}
 use Rattle.flt_words.specs.declared.fault.ExprFault.{ExprFault}
 use Rattle.flt_bpf.specs.declared.fault.ListingFault.{ListingFault}
@@ -58,10 +61,24 @@ map-map f g (x ∷ xs) = ap (λ l. f (g x) ∷ l) (map-map f g xs)
 pub begins : (asked : Assignment) (call : Call) (policy : Policy) (p : Option Preparing) (programs : List Content) (turns : ℕ) (ended : Option ℕ)
     → IsPolicy asked.preparing asked.policy policy
     → Decided (map nothing_done call.inputs) call.output.written
-        (record { preparing = p; state = record (first_job asked call).state { policy = policy }; programs = programs; err = call.messages; turns =
-        turns; done = ended })
-    → IsUnderWay asked call (record { preparing = p; state = record (first_job asked call).state { policy = policy }; programs = programs; err =
-        call.messages; turns = turns; done = ended })
+    (record {
+      preparing = p;
+      state = record (first_job asked call).state { policy = policy };
+      programs = programs;
+      err = call.messages;
+      turns =
+          turns;
+      done = ended;
+    })
+    → IsUnderWay asked call (record {
+      preparing = p;
+      state = record (first_job asked call).state { policy = policy };
+      programs = programs;
+      err =
+          call.messages;
+      turns = turns;
+      done = ended;
+    })
 begins asked call policy p programs turns ended is decided =
     let output = first-output call.names asked.writing call.output.written call.output.failures call.room in
     record {
@@ -104,16 +121,16 @@ first-more : (output_tells tells : Bool) (asked : Assignment) (call : Call) (new
     → IsTrue output_tells → (p ≡ None → JobGives tells (first_job asked call) Turn.More new) → PreparesBy p output_tells tells (first_job asked call)
     Turn.More new
     → DecidedBy p (map nothing_done call.inputs) call.output.written (first_job asked call) → (p ≡ None → new.state.policy ≡ asked.policy)
-        → new.state.names ≡ call.names → IsUnderWay asked call new
+    → new.state.names ≡ call.names → IsUnderWay asked call new
 first-more output_tells tells asked call new None is to exact prepares d policy names =
     let P : Option Preparing → Type 0 = λ p. IsPolicy p asked.policy asked.policy in
     goes-on asked call tells (first_job asked call) new (begins asked call asked.policy asked.preparing [] 0 None (subst P (sym is) refl) d)
-        (exact refl) (policy refl) names
+    (exact refl) (policy refl) names
 first-more output_tells tells asked call new (Some (ReadsFilter filter)) is to exact read d policy names =
     let P : Option Preparing → Type 0 = λ p. IsPolicy p asked.policy (Filter read.rule filter.count) in
     let J : JobView → Type 0 = λ j. IsUnderWay asked call j in
     subst J (sym read.new_is) (begins asked call (Filter read.rule filter.count) None read.programs 1 None
-        (subst P (sym is) (read.rule, read.is, refl)) (d read.rule read.is read.programs read.made))
+    (subst P (sym is) (read.rule, read.is, refl)) (d read.rule read.is read.programs read.made))
 first-more output_tells tells asked call new (Some (Compiles words link)) is to exact prepares d policy names = absurd (prepares to)
 
 pub under-more : (inputs_tell output_tells tells : Bool) (asked : Assignment) (call : Call) (job new : JobView) → IsTrue inputs_tell
@@ -122,10 +139,10 @@ under-more inputs_tell output_tells tells asked call job new ti to begun step (f
     let P : JobView → Type 0 = λ j. MakesStep inputs_tell output_tells tells j Turn.More new in
     let first = subst P is step in
     goes first.keeps.prepared first.keeps.done (first-more output_tells tells asked call new asked.preparing refl to (first.exact ti to refl)
-        first.prepares begun first.keeps.policy first.keeps.names)
+    first.prepares begun first.keeps.policy first.keeps.names)
 under-more inputs_tell output_tells tells asked call job new ti to begun step (goes prepared undone was) =
     goes step.keeps.prepared step.keeps.done (goes-on asked call tells job new was (step.exact ti to undone prepared) (step.keeps.policy prepared)
-        step.keeps.names)
+    step.keeps.names)
 
 -- where the output failed, it took as many bytes as it has room for
 abbrev pub IsFilled : Call → RunResult → Type 0
@@ -185,7 +202,7 @@ fails-short input old new text done rest declared limits same failed =
     let G : Option ℕ → Type 0 = λ o. HasGiven o (input.given + length done + (decisive_length declared rest - 1)) in
     subst G (sym (ap (λ (l : DeviceLimits). l.sure) limits))
     (given-more old.sure new.given (input.given + length done + (decisive_length declared rest - 1))
-        (omega (arith, failed.few, in_all, ap length same)) failed.enough)
+    (omega (arith, failed.few, in_all, ap length same)) failed.enough)
 
 -- the inputs are as many as before
 same-count : (old new : InputsView) {e : Option Event} → Meets old new e → length new.cursors ≡ length old.cursors
@@ -241,7 +258,7 @@ packets-run asked call job new r filled was ended is_left = by_end ended.end ref
         → HasLeft call (outcome w call.names rs') r
     left rs rs' close same comes says is =
         let whole : outcome w names rs ≡ outcome w call.names rs' = ap (λ (n : List (List ℕ)). outcome w n rs) was.names
-            ∙ ap (λ (l : List InputItems). outcome w call.names l) same in
+        ∙ ap (λ (l : List InputItems). outcome w call.names l) same in
         record {
           output = is_left.written ∙ comes.written ∙ ap (λ (o : Outcome). before ++ o.output) whole;
           failures = is_left.failures ∙ comes.device ∙ was.output;
@@ -280,8 +297,11 @@ packets-run asked call job new r filled was ended is_left = by_end ended.end ref
           fault = fault;
           cut = record { done = cut.cut.done; rest = cut.cut.rest; joined = text_of.same ∙ cut.cut.joined; units = cut.cut.units; ending = cut.cut.ending };
           why = elim cut.why [
-            | inl failed ↦ inl (failed.0, fails-short text_of.from cut.cursor.source after cut.past.text cut.cut.done cut.cut.rest items.declared
-                known text_of.same failed.1)
+            | inl failed ↦ inl (
+              failed.0,
+              fails-short text_of.from cut.cursor.source after cut.past.text cut.cut.done cut.cut.rest items.declared
+                  known text_of.same failed.1,
+            )
             | inr full ↦ inr full
           ];
         }))
@@ -372,8 +392,12 @@ listed-run asked call new r words link filled is lists left =
           ends (listing_outcome lists.prog) (of_listing words link lists.prog is lists.compiled) (record {
             output = left.written ∙ whole.written ∙ ap (λ (l : List ℕ). l ++ bytes) written;
             failures = left.failures ∙ whole.failures ∙ failures;
-            message = subst T (sym quiet) (record { answer = Ok tt; exact = λ te. sym (append-nil call.messages.written); counted =
-                sym (add-zero call.messages.failures) });
+            message = subst T (sym quiet) (record {
+              answer = Ok tt;
+              exact = λ te. sym (append-nil call.messages.written);
+              counted =
+                  sym (add-zero call.messages.failures);
+            });
             quiet = λ none. quiet;
             status = whole.status_is;
           })
@@ -383,7 +407,7 @@ listed-run asked call new r words link filled is lists left =
           let R : List ℕ → Type 0 = λ l. Stops (call.output.written ++ []) bytes l in
           let T : OutputView → Type 0 = λ v. IsTold call.tells call.messages (write_failed_message (name_at call.names (length call.inputs))) v in
           let name : name_at call.names (length (map fresh_view call.inputs)) ≡ name_at call.names (length call.inputs) =
-              ap (name_at call.names) (length-map call.inputs fresh_view) in
+          ap (name_at call.names) (length-map call.inputs fresh_view) in
           output_failed (record {
             written = [];
             bytes = bytes;
@@ -402,11 +426,11 @@ listed-run asked call new r words link filled is lists left =
 first-done : (output_tells : Bool) (asked : Assignment) (call : Call) (new : JobView) (r : RunResult) (p : Option Preparing) → asked.preparing ≡ p
     → IsTrue output_tells → IsFilled call r → (p ≡ None → JobGives call.tells (first_job asked call) (Turn.Done r.status) new)
     → PreparesBy p output_tells call.tells (first_job asked call) (Turn.Done r.status) new → DecidedBy p (map nothing_done call.inputs)
-        call.output.written (first_job asked call) → IsLeft new r → CommandRuns asked call r
+    call.output.written (first_job asked call) → IsLeft new r → CommandRuns asked call r
 first-done output_tells asked call new r None is to filled exact prepares d left =
     let P : Option Preparing → Type 0 = λ p. IsPolicy p asked.policy asked.policy in
     packets-run asked call (first_job asked call) new r filled (begins asked call asked.policy asked.preparing [] 0 None (subst P (sym is) refl) d)
-        (exact refl) left
+    (exact refl) left
 first-done output_tells asked call new r (Some (ReadsFilter filter)) is to filled exact refuses d left =
     let P : Option Preparing → Type 0 = λ p. IsWhyRefused p refuses.refusal in
     refused-run asked call new r refuses.refusal (subst P (sym is) refuses.why) refuses.refuses left

@@ -1,11 +1,12 @@
 -- What a step does to a job, by the parts that it changes. `old` is the job as its invariant has it,
 -- and `now` the same job as contracts see it.
 use Rattle.cap_tools.proofs.{Answers.AnswerLeaves, Answers.answer-leaves, Coming.get-input, CommandStarts.ready-none}
-use Rattle.cap_tools.proofs.Common.{is_none, ◌≡◌, ℕ, ◌+◌, ◌<◌, ◌≤◌, Bool, true, false, IsTrue, List, Captured, Option, None, Some, Result, Ok, Err, ◌&&◌, refl,
-    sym, ◌∙◌, ap, arith, subst, All, Fault, InputView, InputsView, InputPast, IsInput, IsNext, IsSound, MarksDecided, ReadSteps, ReadsInput, steps_left,
-    next-is-of, is_clean_end, input_after_decided, with_cursor, Policy, SelectorView, policy_state, GrowsByOne, HasFewMarks, HavePrograms, Spends, IsStep,
-    JobEnd, JobState, JobView, PacketsDecided, StepGives, StepLeaves, state_at, asks_report, end_after, sieve, DecidesPacket, StepReads, reads_on, decides_one,
-    leaves_one, is_fault, IsPaid, IsSmall, Target, HasFewOutputInterfaces, room_by, room_to, Next}
+use Rattle.cap_tools.proofs.Common.{is_none, ◌≡◌, ℕ, ◌+◌, ◌<◌, ◌≤◌, Bool, true, false, IsTrue, List, Captured, Option, None, Some, Result, Ok, Err, ◌&&◌, refl}
+use Rattle.cap_tools.proofs.Common.{sym, ◌∙◌, ap, arith, subst, All, Fault, InputView, InputsView, InputPast, IsInput, IsNext, IsSound, MarksDecided, ReadSteps}
+use Rattle.cap_tools.proofs.Common.{ReadsInput, steps_left, next-is-of, is_clean_end, input_after_decided, with_cursor, Policy, SelectorView, policy_state}
+use Rattle.cap_tools.proofs.Common.{GrowsByOne, HasFewMarks, HavePrograms, Spends, IsStep, JobEnd, JobState, JobView, PacketsDecided, StepGives, StepLeaves}
+use Rattle.cap_tools.proofs.Common.{state_at, asks_report, end_after, sieve, DecidesPacket, StepReads, reads_on, decides_one, leaves_one, is_fault, IsPaid}
+use Rattle.cap_tools.proofs.Common.{IsSmall, Target, HasFewOutputInterfaces, room_by, room_to, Next}
 use Rattle.cap_tools.proofs.Fetches.{Follows, among-same, read_input-leaves}
 use Rattle.cap_tools.proofs.Lefts.{counted-kept, few-kept, Goes, decided-on, read-on}
 use Rattle.cap_tools.proofs.Weights.{is-light, mark_decided-small, read_input-small}
@@ -57,7 +58,7 @@ pub step-of : (inputs_tell output_tells : Bool) (old now : JobView) (r : Option 
     (output : Target) (decided : ℕ) (done : Option ℕ) → old ≡ now → Keeps old selector output → All IsSmall inputs.cursors
     → (r ≡ None → Moves old.state.inputs inputs) → (r ≡ None → done ≡ old.done)
     → (IsTrue inputs_tell → IsTrue output_tells → StepGives old.state r (state_at old.state.names inputs selector output decided))
-        → StepReads inputs_tell (is_none r) old (with_parts old inputs selector output decided done)
+    → StepReads inputs_tell (is_none r) old (with_parts old inputs selector output decided done)
     → IsStep inputs_tell output_tells now r (with_parts old inputs selector output decided done)
 step-of inputs_tell output_tells old now r inputs selector output decided done is keeps small moves ends exact reads =
     let P : JobView → Type 0 = λ v. IsStep inputs_tell output_tells v r (with_parts old inputs selector output decided done) in
@@ -98,9 +99,9 @@ fault-ends (Some end) a goes on = (cc)
 pub read-step : (inputs_tell output_tells : Bool) (old now : JobView) (i : ℕ) (inputs : InputsView) (answer a : Result Bool Fault) (r : Option JobEnd)
     (selector : SelectorView) (output : Target) (done : Option ℕ) → old ≡ now → IsSound old → IsNext now.state.inputs (Next.Read i)
     → answer ≡ a → ReadSteps old.state.inputs i answer inputs → (IsTrue inputs_tell → ReadsInput old.state.inputs i answer inputs)
-        → Keeps old selector output → selector.programs ≡ old.programs → (r ≡ None → Goes a) → (r ≡ None → done ≡ old.done)
+    → Keeps old selector output → selector.programs ≡ old.programs → (r ≡ None → Goes a) → (r ≡ None → done ≡ old.done)
     → ((is_clean_end a && asks_report old.state.inputs.order old.state.policy) ≡ false → output ≡ old.state.output)
-        → (IsTrue output_tells → Follows a old.state.names inputs i (policy_state (selector_of old)) old.state.output r (policy_state selector) output)
+    → (IsTrue output_tells → Follows a old.state.names inputs i (policy_state (selector_of old)) old.state.output r (policy_state selector) output)
     → IsStep inputs_tell output_tells now r (with_parts old inputs selector output old.state.decided done)
 read-step inputs_tell output_tells old now i inputs answer a r selector output done is sound comes found steps exact keeps programs goes ends kept follows =
     let m : JobState = old.state in
@@ -110,14 +111,26 @@ read-step inputs_tell output_tells old now i inputs answer a r selector output d
     let stepped : ReadSteps m.inputs i a inputs = subst S found steps in
     let read : IsTrue inputs_tell → ReadsInput m.inputs i a inputs = λ ti. subst R found (exact ti) in
     step-of inputs_tell output_tells old now r inputs selector output m.decided done is keeps (read_input-small m.inputs inputs i a stepped sound.1.0)
-        (λ more. reads-move old now i inputs a a is sound comes refl stepped (goes more)) ends
+    (λ more. reads-move old now i inputs a a is sound comes refl stepped (goes more)) ends
     (λ ti to ss before d.
-    let K : Policy → Type 0 = λ k. StepLeaves d r (record { names = m.names; inputs = inputs; policy = k; state = selector.state; output = output;
-        decided = m.decided }) in
+    let K : Policy → Type 0 = λ k. StepLeaves d r (record {
+      names = m.names;
+      inputs = inputs;
+      policy = k;
+      state = selector.state;
+      output = output;
+      decided = m.decided;
+    }) in
     subst K (sym keeps.policy) (read_input-leaves ss before m.inputs.cursors m.inputs.order m.policy m.state m.names m.output m.decided i a inputs r
-        (policy_state selector) output tells (read ti) d (follows to)))
-    (reads_on i a (fault-ends r a goes) (record { next = next-is-of m.inputs (Next.Read i) tells; fetches = stepped; exact = read; decided = refl;
-        programs = programs; output = kept }))
+    (policy_state selector) output tells (read ti) d (follows to)))
+    (reads_on i a (fault-ends r a goes) (record {
+      next = next-is-of m.inputs (Next.Read i) tells;
+      fetches = stepped;
+      exact = read;
+      decided = refl;
+      programs = programs;
+      output = kept;
+    }))
 
 -- ---- the current packet of an input is decided, or can't be
 
@@ -159,22 +172,29 @@ pub record Judged (output_tells : Bool) (old now : JobView) (i : ℕ) (cursor : 
   pub counted : GrowsByOne old.state.state.tally selector.state.tally
   pub exact : IsTrue output_tells → old.state.state.passed < old.state.decided + 1 → FitsTally old.state.state.tally
       → DecidesPacket cursor.source.packet i (old.state.decided + 1) (sieve (policy_state (selector_of old)) old.state.output) r
-          (sieve (policy_state selector) output)
+      (sieve (policy_state selector) output)
 
 leaves : (output_tells : Bool) (old now : JobView) (i : ℕ) (cursor : InputView) (r : Result code.Verdict JobEnd) (selector : SelectorView)
     (output : Target) → Judged output_tells old now i cursor r selector output → IsTrue output_tells → (ss : List InputPast) (before : List ℕ)
     (d : PacketsDecided ss before old.state)
     → AnswerLeaves d r (state_at old.state.names (with_cursor old.state.inputs i (input_after_decided cursor)) selector output
-        (old.state.decided + 1)) (state_at old.state.names old.state.inputs selector output old.state.decided)
+    (old.state.decided + 1)) (state_at old.state.names old.state.inputs selector output old.state.decided)
 leaves output_tells old now i cursor r selector output j to ss before d =
     let m : JobState = old.state in
     let most = j.sound.0 in
-    let K : Policy → Type 0 = λ k. AnswerLeaves d r (record { names = m.names; inputs = with_cursor m.inputs i (input_after_decided cursor); policy =
-        k; state = selector.state; output = output; decided = m.decided + 1 })
-        (record { names = m.names; inputs = m.inputs; policy = k; state = selector.state; output = output; decided = m.decided }) in
+    let K : Policy → Type 0 = λ k. AnswerLeaves d r (record {
+      names = m.names;
+      inputs = with_cursor m.inputs i (input_after_decided cursor);
+      policy =
+          k;
+      state = selector.state;
+      output = output;
+      decided = m.decided + 1;
+    })
+    (record { names = m.names; inputs = m.inputs; policy = k; state = selector.state; output = output; decided = m.decided }) in
     subst K (sym j.keeps.policy)
     (answer-leaves ss before m.inputs.cursors m.inputs.order m.policy m.state m.names m.output m.decided i r cursor (policy_state selector) output
-        (told old now (Next.Decide i) j.is j.comes) j.among j.keeps.policy j.passed j.counted (omega (arith, most)) (j.exact to) d)
+    (told old now (Next.Decide i) j.is j.comes) j.among j.keeps.policy j.passed j.counted (omega (arith, most)) (j.exact to) d)
 
 pub decided-step : (inputs_tell output_tells : Bool) (old now : JobView) (i : ℕ) (cursor : InputView) (inputs : InputsView) (verdict : code.Verdict)
     (selector : SelectorView) (output : Target) → Judged output_tells old now i cursor (Ok verdict) selector output → MarksDecided old.state.inputs i inputs
@@ -185,19 +205,19 @@ decided-step inputs_tell output_tells old now i cursor inputs verdict selector o
     let inputs_is : inputs ≡ after cursor = marks.is ∙ ap after (sym (among-same m.inputs.cursors i cursor marks.cursor j.among marks.among)) in
     let moves = decides-move old now i inputs j.is j.sound j.comes marks in
     step-of inputs_tell output_tells old now (end_after verdict) inputs selector output (m.decided + 1) old.done j.is j.keeps moves.small
-        (λ more. moves) (λ more. refl)
+    (λ more. moves) (λ more. refl)
     (λ ti to ss before d.
     let F : InputsView → Type 0 = λ f. StepLeaves d (end_after verdict) (state_at m.names f selector output (m.decided + 1)) in
     subst F (sym inputs_is) (leaves output_tells old now i cursor (Ok verdict) selector output j to ss before d))
     (decides_one i (judges-one old i cursor inputs selector output (m.decided + 1) old.done (told old now (Next.Decide i) j.is j.comes) j.among
-        j.spends) marks refl)
+    j.spends) marks refl)
 
 pub failed-step : (inputs_tell output_tells : Bool) (old now : JobView) (i : ℕ) (cursor : InputView) (end : JobEnd) (selector : SelectorView)
     (output : Target) → Judged output_tells old now i cursor (Err end) selector output
     → IsStep inputs_tell output_tells now (Some end) (with_parts old old.state.inputs selector output old.state.decided old.done)
 failed-step inputs_tell output_tells old now i cursor end selector output j =
     step-of inputs_tell output_tells old now (Some end) old.state.inputs selector output old.state.decided old.done j.is j.keeps j.sound.1.0
-        (λ more. (cc)) (λ more. refl)
+    (λ more. (cc)) (λ more. refl)
     (λ ti to ss before d. leaves output_tells old now i cursor (Err end) selector output j to ss before d)
     (leaves_one i refl (judges-one old i cursor old.state.inputs selector output old.state.decided old.done
-        (told old now (Next.Decide i) j.is j.comes) j.among j.spends) refl refl)
+    (told old now (Next.Decide i) j.is j.comes) j.among j.spends) refl refl)

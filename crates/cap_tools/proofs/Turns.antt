@@ -1,8 +1,9 @@
 -- A turn of the loop: one step, or two.
-use Rattle.cap_tools.proofs.Common.{◌≡◌, ◌⊎◌, inl, inr, ℕ, ◌+◌, ◌<◌, ◌≤◌, Bool, true, false, List, Option, None, Some, IsTrue, refl, sym, ◌∙◌, ap, arith, subst,
-    OutputView, IsTold, InputsView, steps_left, next-is-of, Call, RunResult, CommandRuns, Assignment, JobEnd, JobState, StepGives, EndsJob, HavePrograms,
-    Preparing, JobView, Turn, end_message, end_status, room_by, PreparesBy, StepReads, StepReadsBy, IsLight, reads_nothing, most_turns, HasFewTurns, IsCounted,
-    IsSound, IsStep, ending, IsNext, next_of, Next, MakesStep, is_read, makes, rests}
+use Rattle.cap_tools.proofs.Common.{◌≡◌, ◌⊎◌, inl, inr, ℕ, ◌+◌, ◌<◌, ◌≤◌, Bool, true, false, List, Option, None, Some, IsTrue, refl, sym, ◌∙◌, ap, arith, subst}
+use Rattle.cap_tools.proofs.Common.{OutputView, IsTold, InputsView, steps_left, next-is-of, Call, RunResult, CommandRuns, Assignment, JobEnd, JobState}
+use Rattle.cap_tools.proofs.Common.{StepGives, EndsJob, HavePrograms, Preparing, JobView, Turn, end_message, end_status, room_by, PreparesBy, StepReads}
+use Rattle.cap_tools.proofs.Common.{StepReadsBy, IsLight, reads_nothing, most_turns, HasFewTurns, IsCounted, IsSound, IsStep, ending, IsNext, next_of, Next}
+use Rattle.cap_tools.proofs.Common.{MakesStep, is_read, makes, rests}
 use Rattle.cap_tools.proofs.Lefts.{reads-kept}
 use Rattle.cap_tools.proofs.Runs.{IsFilled, IsLeft, under-done, Begun, Under, under-more}
 use Rattle.cap_tools.proofs.Weights.{is-light}
@@ -49,12 +50,19 @@ reads-prepared tells goes old new prepared reads =
 
 pub counted-more : (inputs_tell output_tells tells : Bool) (old mid : JobView) → IsUncounted inputs_tell output_tells old None mid
     → MakesStep inputs_tell output_tells tells old Turn.More
-        (record { preparing = mid.preparing; state = mid.state; programs = mid.programs; err = mid.err; turns = mid.turns + 1; done = mid.done })
+    (record { preparing = mid.preparing; state = mid.state; programs = mid.programs; err = mid.err; turns = mid.turns + 1; done = mid.done })
 counted-more inputs_tell output_tells tells old mid is =
     let step = is.step in
     let none : mid.preparing ≡ None = step.preparing ∙ is.prepared in
-    let new : JobView = record { preparing = mid.preparing; state = mid.state; programs = mid.programs; err = mid.err; turns = mid.turns + 1; done =
-        mid.done } in
+    let new : JobView = record {
+      preparing = mid.preparing;
+      state = mid.state;
+      programs = mid.programs;
+      err = mid.err;
+      turns = mid.turns + 1;
+      done =
+          mid.done;
+    } in
     record {
       after = λ status some. absurd (let both = sym is.undone ∙ some in cc both);
       exact = λ ti to undone prepared. (step.err, λ ss before d. record { goes = step.exact ti to ss before d.packets; programs = step.sound });
@@ -92,7 +100,7 @@ clean-status JobEnd.OutputFailed is = (cc)
 step-ends : (inputs_tell output_tells tells : Bool) (old mid new : JobView) (e : JobEnd) → IsTrue inputs_tell → IsTrue output_tells
     → IsStep inputs_tell output_tells old (Some e) mid → new ≡ ending e new.err mid
     → IsTold tells mid.err (end_message mid.state.names mid.state.inputs.cursors e) new.err → (e ≡ JobEnd.Complete → new.err ≡ mid.err)
-        → EndsJob tells old (end_status e) new
+    → EndsJob tells old (end_status e) new
 step-ends inputs_tell output_tells tells old mid new e ti to step is exact quiet =
     let M : JobState → Type 0 = λ m. StepGives old.state (Some e) m in
     let N : List (List ℕ) → Type 0 = λ l. IsTold tells mid.err (end_message l mid.state.inputs.cursors e) new.err in
@@ -110,7 +118,7 @@ step-ends inputs_tell output_tells tells old mid new e ti to step is exact quiet
 pub counted-end : (inputs_tell output_tells tells : Bool) (old mid new : JobView) (e : JobEnd) → IsUncounted inputs_tell output_tells old (Some e) mid
     → new ≡ ending e new.err mid
     → IsTold tells mid.err (end_message mid.state.names mid.state.inputs.cursors e) new.err → (e ≡ JobEnd.Complete → new.err ≡ mid.err)
-        → MakesStep inputs_tell output_tells tells old (Turn.Done (end_status e)) new
+    → MakesStep inputs_tell output_tells tells old (Turn.Done (end_status e)) new
 counted-end inputs_tell output_tells tells old mid new e is new_is told quiet =
     let step = is.step in
     let L : JobView → Type 0 = λ j. IsLight j.state in
@@ -217,7 +225,7 @@ steps-more inputs_tell output_tells tells asked call job new ti to begun (one_st
     job new ti to begun step under
 steps-more inputs_tell output_tells tells asked call job new ti to begun (two_steps between step then) under =
     under-more inputs_tell output_tells tells asked call between new ti to begun then
-        (under-more inputs_tell output_tells tells asked call job between ti to begun step under)
+    (under-more inputs_tell output_tells tells asked call job between ti to begun step under)
 
 pub steps-done : (inputs_tell output_tells : Bool) (asked : Assignment) (call : Call) (job new : JobView) (r : RunResult) → IsTrue inputs_tell
     → IsTrue output_tells → Begun asked call → IsFilled call r → MakesSteps inputs_tell output_tells call.tells job (Turn.Done r.status) new
@@ -226,7 +234,7 @@ steps-done inputs_tell output_tells asked call job new r ti to begun filled (one
     call job new r ti to begun filled step left under
 steps-done inputs_tell output_tells asked call job new r ti to begun filled (two_steps between step then) left under =
     under-done inputs_tell output_tells asked call between new r ti to begun filled then left
-        (under-more inputs_tell output_tells call.tells asked call job between ti to begun step under)
+    (under-more inputs_tell output_tells call.tells asked call job between ti to begun step under)
 
 pub steps-room : (inputs_tell output_tells tells : Bool) (old : JobView) (r : Turn) (new : JobView) → MakesSteps inputs_tell output_tells tells old r
     new → room_by new.state ≡ room_by old.state

@@ -1,6 +1,6 @@
 -- Words that clap takes enter a subcommand, since the line requires one.
-use Rattle.capkit.proofs.Common.{◌≡◌, ◌∙◌, ap, sym, refl, subst, Bool, true, false, List, [], ◌∷◌, Option, Some, None, ◌&&◌, is_some, not, find, if◌then◌else◌,
-    option_map, Box, list_any, ArgMatches, subcommand_name_of, subcommand_rows_of, TakesWords, line_app, name_of, Asks, Subcommand}
+use Rattle.capkit.proofs.Common.{◌≡◌, ◌∙◌, ap, sym, refl, subst, Bool, true, false, List, [], ◌∷◌, Option, Some, None, ◌&&◌, is_some, not, find, if◌then◌else◌}
+use Rattle.capkit.proofs.Common.{option_map, Box, list_any, ArgMatches, subcommand_name_of, subcommand_rows_of, TakesWords, line_app, name_of, Asks, Subcommand}
 use Rattle.std.specs.Box.{box_value}
 use Rattle.clap.specs.Facts.{explicit_source}
 use Rattle.clap.specs.Faults.{built_fault, check_fault, defaults_fault, entered_fault, level_fault, settle_fault, walk_fault}

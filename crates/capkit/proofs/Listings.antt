@@ -22,7 +22,7 @@ pub listed : (c : Command Global) (bytes : Vec ℕ) (inputs : ℕ) → (is_prope
     inputs ≡ true
 listed (Command.Print print) bytes inputs is =
     no-words (nat_eq inputs 1) (has_at_most_one_filter (string_bytes print.expr) print.code)
-        (has_at_most_one_output print.link print.bytes print.write && option_map_or is_at_least_one print.count true) (length (string_bytes print.expr)) is
+    (has_at_most_one_output print.link print.bytes print.write && option_map_or is_at_least_one print.count true) (length (string_bytes print.expr)) is
 listed (Command.Edit edit) bytes inputs is = both _ _ is
 listed (Command.Merge merge) bytes inputs is = both _ _ is
 listed Command.Infos bytes inputs is = both _ _ is

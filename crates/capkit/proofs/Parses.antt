@@ -1,7 +1,7 @@
 -- What a parse of the command line gives and refuses.
-use Rattle.capkit.proofs.Common.{◌≡◌, ◌∙◌, ap, sym, subst, true, List, Result, Ok, Err, IfOk, IfErr, map, refl, inl, App, FailsBy, HasKind, HasMatchesOf, Text,
-    fault_of, is_simple, is_simple_and_free, kind_of, subcommand_of, subcommand_rows_of, takes, AreChoices, RefusesWords, TakesWords, format_names, line_app,
-    link_names}
+use Rattle.capkit.proofs.Common.{◌≡◌, ◌∙◌, ap, sym, subst, true, List, Result, Ok, Err, IfOk, IfErr, map, refl, inl, App, FailsBy, HasKind, HasMatchesOf, Text}
+use Rattle.capkit.proofs.Common.{fault_of, is_simple, is_simple_and_free, kind_of, subcommand_of, subcommand_rows_of, takes, AreChoices, RefusesWords}
+use Rattle.capkit.proofs.Common.{TakesWords, format_names, line_app, link_names}
 use Rattle.clap.specs.declared.{builder.value_parser.ValueParser.ValueParser, error.Error.Error}
 use Rattle.clap.specs.declared.{error.kind.ErrorKind.TheVariants.OutOfMemory, parser.matches.ArgMatches.ArgMatches}
 use Rattle.cap_octet.specs.{Format.all_formats, Link.all_links}

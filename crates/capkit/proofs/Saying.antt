@@ -1,8 +1,8 @@
 -- What a line says of the words.
-use Rattle.capkit.proofs.Common.{◌≡◌, inl, inr, refl, List, Some, None, Result, Ok, Err, IfOk, IfErr, OnOk, Bool, true, false, length, [], ◌∷◌, if◌then◌else◌,
-    is_none, nat_lt, list_any, Row, Text, first_of, most_inputs, most_ranges, Asks, IsUsageOf, IsLineOf, SaysFault, SaysLine, fault_in, files_in, has_bad_time,
-    has_exclusion, has_two_shifts, or_else, read_names, text_in, texts_in, uses_name_twice, range_of, Subcommand, Line, Usage, BadRange, BadTime, Memory,
-    NameUsedTwice, OptionsExclude, Refused, TooManyValues}
+use Rattle.capkit.proofs.Common.{◌≡◌, inl, inr, refl, List, Some, None, Result, Ok, Err, IfOk, IfErr, OnOk, Bool, true, false, length, [], ◌∷◌, if◌then◌else◌}
+use Rattle.capkit.proofs.Common.{is_none, nat_lt, list_any, Row, Text, first_of, most_inputs, most_ranges, Asks, IsUsageOf, IsLineOf, SaysFault, SaysLine}
+use Rattle.capkit.proofs.Common.{fault_in, files_in, has_bad_time, has_exclusion, has_two_shifts, or_else, read_names, text_in, texts_in, uses_name_twice}
+use Rattle.capkit.proofs.Common.{range_of, Subcommand, Line, Usage, BadRange, BadTime, Memory, NameUsedTwice, OptionsExclude, Refused, TooManyValues}
 use Rattle.clap.specs.declared.error.Error.{Error}
 use Rattle.capkit.specs.declared.ids.TheConstants as ids
 use Rattle.capkit.specs.declared.arguments.Subcommand.TheVariants as sub
@@ -33,7 +33,7 @@ not_refused sub.Edit matches e same =
     (uses_name_twice (text_in ids.IN.now matches ∷ []) (Some (text_in ids.OUT.now matches))) e same
 not_refused sub.Merge matches e same =
     other_or_name TooManyValues (nat_lt most_inputs (length (files_in matches)))
-        (uses_name_twice (files_in matches) (Some (text_in ids.OUT.now matches))) e (λ is. cc) same
+    (uses_name_twice (files_in matches) (Some (text_in ids.OUT.now matches))) e (λ is. cc) same
 not_refused sub.Infos matches e same =
     other_or_name TooManyValues (nat_lt most_inputs (length (files_in matches))) (uses_name_twice (files_in matches) None) e (λ is. cc) same
 not_refused sub.Print matches e same =

@@ -1,9 +1,10 @@
 -- The unit that a text begins with, from the record or the block that it is.
-use Rattle.capkit_c.proofs.Common.{◌≡◌, ℕ, ◌+◌, ◌-◌, ◌<◌, ◌≤◌, List, [], ◌∷◌, ◌++◌, length, take, drop, Option, Some, None, Ok, refl, sym, ap, ◌∙◌, subst,
-    arith, slice_get, option_map, drop-take, length-take-le, take-append-drop, take-take, checked, Captured, Order, checked_ok, Head, RecordHead, record_fault,
-    record_header_in, record_size, record_packet, record_header_in-append, is_section, Described, Section, packet_of, packets_in, parts_after, LieAsSaid,
-    section_of, Declared, Nothing, PcapFile, PcapngFile, IsUnit, Whole, a_block, a_first_block, file_after, first_link_after, front_of, is_pcapng, Following,
-    BlockStands, IsNoBlock, IsOfIfAny, spans_of, declared_by, ArePlaced, Begins, IsNoUnit, BeginsWithUnit, UnitPacket, Refusal, FileState, Interface}
+use Rattle.capkit_c.proofs.Common.{◌≡◌, ℕ, ◌+◌, ◌-◌, ◌<◌, ◌≤◌, List, [], ◌∷◌, ◌++◌, length, take, drop, Option, Some, None, Ok, refl, sym, ap, ◌∙◌, subst}
+use Rattle.capkit_c.proofs.Common.{arith, slice_get, option_map, drop-take, length-take-le, take-append-drop, take-take, checked, Captured, Order, checked_ok}
+use Rattle.capkit_c.proofs.Common.{Head, RecordHead, record_fault, record_header_in, record_size, record_packet, record_header_in-append, is_section, Described}
+use Rattle.capkit_c.proofs.Common.{Section, packet_of, packets_in, parts_after, LieAsSaid, section_of, Declared, Nothing, PcapFile, PcapngFile, IsUnit, Whole}
+use Rattle.capkit_c.proofs.Common.{a_block, a_first_block, file_after, first_link_after, front_of, is_pcapng, Following, BlockStands, IsNoBlock, IsOfIfAny}
+use Rattle.capkit_c.proofs.Common.{spans_of, declared_by, ArePlaced, Begins, IsNoUnit, BeginsWithUnit, UnitPacket, Refusal, FileState, Interface}
 use Rattle.cap_pcap.proofs.Records.{passes}
 use Rattle.cap_pcapng.specs.Comment.{comment_in}
 use Rattle.cap_io.proofs.CapturesCame.{first-packets, section-kept}
@@ -26,7 +27,7 @@ pub part_within : (text : List ℕ) (size start count : ℕ) → start + count �
 part_within text size start count fits =
     let whole : size ≡ start + (size - start) = omega arith in
     ap (λ n. take count (drop start (take n text))) whole ∙ ap (take count) (drop-take start (size - start) text) ∙ take-take count (size - start)
-        (drop start text) (omega (arith, fits))
+    (drop start text) (omega (arith, fits))
 
 -- ---- a record
 
@@ -46,7 +47,7 @@ record_placed head found = record {
 pub record_stands : (head : Head) (text : List ℕ) (found : RecordHead) (known : List Described) (table : List Interface) (count : ℕ)
     → Ok found ≡ checked (record_fault head text) (record_header_in head text) → count ≤ length table → count ≤ 256
     → BeginsWithUnit (form.Pcap head) known text table
-        (record { size = 16 + found.captured; form = form.Pcap head; interfaces = count; packet = Some (record_placed head found) })
+    (record { size = 16 + found.captured; form = form.Pcap head; interfaces = count; packet = Some (record_placed head found) })
 record_stands head text found known table count is fits upper_bound =
     let e = checked_ok (record_fault head text) (record_header_in head text) found (sym is) in
     let size : record_size head text ≡ 16 + found.captured = ap (λ (r : RecordHead). 16 + r.captured) e.1 in
@@ -95,9 +96,9 @@ exact f found i x is e = let same : option_map f found ≡ Some (f i) = ap (opti
 pub block_front : (declared : Declared) (first : Option ℕ) (before : Option Section) (text : List ℕ) (order : Order) (size : ℕ)
     (interfaces' : List Described) (packet : Option UnitPacket)
     → BlockStands before text order size interfaces' packet → IsUnit declared (take size text) (packets_in before (take size text))
-        (file_after first before (take size text))
+    (file_after first before (take size text))
     → front_of declared text ≡ Whole size (packets_in before (take size text)) (PcapngFile (first_link_after first (section_of order interfaces'))
-        (section_of order interfaces'))
+    (section_of order interfaces'))
 block_front declared first before text order size interfaces' packet b unit =
     ap (front_of declared) (sym (take-append-drop size text)) ∙ front_of-unit unit (drop size text)
     ∙ ap (λ n. Whole n (packets_in before (take size text)) (file_after first before (take size text))) (length-take-le size text b.there)
@@ -113,7 +114,7 @@ placed_after section link text order size interfaces' (Some p) b of =
     let same : interfaces' ≡ section.interfaces = ap (λ (s : Section). s.interfaces) kept in
     let l = lent (slice_get section.interfaces p.interface) p.time p.orig _ _ c.packet c.lies in
     let named : option_map (λ (i : Described). i.name) (slice_get section.interfaces p.interface) ≡ Some l.0.name =
-        ap (option_map (λ (i : Described). i.name)) l.1 in
+    ap (option_map (λ (i : Described). i.name)) l.1 in
     let is = l.2 in (
       c.packet,
       c.stands,
@@ -150,7 +151,7 @@ pub record BlockUnit (declared : Declared) (first : Option ℕ) (text : List ℕ
 pub block_unit : (f : FileState) (section : Option Order) (first : Option ℕ) (interfaces : List Described) (text : List ℕ) (order : Order) (size : ℕ)
     (interfaces' : List Described) (packet : Option UnitPacket)
     → Begins f section first interfaces text → Following section interfaces (λ before. BlockStands before text order size interfaces' packet)
-        → IsOfIfAny interfaces packet
+    → IsOfIfAny interfaces packet
     → BlockUnit (declared_by f interfaces) first text order size interfaces' packet
 block_unit form.Unknown section first interfaces text order size interfaces' packet begins stands of =
     let b = stands None (sym begins.0) (sym begins.2) in
@@ -184,7 +185,7 @@ no_unit form.Unknown section first interfaces text room (refusal.Fault fault) be
 no_unit (form.Pcap head) section first interfaces text room (refusal.Fault fault) begins r = absurd begins
 no_unit (form.Pcapng own link) section first interfaces text room (refusal.Fault fault) begins r =
     front_of-following link (section_of own interfaces) text begins.2 ∙ front_of_block-none link (Some (section_of own interfaces)) text fault
-        (r (Some (section_of own interfaces)) (sym begins.0) refl)
+    (r (Some (section_of own interfaces)) (sym begins.0) refl)
 no_unit form.Unknown section first interfaces text room refusal.NoRoom begins r =
     let d = r.1 None (sym begins.0) (sym begins.2) in
     let b = d.stands in (
@@ -196,7 +197,7 @@ no_unit form.Unknown section first interfaces text room refusal.NoRoom begins r 
         interface = d.interface;
         front = block_front Nothing None None text d.order d.size (interfaces ++ d.interface ∷ []) None b (a_first_block (take d.size text) b.is_block)
             ∙ ap (λ qs. Whole d.size qs (PcapngFile (first_link_after None (section_of d.order (interfaces ++ d.interface ∷ [])))
-                (section_of d.order (interfaces ++ d.interface ∷ [])))) b.carries;
+            (section_of d.order (interfaces ++ d.interface ∷ [])))) b.carries;
         more = refl;
       },
     )
@@ -213,7 +214,7 @@ no_unit (form.Pcapng own link) section first interfaces text room refusal.NoRoom
         front = block_front (PcapngFile link (section_of own interfaces)) link (Some (section_of own interfaces)) text d.order d.size
             (interfaces ++ d.interface ∷ []) None b (a_block link (section_of own interfaces) (take d.size text) b.is_block)
             ∙ ap (λ qs. Whole d.size qs (PcapngFile (first_link_after link (section_of d.order (interfaces ++ d.interface ∷ [])))
-                (section_of d.order (interfaces ++ d.interface ∷ [])))) b.carries;
+            (section_of d.order (interfaces ++ d.interface ∷ [])))) b.carries;
         more = refl;
       },
     )

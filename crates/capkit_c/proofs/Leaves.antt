@@ -1,8 +1,9 @@
 -- What reading the unit at a reader's place leaves.
-use Rattle.capkit_c.proofs.Common.{◌≡◌, ℕ, ◌+◌, ◌-◌, ◌<◌, ◌≤◌, List, [], length, take, drop, Option, Some, None, refl, sym, ap, ◌∙◌, subst, arith, min,
-    drop-drop, length-drop, Captured, Fault, Declared, NoUnit, Whole, first_link_of, front_of, declared_by, Described, HasLink, declared_in, first_interfaces,
-    reader_form, most_known, IsPastUnit, IsPacketFound, NextLeaves, Stays, comment_by, ends, fails, finds, is_full, passes, spans_of, ArePlaced, Counts,
-    IsNoUnit, IsAtEnd, IsPlaced, BeginsWithUnit, placed_packet, UnitPacket, FileState, Interface, Packet, Reader}
+use Rattle.capkit_c.proofs.Common.{◌≡◌, ℕ, ◌+◌, ◌-◌, ◌<◌, ◌≤◌, List, [], length, take, drop, Option, Some, None, refl, sym, ap, ◌∙◌, subst, arith, min}
+use Rattle.capkit_c.proofs.Common.{drop-drop, length-drop, Captured, Fault, Declared, NoUnit, Whole, first_link_of, front_of, declared_by, Described, HasLink}
+use Rattle.capkit_c.proofs.Common.{declared_in, first_interfaces, reader_form, most_known, IsPastUnit, IsPacketFound, NextLeaves, Stays, comment_by, ends}
+use Rattle.capkit_c.proofs.Common.{fails, finds, is_full, passes, spans_of, ArePlaced, Counts, IsNoUnit, IsAtEnd, IsPlaced, BeginsWithUnit, placed_packet}
+use Rattle.capkit_c.proofs.Common.{UnitPacket, FileState, Interface, Packet, Reader}
 use Rattle.capkit_c.specs.declared.memory.{block.Refusal.Refusal, reader.Found.Found, reader.ReadUnit.ReadUnit}
 use Rattle.cap_io.specs.declared.file_state.FileState.TheVariants as form
 
@@ -17,7 +18,7 @@ declared_as form.Unknown r table count is counts = ap (λ g. declared_by g (firs
 declared_as (form.Pcap head) r table count is counts = ap (λ g. declared_by g (first_interfaces (most_known r (length table)) table)) is
 declared_as (form.Pcapng order link) r table count is counts =
     ap (λ n. declared_by (form.Pcapng order link) (first_interfaces n table)) counts
-        ∙ ap (λ g. declared_by g (first_interfaces (most_known r (length table)) table)) is
+    ∙ ap (λ g. declared_by g (first_interfaces (most_known r (length table)) table)) is
 
 most_is : (r : Reader) (table : List Interface) (count : ℕ) → r.interfaces ≡ count → count ≤ length table → count ≤ 256 → most_known r (length table) ≡ count
 most_is r table count counts fits upper_bound =
@@ -52,7 +53,7 @@ is_after capture size r r' t' f count offset there some form' link counts fits u
     let P : Option ℕ → Type 0 = λ first. HasLink first r' in
     let known : first_link_of (declared_by f []) ≡ first_link_of (declared_in r' t') =
     first_known f (first_interfaces (most_known r' (length t')) t')
-        ∙ ap (λ g. first_link_of (declared_by g (first_interfaces (most_known r' (length t')) t'))) (sym form') in
+    ∙ ap (λ g. first_link_of (declared_by g (first_interfaces (most_known r' (length t')) t'))) (sym form') in
     record { offset = offset; there = there; some = some; link = subst P known link; counted = counts ∙ sym (most_is r' t' count counts fits upper_bound) }
 
 read : (capture text : List ℕ) (r r' : Reader) (t t' : List Interface) (f : FileState) (count : ℕ) (s : ReadUnit) → f ≡ reader_form r
@@ -75,14 +76,14 @@ read capture text r r' t t' f count s is counts same steps form' interfaces' =
 pub passed : (capture text : List ℕ) (r r' : Reader) (t t' : List Interface) (p : Packet) (f : FileState) (count : ℕ) (s : ReadUnit)
     → f ≡ reader_form r → Counts f r (length t) count → text ≡ drop r.offset capture
     → BeginsWithUnit f (first_interfaces count t) text t' s → reader_form r' ≡ s.form → r'.interfaces ≡ s.interfaces → r'.offset ≡ r.offset + s.size
-        → s.packet ≡ None
+    → s.packet ≡ None
     → HasLink (first_link_of (declared_by s.form [])) r' → NextLeaves capture r r' t t' p p Found.Unit
 passed capture text r r' t t' p f count s is counts same steps form' interfaces' offset none link =
     let b = read capture text r r' t t' f count s is counts same steps form' interfaces' in
     let P : Option UnitPacket → Type 0 = λ o. ArePlaced (declared_in r' t') (drop r.offset capture) s.size o b.packets in
     let empty : b.packets ≡ [] = subst P none b.placed in
     passes s.size (b.front ∙ ap (λ qs. Whole s.size qs (declared_in r' t')) empty) (is_after capture s.size r r' t' s.form s.interfaces offset b.there
-        steps.some form' link interfaces' steps.known steps.upper_bound) refl
+    steps.some form' link interfaces' steps.known steps.upper_bound) refl
 
 -- a part of a unit, as a part of the capture
 part_at : (capture : List ℕ) (at start count : ℕ) → take count (drop start (drop at capture)) ≡ take count (drop (at + start) capture)
@@ -115,7 +116,7 @@ found_at capture declared at size p q inside there is =
 pub found_packet : (capture text : List ℕ) (r r' : Reader) (t t' : List Interface) (p p' : Packet) (f : FileState) (count : ℕ) (s : ReadUnit)
     (placed : UnitPacket) → f ≡ reader_form r → Counts f r (length t) count
     → text ≡ drop r.offset capture → BeginsWithUnit f (first_interfaces count t) text t' s → reader_form r' ≡ s.form → r'.interfaces ≡ s.interfaces
-        → r'.offset ≡ r.offset + s.size → s.packet ≡ Some placed
+    → r'.offset ≡ r.offset + s.size → s.packet ≡ Some placed
     → p' ≡ placed_packet r.offset placed → HasLink (first_link_of (declared_by s.form [])) r' → NextLeaves capture r r' t t' p p' Found.Packet
 found_packet capture text r r' t t' p p' f count s placed is counts same steps form' interfaces' offset some packet link =
     let b = read capture text r r' t t' f count s is counts same steps form' interfaces' in
@@ -125,7 +126,7 @@ found_packet capture text r r' t t' p p' f count s placed is counts same steps f
     let inside : r.offset ≤ length capture = omega (arith, b.there, left, steps.some) in
     let Q : Packet → Type 0 = λ o. IsPacketFound capture r.offset (declared_in r' t') o q.0 in
     finds s.size q.0 (b.front ∙ ap (λ qs. Whole s.size qs (declared_in r' t')) q.1)
-        (is_after capture s.size r r' t' s.form s.interfaces offset b.there steps.some form' link interfaces' steps.known steps.upper_bound)
+    (is_after capture s.size r r' t' s.form s.interfaces offset b.there steps.some form' link interfaces' steps.known steps.upper_bound)
     (subst Q (sym packet) (found_at capture (declared_in r' t') r.offset s.size placed q.0 inside b.there q.2))
 
 -- ---- no unit
@@ -152,14 +153,14 @@ ended capture text r t p f count is counts same over = ends (end_front capture t
 pub refused : (capture text : List ℕ) (r : Reader) (t t' : List Interface) (p : Packet) (f : FileState) (count : ℕ) (fault : Fault)
     → f ≡ reader_form r → Counts f r (length t) count
     → text ≡ drop r.offset capture → IsNoUnit f (first_interfaces count t) text (length t) (Refusal.Fault fault) → t' ≡ t → NextLeaves capture r r t
-        t' p p (Found.Fault fault)
+    t' p p (Found.Fault fault)
 refused capture text r t t' p f count fault is counts same why kept =
     fails fault (ap (front_of (declared_in r t)) (sym same) ∙ ap (λ d. front_of d text) (sym (declared_as f r t count is counts)) ∙ why) (stays r t t' p kept)
 
 pub full : (capture text : List ℕ) (r : Reader) (t t' : List Interface) (p : Packet) (f : FileState) (count : ℕ) → f ≡ reader_form r
     → Counts f r (length t) count
     → text ≡ drop r.offset capture → IsNoUnit f (first_interfaces count t) text (length t) Refusal.NoRoom → t' ≡ t → NextLeaves capture r r t t' p p
-        Found.NoRoom
+    Found.NoRoom
 full capture text r t t' p f count is counts same why kept =
     let one = why.1 in
     is_full (first_interfaces count t) why.0 (record {

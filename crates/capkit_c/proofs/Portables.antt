@@ -1,25 +1,26 @@
 -- A portable program reads no word that it didn't write, and does nothing that libpcap or Linux
 -- does otherwise.
-use Rattle.capkit_c.proofs.Common.{◌≡◌, ◌↔◌, ◌⊎◌, inl, inr, ℕ, zero, suc, ◌+◌, ◌-◌, ◌%◌, ◌^◌, ◌<◌, ◌≤◌, List, [], ◌∷◌, length, drop, get_or, Bool, true, false,
-    Option, Some, None, refl, sym, ap, ◌∙◌, subst, arith, ◌==◌, nat_lt, nat_le, ◌&&◌, ◌||◌, not, if◌then◌else◌, slice_set, bit_and, list_all, option_map,
-    get_or-drop, Insn, Next, Goes, Ends, Lost, step_if_there, does, does_if_known, into, word_into, into_word, with_register, held, field, compute,
-    operand_value, test_holds, header_length, run_from, progress_after, machine, start, parts, sign_bit, half_sign_bit, operation_keeps, keeps_x_small,
-    operation_alike, runs_alike, operation_alike_on_libpcap, runs_alike_on_libpcap, is_live_at, operation_wants, is_live_before, live_places,
-    none_read_unwritten, most_attached, is_portable, portability}
+use Rattle.capkit_c.proofs.Common.{◌≡◌, ◌↔◌, ◌⊎◌, inl, inr, ℕ, zero, suc, ◌+◌, ◌-◌, ◌%◌, ◌^◌, ◌<◌, ◌≤◌, List, [], ◌∷◌, length, drop, get_or, Bool, true, false}
+use Rattle.capkit_c.proofs.Common.{Option, Some, None, refl, sym, ap, ◌∙◌, subst, arith, ◌==◌, nat_lt, nat_le, ◌&&◌, ◌||◌, not, if◌then◌else◌, slice_set}
+use Rattle.capkit_c.proofs.Common.{bit_and, list_all, option_map, get_or-drop, Insn, Next, Goes, Ends, Lost, step_if_there, does, does_if_known, into}
+use Rattle.capkit_c.proofs.Common.{word_into, into_word, with_register, held, field, compute, operand_value, test_holds, header_length, run_from}
+use Rattle.capkit_c.proofs.Common.{progress_after, machine, start, parts, sign_bit, half_sign_bit, operation_keeps, keeps_x_small, operation_alike, runs_alike}
+use Rattle.capkit_c.proofs.Common.{operation_alike_on_libpcap, runs_alike_on_libpcap, is_live_at, operation_wants, is_live_before, live_places}
+use Rattle.capkit_c.proofs.Common.{none_read_unwritten, most_attached, is_portable, portability}
 use Rattle.std.specs.Prelude.{slice_get}
 use Rattle.std.proofs.lemmas.Bool.{and_parts, and_from, or_right, or_left, cases_lt, eq-eqb, ne_eqb, ltb-true, lt-ltb, not-true}
 use Rattle.std.proofs.lemmas.{Nat.and_le_r, Option.slice_get_past, Option.slice_get-get_or}
 use Rattle.flt_bpf.specs.{Instructions.operation_of, Machine.step, Valid.IsValid, Valid.WORDS, declared.machine.State.State}
 use Rattle.flt_bpf.specs.declared.operation.AluOperation.TheVariants.{ShiftLeft, ShiftRight}
 use Rattle.flt_bpf.specs.declared.operation.{Operand.TheVariants.Constant, Operand.TheVariants.IndexRegister, Operation.Operation}
-use Rattle.flt_bpf.specs.declared.operation.Operation.TheVariants.{LoadAbsolute, LoadIndirect, Load, LoadHeaderLength, Store, Compute, Negate, Jump, JumpIf,
-    ReturnConstant, ReturnAccumulator, CopyToIndex, CopyToAccumulator}
+use Rattle.flt_bpf.specs.declared.operation.Operation.TheVariants.{LoadAbsolute, LoadIndirect, Load, LoadHeaderLength, Store, Compute, Negate, Jump, JumpIf}
+use Rattle.flt_bpf.specs.declared.operation.Operation.TheVariants.{ReturnConstant, ReturnAccumulator, CopyToIndex, CopyToAccumulator}
 use Rattle.flt_bpf.specs.declared.operation.Register.{Register, TheVariants.Accumulator, TheVariants.Index}
 use Rattle.flt_bpf.specs.declared.operation.Source.TheVariants.{Immediate, Memory, Length}
 use Rattle.flt_bpf.specs.declared.operation.Width.TheVariants.{Byte}
 use Rattle.flt_bpf.proofs.Steps.{goes_inside}
-use Rattle.capkit_c.specs.Elsewhere.{Machine, does_on, step_on, run_on, outcome_on, on_libpcap, load_on_linux, on_linux, HereFromZeros, SameFromAnyWords,
-    SameOnLibpcap, SameOnLinux}
+use Rattle.capkit_c.specs.Elsewhere.{Machine, does_on, step_on, run_on, outcome_on, on_libpcap, load_on_linux, on_linux, HereFromZeros, SameFromAnyWords}
+use Rattle.capkit_c.specs.Elsewhere.{SameOnLibpcap, SameOnLinux}
 
 -- ---- words
 
@@ -188,7 +189,7 @@ live_later w is place k =
 module _ (there : Machine) (prog : List Insn) (p : List ℕ) (n : ℕ) (small : Bool) (valid : IsValid prog)
     (keeps : (k : ℕ) (i : Insn) → slice_get prog k ≡ Some i → small ≡ true → keeps_x_small i ≡ true)
     (agrees : (k : ℕ) (i : Insn) (s : State) → slice_get prog k ≡ Some i → Small small s → does_on there (operation_of i.code) i p n s ≡ does_if_known
-        (operation_of i.code) i p n s) where
+    (operation_of i.code) i p n s) where
   -- the words before a place
   abbrev Before : ℕ → List ℕ → State → Type 0
   Before place m s = SameWords (λ w. is_live_at (live_places w prog) place) m s
@@ -224,7 +225,7 @@ module _ (there : Machine) (prog : List Insn) (p : List ℕ) (n : ℕ) (small : 
   same_run zero place count s m inside left h x = absurd (omega arith)
   same_run (suc t) place count s m inside left h x =
       one t place count (get_or prog place (record { code = 0; jt = 0; jf = 0; k = 0 })) (λ k. same_run t (place + 1 + k) (count + 1))
-          (slice_get-get_or prog place _ inside) s m inside left h x
+      (slice_get-get_or prog place _ inside) s m inside left h x
 
 -- ---- the words at the start
 
@@ -255,7 +256,7 @@ from_start : (there : Machine) (prog : List Insn) (p words : List ℕ) (n : ℕ)
     machine prog p n (length prog)
 from_start there prog p words n small valid keeps agrees none long =
     same_run there prog p n small valid keeps agrees (length prog) 0 0 start words (parts prog valid).some (omega arith)
-        (none_live words prog long none) (λ y. omega arith)
+    (none_live words prog long none) (λ y. omega arith)
 
 -- ---- the machine here
 

@@ -1,13 +1,13 @@
 -- What a put finds, and what it keeps.
-use Rattle.capkit_c.proofs.Common.{◌≡◌, ℕ, ◌+◌, ◌<◌, ◌≤◌, List, [], ◌∷◌, ◌++◌, length, take, length-take-le, Option, None, Some, refl, sym, ap, ◌∙◌, subst,
-    arith, min, zero, suc, Bool, true, false, ◌==◌, nat_lt, ◌&&◌, ◌||◌, not, if◌then◌else◌, slice_set, Captured, Fault, WriteLeaves, Interface, first_failing,
-    append-nil, ap₂}
+use Rattle.capkit_c.proofs.Common.{◌≡◌, ℕ, ◌+◌, ◌<◌, ◌≤◌, List, [], ◌∷◌, ◌++◌, length, take, length-take-le, Option, None, Some, refl, sym, ap, ◌∙◌, subst}
+use Rattle.capkit_c.proofs.Common.{arith, min, zero, suc, Bool, true, false, ◌==◌, nat_lt, ◌&&◌, ◌||◌, not, if◌then◌else◌, slice_set, Captured, Fault}
+use Rattle.capkit_c.proofs.Common.{WriteLeaves, Interface, first_failing, append-nil, ap₂}
 use Rattle.std.specs.{List.list_any, List.position_or_len, Prelude.map, Prelude.cond}
 use Rattle.std.proofs.lemmas.{Bool.Decides.nat_tests, Cmp.nat_eq_equiv, Cmp.nat_list_eq_equiv, List.take_more_set, List.length-map, List.length-set}
 use Rattle.cap_io.specs.Text as text
 use Rattle.cap_pcapng.specs.Encoding.{interface_text, packet_block, section_text}
-use Rattle.capkit_c.specs.Writer.{output_interface, interfaces_in, most_written, room_for, put_checks, put_refusal, has_all, next_text, HasWritten,
-    KeepsWritten, IsWhole}
+use Rattle.capkit_c.specs.Writer.{output_interface, interfaces_in, most_written, room_for, put_checks, put_refusal, has_all, next_text, HasWritten}
+use Rattle.capkit_c.specs.Writer.{KeepsWritten, IsWhole}
 use Rattle.capkit_c.specs.{declared.memory.layout.Writer.Writer, declared.memory.writing.Written.Written, inside.Writer.HasAdded}
 
 -- whether an element passes, by the first place of one
@@ -38,7 +38,7 @@ all_counted w table fits =
     let most : most_written w (length table) ≡ w.interfaces = omega (arith, fits) in
     let there : w.interfaces ≤ length table = omega (arith, fits) in
     sym (length-map (take (most_written w (length table)) table) output_interface ∙ ap (λ n. length (take n table)) most ∙ length-take-le w.interfaces
-        table there)
+    table there)
 
 module _ (w : Writer) (table : List Interface) (p : Captured) (known number room : ℕ) (at_known : known ≡ length (interfaces_in w table))
     (at_number : number ≡ text.number_among (interfaces_in w table) (text.interface_of p)) (at_room : room ≡ room_for (length table)) where
@@ -113,7 +113,7 @@ module _ (w : Writer) (table : List Interface) (p : Captured) (known number room
       let same : w' ≡ record { interfaces = known; has_section = 1 } = f tt in
       let upper_bound : known ≤ room_for (length table) = omega (arith, is) in
       let most : most_written w' (length table) ≡ most_written w (length table) = ap (λ (v : Writer). most_written v (length table)) same
-          ∙ omega (arith, is, upper_bound) in
+      ∙ omega (arith, is, upper_bound) in
       record {
         section = ap (λ (v : Writer). v.has_section == 0) same;
         interfaces = ap (λ m. map output_interface (take m table)) most ∙ sym (append-nil ks)

@@ -1,8 +1,8 @@
 -- What a step of a search leaves.
-use Rattle.capkit_c.proofs.Common.{◌≡◌, ℕ, ◌+◌, ◌-◌, ◌<◌, ◌≤◌, List, [], ◌∷◌, length, take, drop, Option, Some, None, refl, sym, ap, ◌∙◌, subst, arith,
-    drop-drop, length-drop, Captured, Declared, NoUnit, Whole, front_of, HasLink, declared_in, Insn, Skips, at_packet, past_packet, past_unit, DeclaresOne,
-    IsPastUnit, IsPacketFound, IsStop, NextLeaves, PacketLeaves, PassesUnits, Stays, UnitHas, comment_by, ends, fails, finds, is_full, one_passed, passes,
-    Interface, Packet, Reader}
+use Rattle.capkit_c.proofs.Common.{◌≡◌, ℕ, ◌+◌, ◌-◌, ◌<◌, ◌≤◌, List, [], ◌∷◌, length, take, drop, Option, Some, None, refl, sym, ap, ◌∙◌, subst, arith}
+use Rattle.capkit_c.proofs.Common.{drop-drop, length-drop, Captured, Declared, NoUnit, Whole, front_of, HasLink, declared_in, Insn, Skips, at_packet}
+use Rattle.capkit_c.proofs.Common.{past_packet, past_unit, DeclaresOne, IsPastUnit, IsPacketFound, IsStop, NextLeaves, PacketLeaves, PassesUnits, Stays}
+use Rattle.capkit_c.proofs.Common.{UnitHas, comment_by, ends, fails, finds, is_full, one_passed, passes, Interface, Packet, Reader}
 use Rattle.capkit_c.specs.{Laws.packet_from, Laws.reader_from, inside.Matching.JudgedAs, inside.Matching.StepLeaves}
 use Rattle.capkit_c.specs.declared.{matching.SearchStep.SearchStep, memory.reader.Found.Found}
 
@@ -143,7 +143,7 @@ rest_read capture k r r' t t' p p' what inside (passes size front after same) =
     passes size (ap (front_of (declared_in r t)) (sym (dropped capture k r.offset)) ∙ front) (after_from capture k size r r' t' after) (ap (packet_from k) same)
 rest_read capture k r r' t t' p p' what inside (finds size q front after is) =
     finds size q (ap (front_of (declared_in r t)) (sym (dropped capture k r.offset)) ∙ front) (after_from capture k size r r' t' after)
-        (found_from capture k r.offset _ p' q inside is)
+    (found_from capture k r.offset _ p' q inside is)
 rest_read capture k r r' t t' p p' what inside (ends front stays) =
     ends (ap (front_of (declared_in r t)) (sym (dropped capture k r.offset)) ∙ front) (stays_from k r r' t t' p p' stays)
 rest_read capture k r r' t t' p p' what inside (fails fault front stays) =

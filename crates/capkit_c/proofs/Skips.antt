@@ -1,9 +1,10 @@
 -- What going past a refused unit leaves.
-use Rattle.capkit_c.proofs.Common.{inl, inr, ap₂, block_size, parts_after, section_of, IsFramed, NextLeaves, Packet, ends, fails, finds, is_full, passes, ◌≡◌,
-    ℕ, ◌+◌, ◌<◌, ◌≤◌, ◌%◌, List, [], ◌∷◌, ◌++◌, length, take, drop, Option, Some, None, Err, refl, sym, ap, ◌∙◌, subst, arith, Bool, true, false, nat_lt, ◌==◌,
-    nat_le, ◌&&◌, ◌||◌, not, if◌then◌else◌, length-take-le, take-take, checked, first_failing, Captured, Fault, Truncated, Order, checked_err, Head, is_section,
-    frame_fault, frame_in, Described, Section, order_before, unit_fault, Declared, Nothing, PcapFile, PcapngFile, NoUnit, Whole, front_of, declared_by,
-    FileState, declared_in, first_interfaces, reader_form, most_known, ArePlaced, BeginsWithUnit, Counts, DeclaresOne, UnitPacket, Interface, Reader}
+use Rattle.capkit_c.proofs.Common.{inl, inr, ap₂, block_size, parts_after, section_of, IsFramed, NextLeaves, Packet, ends, fails, finds, is_full, passes, ◌≡◌}
+use Rattle.capkit_c.proofs.Common.{ℕ, ◌+◌, ◌<◌, ◌≤◌, ◌%◌, List, [], ◌∷◌, ◌++◌, length, take, drop, Option, Some, None, Err, refl, sym, ap, ◌∙◌, subst, arith}
+use Rattle.capkit_c.proofs.Common.{Bool, true, false, nat_lt, ◌==◌, nat_le, ◌&&◌, ◌||◌, not, if◌then◌else◌, length-take-le, take-take, checked, first_failing}
+use Rattle.capkit_c.proofs.Common.{Captured, Fault, Truncated, Order, checked_err, Head, is_section, frame_fault, frame_in, Described, Section, order_before}
+use Rattle.capkit_c.proofs.Common.{unit_fault, Declared, Nothing, PcapFile, PcapngFile, NoUnit, Whole, front_of, declared_by, FileState, declared_in}
+use Rattle.capkit_c.proofs.Common.{first_interfaces, reader_form, most_known, ArePlaced, BeginsWithUnit, Counts, DeclaresOne, UnitPacket, Interface, Reader}
 use Rattle.std.specs.Prelude.{is_some, map, pos, ◌*◌, ◌/◌, ◌^◌}
 use Rattle.cap_octet.specs.Date.{NANOS_PER_SECOND}
 use Rattle.cap_pcapng.specs.Time.{microseconds, representable_time}
@@ -17,8 +18,8 @@ use Rattle.cap_pcapng.proofs.Units.{unit_fault-few}
 use Rattle.cap_io.specs.Capture.{Front, unit_unless}
 use Rattle.capkit_c.proofs.{Leaves.declared_after, Leaves.declared_as, Leaves.is_after, Stands.frame_fails}
 use Rattle.capkit_c.specs.Layout.{described_of}
-use Rattle.capkit_c.specs.Skipping.{PastUnit, SkipLeaves, found_at, found_in_front, found_with, goes_past, interface_count, is_cut, offset_of_no_time, past_at,
-    past_by, past_front, past_interface, refused_part, stays, unread_interface, with_interface}
+use Rattle.capkit_c.specs.Skipping.{PastUnit, SkipLeaves, found_at, found_in_front, found_with, goes_past, interface_count, is_cut, offset_of_no_time, past_at}
+use Rattle.capkit_c.specs.Skipping.{past_by, past_front, past_interface, refused_part, stays, unread_interface, with_interface}
 use Rattle.capkit_c.specs.declared.memory.{reader.Found.Found, reader.ReadUnit.ReadUnit, skip.RefusedPart.RefusedPart, skip.Skip.Skip}
 use Rattle.capkit_c.specs.inside.{Skipping.Describes, Skipping.IsUnread, Skipping.Moves, Skipping.RefusesForm, Units.found_by}
 use Rattle.cap_io.specs.declared.file_state.FileState.TheVariants as form
@@ -50,7 +51,7 @@ frame_refused before section text front fault is enough same exact =
     let e : frame_fault section front ≡ Some fault = checked_err (frame_fault section front) (frame_in section front) fault (sym exact) in
     refuses before text fault (frame_fails before section text front fault is enough same exact)
     (by_frame (is_section front || is_some section) (not (is_section front) || is_some (magic_order front))
-        (nat_le 12 (length_in section front) && (length_in section front % 4 == 0)) (nat_le (length_in section front) most_block) fault e)
+    (nat_le 12 (length_in section front) && (length_in section front % 4 == 0)) (nat_le (length_in section front) most_block) fault e)
 
 -- ---- a unit that isn't gone past, and one that is
 
@@ -77,7 +78,7 @@ pub moved : (capture : List ℕ) (r r' : Reader) (t : List Interface) (f' : File
     → count ≤ length t → count ≤ 256 → Moves capture unit.size f' count r r' result → SkipLeaves capture r r' t t result
 moved capture r r' t f' count unit Skip.Past past declares some fits upper_bound m =
     goes_past unit past (declares ∙ declared_after f' r' t count m.state m.interfaces fits upper_bound)
-        (is_after capture unit.size r r' t f' count m.offset m.there some m.state m.link m.interfaces fits upper_bound) refl
+    (is_after capture unit.size r r' t f' count m.offset m.there some m.state m.link m.interfaces fits upper_bound) refl
 moved capture r r' t f' count unit (Skip.Not found) past declares some fits upper_bound m =
     subst (λ w. SkipLeaves capture r r' t t (Skip.Not w)) (sym m.1) (is_cut unit past m.0 m.2 refl)
 
@@ -104,7 +105,7 @@ one_more n t i fits = length-append (first_interfaces n t) (i ∷ []) ∙ ap (λ
 -- a description block is gone past, while its section has room, or it isn't
 pub past_description : (first : Option ℕ) (section : Section) (size link snap : ℕ) (order : Order) (options : List ℕ) → length section.interfaces < 256
     → past_interface first section size (InterfaceParts link snap order options) ≡ Some
-        (record { size = size; declared = with_interface first section (unread_interface link snap) })
+    (record { size = size; declared = with_interface first section (unread_interface link snap) })
 past_description first section size link snap order options fits =
     let e : nat_lt (length section.interfaces) 256 ≡ true = grind (arith, nat_tests) in
     ap (λ b. if b then Some (record { size = size; declared = with_interface first section (unread_interface link snap) }) else None) e
@@ -164,7 +165,7 @@ module _ (capture : List ℕ) (r : Reader) (t : List Interface) (order : Order) 
   past_full is full =
       let count : length (first_interfaces (most_known r (length t)) t) ≡ most_known r (length t) = described_count (most_known r (length t)) t (omega arith) in
       past RefusedPart.Options is ∙ no_description first section (block_size (Some section) bytes) (parts_after (Some section) bytes)
-          (omega (arith, count, full))
+      (omega (arith, count, full))
 
   module _ (frame : Frame) (framed : IsFramed (Some section) text frame) where
     here : IsFramed (Some section) bytes frame
@@ -187,7 +188,7 @@ module _ (capture : List ℕ) (r : Reader) (t : List Interface) (order : Order) 
     past_unread i is unread fits =
         let d = subst (λ b. Describes frame b i) same unread in
         let count : length (first_interfaces (most_known r (length t)) t) ≡ most_known r (length t) = described_count (most_known r (length t)) t
-            (omega arith) in
+        (omega arith) in
         by_parts is ∙ ap (past_interface first section frame.length) d.parts
         ∙ past_description first section frame.length i.link i.snap d.order d.options (omega (arith, count, fits))
         ∙ ap (λ e. Some (record { size = frame.length; declared = with_interface first section e })) (sym d.described)
@@ -230,7 +231,7 @@ pub begins : (capture text : List ℕ) (r : Reader) (t : List Interface) (f : Fi
 begins capture text r t f count is counts same =
     let all : take count (take count t) ≡ take count t = take-take count count t (omega arith) in
     ap (front_of (declared_in r t)) (sym same) ∙ ap (λ d. front_of d text) (sym (declared_as f r t count is counts))
-        ∙ ap (λ (l : List Interface). front_of (declared_by f (map described_of l)) text) (sym all)
+    ∙ ap (λ (l : List Interface). front_of (declared_by f (map described_of l)) text) (sym all)
 
 pub sound : (text : List ℕ) (t s' : List Interface) (f : FileState) (interfaces : List Described) (step : ReadUnit)
     (b : BeginsWithUnit f interfaces text s' step) → length s' ≤ length t
@@ -238,7 +239,7 @@ pub sound : (text : List ℕ) (t s' : List Interface) (f : FileState) (interface
 sound text t s' f interfaces step b shorter =
     let is : List Described = first_interfaces step.interfaces s' in
     let fits : interface_count (declared_by step.form is) ≤ length t =
-        omega (arith, most_count step.form is, described_count step.interfaces s' b.known, b.known, shorter) in
+    omega (arith, most_count step.form is, described_count step.interfaces s' b.known, b.known, shorter) in
     placed_found _ _ _ step.packet b.packets b.placed ∙ sym (with_room (length t) (interface_count (declared_by step.form is)) (found_with b.packets) fits)
 
 -- an interface, in a table of just those that are known
@@ -283,5 +284,5 @@ too_late n m least = grind (arith, nat_tests)
 pub no_time : (ticks : ℕ) → representable_time ticks microseconds (pos offset_of_no_time) ≡ None
 no_time ticks =
     let late : nat_lt (ticks * NANOS_PER_SECOND / microseconds + offset_of_no_time * NANOS_PER_SECOND) (2 ^ 63) ≡ false =
-        too_late (ticks * NANOS_PER_SECOND / microseconds) (offset_of_no_time * NANOS_PER_SECOND) (omega arith) in
+    too_late (ticks * NANOS_PER_SECOND / microseconds) (offset_of_no_time * NANOS_PER_SECOND) (omega arith) in
     ap (λ b. if b then Some (ticks * NANOS_PER_SECOND / microseconds + offset_of_no_time * NANOS_PER_SECOND) else None) late

@@ -1,11 +1,12 @@
 -- The block that a text begins with.
-use Rattle.capkit_c.proofs.Common.{◌≡◌, ℕ, ◌<◌, ◌≤◌, inl, inr, List, [], ◌∷◌, ◌++◌, length, take, drop, Option, Some, None, Ok, Err, refl, sym, ap, ap₂, ◌∙◌,
-    subst, arith, option_map, length-take-le, take-append-drop, take-take, checked, first_failing, Fault, Truncated, Order, checked_err, frame_checks,
-    frame_fault, frame_in, Described, Section, block_size, checks_among, frame_after, interfaces_before, order_before, parts_after, unit_fault, Enters,
-    IsBlockFault, BlockPacketIfAny, BlockStands, IsNoBlock, IsFramed, IsRefusal, LiesIfAny, spans_of, Refusal, UnitPacket}
+use Rattle.capkit_c.proofs.Common.{◌≡◌, ℕ, ◌<◌, ◌≤◌, inl, inr, List, [], ◌∷◌, ◌++◌, length, take, drop, Option, Some, None, Ok, Err, refl, sym, ap, ap₂, ◌∙◌}
+use Rattle.capkit_c.proofs.Common.{subst, arith, option_map, length-take-le, take-append-drop, take-take, checked, first_failing, Fault, Truncated, Order}
+use Rattle.capkit_c.proofs.Common.{checked_err, frame_checks, frame_fault, frame_in, Described, Section, block_size, checks_among, frame_after}
+use Rattle.capkit_c.proofs.Common.{interfaces_before, order_before, parts_after, unit_fault, Enters, IsBlockFault, BlockPacketIfAny, BlockStands, IsNoBlock}
+use Rattle.capkit_c.proofs.Common.{IsFramed, IsRefusal, LiesIfAny, spans_of, Refusal, UnitPacket}
 use Rattle.cap_pcapng.specs.{Block.Parts, Block.block_checks, Block.parts_in, declared.effect.PacketSpans.PacketSpans, declared.frames.Frame.Frame}
-use Rattle.cap_pcapng.proofs.Units.{frame_checks-append, frame_in-append, block_checks-append, parts_in-append, unit_fault-frame, unit_fault-short,
-    unit_fault-block, unit_fault-among}
+use Rattle.cap_pcapng.proofs.Units.{frame_checks-append, frame_in-append, block_checks-append, parts_in-append, unit_fault-frame, unit_fault-short}
+use Rattle.cap_pcapng.proofs.Units.{unit_fault-block, unit_fault-among}
 use Rattle.cap_io.proofs.BlocksCame.{BlockCame, FrontSays, WholeCame, block_came, front_says, says_after}
 use Rattle.cap_io.proofs.BlocksCame as came
 use Rattle.capkit_c.specs.declared.memory.block.Refusal.TheVariants as refusal
@@ -35,7 +36,7 @@ framed before section text front frame is enough same exact =
     let upper_bound : length (take 12 text) ≡ 12 = front_fits text enough in
     let P : List ℕ → Type 0 = λ f. Ok frame ≡ checked (frame_fault section f) (frame_in section f) in
     let both = says_after before section (take 12 text) (drop 12 text) frame is (omega (arith, upper_bound))
-        (front_says section (take 12 text) (Ok frame) frame (subst P same exact) refl) in
+    (front_says section (take 12 text) (Ok frame) frame (subst P same exact) refl) in
     let Q : List ℕ → Type 0 = λ t. IsFramed before t frame in
     subst Q joined (record { passes = both.0; says = both.1 })
 
@@ -58,7 +59,7 @@ parts_taken before text frame least room f =
 pub entry_fails : (before : Option Section) (interfaces : List Described) (text : List ℕ) (frame : Frame) (fault : Fault) → interfaces_before before ≡
     interfaces → 12 ≤ length text → 12 ≤ frame.length
     → frame.length ≤ length text → IsFramed before text frame → IsBlockFault frame interfaces (take frame.length text) fault
-        → unit_fault before text ≡ Some fault
+    → unit_fault before text ≡ Some fault
 entry_fails before interfaces text frame fault same enough least room f fails =
     let block : List ℕ = take frame.length text in
     let joined : take frame.length text ++ drop frame.length text ≡ text = take-append-drop frame.length text in
@@ -82,7 +83,7 @@ packet_as order before block (Some held) p = record { packet = p.packet; stands 
 pub stands : (before : Option Section) (section : Option Order) (interfaces interfaces' : List Described) (text front : List ℕ) (frame : Frame)
     (packet : Option UnitPacket) → order_before before ≡ section
     → interfaces_before before ≡ interfaces → 12 ≤ length text → front ≡ take 12 text → Ok frame ≡ checked (frame_fault section front)
-        (frame_in section front) → 12 ≤ frame.length
+    (frame_in section front) → 12 ≤ frame.length
     → frame.length ≤ length text → Enters frame interfaces (take frame.length text) (option_map (spans_of frame.length) packet) interfaces'
     → LiesIfAny (parts_in frame (take frame.length text)) (option_map (spans_of frame.length) packet)
     → BlockStands before text frame.order frame.length interfaces' packet
@@ -102,7 +103,7 @@ stands before section interfaces interfaces' text front frame packet is same eno
       splits = sym (take-append-drop frame.length text);
     } in
     let b = block_came before section interfaces interfaces' text (drop frame.length text) (take frame.length text) text frame
-        (option_map (spans_of frame.length) packet) is same least room whole refl enters in
+    (option_map (spans_of frame.length) packet) is same least room whole refl enters in
     record {
       is_block = b.is_block;
       section = b.section;

@@ -1,6 +1,7 @@
 -- A listing is assembled from the bytes of its lines, and a front of it is written at each place.
-use Rattle.flt_bpf.proofs.Common.{◌≡◌, ℕ, ◌+◌, ◌-◌, ◌<◌, ◌≤◌, List, [], ◌∷◌, ◌++◌, length, take, drop, length-append, append_assoc, refl, sym, ap, ◌∙◌, arith,
-    get_or, decimal, take_all, take_more, drop_more, take-append-drop, take-append-le, Insn, LINE_FEED, insn_line, insn_lines, listing}
+use Rattle.flt_bpf.proofs.Common.{◌≡◌, ℕ, ◌+◌, ◌-◌, ◌<◌, ◌≤◌, List, [], ◌∷◌, ◌++◌, length, take, drop, length-append, append_assoc, refl, sym, ap, ◌∙◌, arith}
+use Rattle.flt_bpf.proofs.Common.{get_or, decimal, take_all, take_more, drop_more, take-append-drop, take-append-le, Insn, LINE_FEED, insn_line, insn_lines}
+use Rattle.flt_bpf.proofs.Common.{listing}
 use Rattle.std.proofs.{Math.Seq.take-append-add, lemmas.List.length-drop}
 
 -- the bytes of a line from where it starts
@@ -20,7 +21,7 @@ front_joined : (is : List Insn) (js ks : List Insn) → decimal (length is) ++ L
     (decimal (length is) ++ LINE_FEED ∷ insn_lines js) ++ insn_lines ks
 front_joined is js ks =
     ap (λ (x : List ℕ). decimal (length is) ++ LINE_FEED ∷ x) (lines_joined js ks)
-        ∙ sym (append_assoc (decimal (length is)) (LINE_FEED ∷ insn_lines js) (insn_lines ks))
+    ∙ sym (append_assoc (decimal (length is)) (LINE_FEED ∷ insn_lines js) (insn_lines ks))
 
 -- the front grows by a line
 pub front_more : (is : List Insn) (k : ℕ) (d : Insn) → k < length is → front_of is (k + 1) ≡ front_of is k ++ (insn_line (get_or is k d) ++ LINE_FEED ∷ [])
@@ -38,7 +39,7 @@ listing_at : (is : List Insn) (k : ℕ) (d : Insn) → k < length is → listing
 listing_at is k d l =
     listing_split is k
     ∙ ap (λ (x : List ℕ). front_of is k ++ x)
-        (ap insn_lines (drop_more is k d l) ∙ sym (append_assoc (insn_line (get_or is k d)) (LINE_FEED ∷ []) (insn_lines (drop (k + 1) is))))
+    (ap insn_lines (drop_more is k d l) ∙ sym (append_assoc (insn_line (get_or is k d)) (LINE_FEED ∷ []) (insn_lines (drop (k + 1) is))))
 
 -- a front, and then a front of a line, are a front of the listing
 pub stopped_at : (is : List Insn) (k : ℕ) (d : Insn) (s : ℕ) → k < length is → s < length (insn_line (get_or is k d) ++ LINE_FEED ∷ [])
@@ -47,7 +48,7 @@ stopped_at is k d s l less =
     let line = insn_line (get_or is k d) ++ LINE_FEED ∷ [] in
     let rest = insn_lines (drop (k + 1) is) in
     sym (ap (take (length (front_of is k) + s)) (listing_at is k d l) ∙ take-append-add (front_of is k) (line ++ rest) s
-        ∙ ap (λ (x : List ℕ). front_of is k ++ x) (take-append-le s line rest (omega arith)))
+    ∙ ap (λ (x : List ℕ). front_of is k ++ x) (take-append-le s line rest (omega arith)))
 
 -- a front and a line are no more than the listing
 pub front_within : (is : List Insn) (k : ℕ) (d : Insn) → k < length is → length (front_of is k) + length (insn_line (get_or is k d) ++ LINE_FEED ∷ [])
@@ -91,5 +92,12 @@ pub more_size : (is : List Insn) (k : ℕ) (d : Insn) (written start : ℕ) (lin
     length (front_of is (k + 1))
 more_size is k d written start line l n e size =
     let whole = line_bytes line start n in
-    omega (arith, ap length whole, ap length e, length-drop start line, ap length (front_more is k d l), length-append (front_of is k)
-        (insn_line (get_or is k d) ++ LINE_FEED ∷ []))
+    omega (
+      arith,
+      ap length whole,
+      ap length e,
+      length-drop start line,
+      ap length (front_more is k d l),
+      length-append (front_of is k)
+          (insn_line (get_or is k d) ++ LINE_FEED ∷ []),
+    )

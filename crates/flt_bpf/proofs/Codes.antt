@@ -1,6 +1,6 @@
 -- The code of an operation that a code gives is that code, and gives it; and the number in four bytes.
-use Rattle.flt_bpf.proofs.Common.{◌≡◌, ℕ, List, [], ◌∷◌, Some, refl, arith, nat_tests, Operation, LoadAbsolute, LoadIndirect, Load, Store, Compute, JumpIf,
-    Immediate, Constant, Equal, code_of, found, operations, ◌+◌, ◌*◌, ◌<◌, zero, suc, All}
+use Rattle.flt_bpf.proofs.Common.{◌≡◌, ℕ, List, [], ◌∷◌, Some, refl, arith, nat_tests, Operation, LoadAbsolute, LoadIndirect, Load, Store, Compute, JumpIf}
+use Rattle.flt_bpf.proofs.Common.{Immediate, Constant, Equal, code_of, found, operations, ◌+◌, ◌*◌, ◌<◌, zero, suc, All}
 use Rattle.flt_bpf.specs.Instructions.{operation_of}
 use Rattle.flt_bpf.specs.{Machine.big_endian_at, declared.operation.AluOperation.TheVariants.Add}
 use Rattle.flt_bpf.specs.declared.operation.Register.TheVariants.{Accumulator, Index}

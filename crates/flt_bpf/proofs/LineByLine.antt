@@ -1,7 +1,7 @@
 -- A listing, read line by line.
-use Rattle.flt_bpf.proofs.Common.{◌≡◌, ℕ, zero, suc, ◌+◌, ◌-◌, ◌<◌, ◌≤◌, List, [], ◌∷◌, ◌++◌, length, length-append, Some, None, refl, sym, ap, ◌∙◌, subst,
-    arith, ◌==◌, ◌⊎◌, Bool, cond, inl, inr, onto_first, slice_get, slice_split, length-slice_split, AllZip, Insn, LINE_FEED, lines_from, lines_of, IsInsnLine,
-    line_numbers, insn_of, AreInsns, HasInsn, WrongAfter}
+use Rattle.flt_bpf.proofs.Common.{◌≡◌, ℕ, zero, suc, ◌+◌, ◌-◌, ◌<◌, ◌≤◌, List, [], ◌∷◌, ◌++◌, length, length-append, Some, None, refl, sym, ap, ◌∙◌, subst}
+use Rattle.flt_bpf.proofs.Common.{arith, ◌==◌, ◌⊎◌, Bool, cond, inl, inr, onto_first, slice_get, slice_split, length-slice_split, AllZip, Insn, LINE_FEED}
+use Rattle.flt_bpf.proofs.Common.{lines_from, lines_of, IsInsnLine, line_numbers, insn_of, AreInsns, HasInsn, WrongAfter}
 use Rattle.flt_bpf.proofs.Readings.{insn_is, insn_read}
 use Rattle.std.proofs.{Math.Seq.append_snoc, lemmas.List.append-nil}
 
@@ -34,8 +34,12 @@ pub record ReadTo (lines others : List (List ℕ)) (n at : ℕ) (is : List Insn)
   pub wrong : (k : ℕ) → WrongAfter (n - at) others k → WrongAfter n lines (at + k)
 
 pub read_none : (lines : List (List ℕ)) (n : ℕ) → ReadTo lines lines n 0 []
-read_none lines n = record { counted = refl; insns = λ js h. h; wrong = λ k h. let m : n - 0 ≡ n = omega arith in let z : k ≡ 0 + k = omega arith in
-    subst (WrongAfter n lines) z (subst (λ x. WrongAfter x lines k) m h) }
+read_none lines n = record {
+  counted = refl;
+  insns = λ js h. h;
+  wrong = λ k h. let m : n - 0 ≡ n = omega arith in let z : k ≡ 0 + k = omega arith in
+      subst (WrongAfter n lines) z (subst (λ x. WrongAfter x lines k) m h);
+}
 
 -- one more line
 wrong_later : {n : ℕ} {lines : List (List ℕ)} {k : ℕ} (line : List ℕ) (i : Insn) → IsInsnLine line i → WrongAfter n lines k
@@ -60,8 +64,8 @@ read_more {lines} {others} {next} {n} {at} {is} {js} {line} i r l e f push = sub
       let m : suc (n - (at + 1)) ≡ n - at = omega arith in
       let place : at + suc k ≡ at + 1 + k = omega arith in
       subst (WrongAfter n lines) place
-          (r.wrong (suc k) (subst (λ (ls : List (List ℕ)). WrongAfter (n - at) ls (suc k)) (sym e)
-          (subst (λ x. WrongAfter x (line ∷ next) (suc k)) m (wrong_later line i here h))));
+      (r.wrong (suc k) (subst (λ (ls : List (List ℕ)). WrongAfter (n - at) ls (suc k)) (sym e)
+      (subst (λ x. WrongAfter x (line ∷ next) (suc k)) m (wrong_later line i here h))));
 })
   where
     here : IsInsnLine line i

@@ -1,7 +1,7 @@
 -- A text that is cut at the first of some byte, and the numbers of a line, read one by one.
-use Rattle.flt_bpf.proofs.Common.{◌≡◌, ℕ, ◌<◌, List, [], ◌∷◌, length, Option, Some, None, refl, sym, ap, ◌∙◌, arith, ◌==◌, slice_split, length-slice_split,
-    Insn, BLANK, numeral, after, later_numbers, numbers_of, line_numbers, insn_from, insn_of, only_of, zero, suc, ◌+◌, ◌-◌, get_or, take, drop, length-drop,
-    true, false, nat_tests, slice_split-cons_yes, slice_split-cons_no, onto_first, take_all}
+use Rattle.flt_bpf.proofs.Common.{◌≡◌, ℕ, ◌<◌, List, [], ◌∷◌, length, Option, Some, None, refl, sym, ap, ◌∙◌, arith, ◌==◌, slice_split, length-slice_split}
+use Rattle.flt_bpf.proofs.Common.{Insn, BLANK, numeral, after, later_numbers, numbers_of, line_numbers, insn_from, insn_of, only_of, zero, suc, ◌+◌, ◌-◌}
+use Rattle.flt_bpf.proofs.Common.{get_or, take, drop, length-drop, true, false, nat_tests, slice_split-cons_yes, slice_split-cons_no, onto_first, take_all}
 
 -- no byte below a place is the one
 pub cut_here : (c : ℕ) (bs : List ℕ) (at : ℕ) → ((k : ℕ) → k < at → get_or bs k 0 ≡ c → ⊥) → at < length bs → get_or bs at 0 ≡ c
@@ -21,9 +21,9 @@ pub cut_range : (c : ℕ) (bs : List ℕ) (at : ℕ) → ((k : ℕ) → k < at �
 cut_range c bs at before l here =
     let next : suc at ≡ at + 1 = omega arith in
     let whole : take (length bs - (at + 1)) (drop (at + 1) bs) ≡ drop (at + 1) bs = take_all (length bs - (at + 1)) (drop (at + 1) bs)
-        (omega (arith, length-drop (at + 1) bs)) in
+    (omega (arith, length-drop (at + 1) bs)) in
     cut_here c bs at before l here ∙ ap (λ n. take at bs ∷ slice_split (λ b. b == c) (drop n bs)) next
-        ∙ ap (λ xs. take at bs ∷ slice_split (λ b. b == c) xs) (sym whole)
+    ∙ ap (λ xs. take at bs ∷ slice_split (λ b. b == c) xs) (sym whole)
 
 pub cut_none : (c : ℕ) (bs : List ℕ) → ((k : ℕ) → k < length bs → get_or bs k 0 ≡ c → ⊥) → slice_split (λ b. b == c) bs ≡ bs ∷ []
 cut_none c [] h = refl
@@ -60,7 +60,7 @@ pub blank_not_only : (line piece rest : List ℕ) → slice_split (λ b. b == BL
 blank_not_only line piece rest s =
     let some : 0 < length (slice_split (λ b. b == BLANK) rest) = omega (arith, length-slice_split (λ b. b == BLANK) rest) in
     ap (λ ws. only_of (numbers_of ws)) s ∙ ap only_of (numbers_more piece _ some) ∙ not_only (numeral piece)
-        (later_numbers (slice_split (λ b. b == BLANK) rest)) (later_not_empty (slice_split (λ b. b == BLANK) rest))
+    (later_numbers (slice_split (λ b. b == BLANK) rest)) (later_not_empty (slice_split (λ b. b == BLANK) rest))
 
 abbrev pub insn_last : ℕ → ℕ → ℕ → Option ℕ → Option Insn
 insn_last a b c None = None

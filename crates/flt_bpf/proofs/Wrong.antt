@@ -1,7 +1,7 @@
 -- The line at which the reader refuses a text is the first wrong one, and a listing has none.
-use Rattle.flt_bpf.proofs.Common.{◌≡◌, ℕ, zero, suc, ◌<◌, ◌≤◌, List, [], ◌∷◌, length, Some, refl, sym, ap, ◌∙◌, arith, ◌⊎◌, inl, inr, slice_get, AllZip, Insn,
-    MOST_INSTRUCTIONS, MOST_BYTES, IsWrittenNumber, IsInsnLine, lines_of, AreListingLines, IsListing, HasCount, IsWrong, FirstWrong, IsRefusedAt, HasInsn,
-    WrongAfter, IsFaultAfter, line_numbers, only_of}
+use Rattle.flt_bpf.proofs.Common.{◌≡◌, ℕ, zero, suc, ◌<◌, ◌≤◌, List, [], ◌∷◌, length, Some, refl, sym, ap, ◌∙◌, arith, ◌⊎◌, inl, inr, slice_get, AllZip, Insn}
+use Rattle.flt_bpf.proofs.Common.{MOST_INSTRUCTIONS, MOST_BYTES, IsWrittenNumber, IsInsnLine, lines_of, AreListingLines, IsListing, HasCount, IsWrong}
+use Rattle.flt_bpf.proofs.Common.{FirstWrong, IsRefusedAt, HasInsn, WrongAfter, IsFaultAfter, line_numbers, only_of}
 use Rattle.flt_bpf.proofs.Numbers.{line_numbers_read}
 use Rattle.std.proofs.lemmas.Slice.Zip.{AllZip-long}
 use Rattle.flt_bpf.specs.Refusal.{IsReasonFor}

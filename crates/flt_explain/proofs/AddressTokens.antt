@@ -1,8 +1,9 @@
 -- Addresses mean their tokens: each is a few numbers, which are written one by one and joined.
-use Rattle.flt_explain.proofs.Common.{◌≡◌, ℕ, suc, zero, ◌+◌, ◌*◌, ◌/◌, ◌%◌, ◌^◌, ◌<◌, ◌≤◌, List, [], ◌∷◌, ◌++◌, length, map, refl, sym, ap, ◌∙◌, subst, arith,
-    Bool, true, false, ◌==◌, cond, lit<, lit≤, append_assoc, pow-suc, nat_tests, AllByRecursion, digits_is_IsNumeral, decimal_is_IsNumeral, decimal,
-    digit_value, digit_glyph, digits_onto, IsNumeral, digits_value, IsDotted, within_word, WritesDecimal, whole, mac, ip6, octet, hex_byte, group_at,
-    half_bytes, half_groups, octets, IsDottedAddress, replicate, or-true}
+use Rattle.flt_explain.proofs.Common.{◌≡◌, ℕ, suc, zero, ◌+◌, ◌*◌, ◌/◌, ◌%◌, ◌^◌, ◌<◌, ◌≤◌, List, [], ◌∷◌, ◌++◌, length, map, refl, sym, ap, ◌∙◌, subst, arith}
+use Rattle.flt_explain.proofs.Common.{Bool, true, false, ◌==◌, cond, lit<, lit≤, append_assoc, pow-suc, nat_tests, AllByRecursion, digits_is_IsNumeral}
+use Rattle.flt_explain.proofs.Common.{decimal_is_IsNumeral, decimal, digit_value, digit_glyph, digits_onto, IsNumeral, digits_value, IsDotted, within_word}
+use Rattle.flt_explain.proofs.Common.{WritesDecimal, whole, mac, ip6, octet, hex_byte, group_at, half_bytes, half_groups, octets, IsDottedAddress, replicate}
+use Rattle.flt_explain.proofs.Common.{or-true}
 use Rattle.flt_explain.specs.Texts.{bytes_text, mac_word, groups_text, ip6_word, dotted_word}
 use Rattle.flt_explain.proofs.WordTokens.{IsPart, part_of_digits, part_join}
 use Rattle.flt_explain.proofs.WordTokens.{IsWordFor, part_of_decimal, writes_decimal}
@@ -66,21 +67,39 @@ dotted_for inside a (suc zero) w = absurd (omega (arith, w.at_least_two))
 dotted_for inside a (suc (suc zero)) w =
     let below : AllBelowBase 256 (octets a 2) = (below_256 (2 ^ 24) a, (below_256 (2 ^ 16) a, tt)) in
     dotted_of inside a 2 (lit< tt) below
-        (record { groups = map decimal (octets a 2); are = record { joined = refl; each = each (in_decimal inside) (octets a 2) below };
-        at_least_two = lit≤ tt; at_most_four = lit≤ tt; count = refl; value = two_parts a w.small w.missing
-        ∙ ap (λ ns. number_from_digits 256 (ns ++ replicate 2 0)) (sym (values (in_decimal inside) (octets a 2) below)) })
+    (record {
+      groups = map decimal (octets a 2);
+      are = record { joined = refl; each = each (in_decimal inside) (octets a 2) below };
+      at_least_two = lit≤ tt;
+      at_most_four = lit≤ tt;
+      count = refl;
+      value = two_parts a w.small w.missing
+          ∙ ap (λ ns. number_from_digits 256 (ns ++ replicate 2 0)) (sym (values (in_decimal inside) (octets a 2) below));
+    })
 dotted_for inside a (suc (suc (suc zero))) w =
     let below : AllBelowBase 256 (octets a 3) = (below_256 (2 ^ 24) a, (below_256 (2 ^ 16) a, (below_256 (2 ^ 8) a, tt))) in
     dotted_of inside a 3 (lit< tt) below
-        (record { groups = map decimal (octets a 3); are = record { joined = refl; each = each (in_decimal inside) (octets a 3) below };
-        at_least_two = lit≤ tt; at_most_four = lit≤ tt; count = refl; value = three_parts a w.small w.missing
-        ∙ ap (λ ns. number_from_digits 256 (ns ++ replicate 1 0)) (sym (values (in_decimal inside) (octets a 3) below)) })
+    (record {
+      groups = map decimal (octets a 3);
+      are = record { joined = refl; each = each (in_decimal inside) (octets a 3) below };
+      at_least_two = lit≤ tt;
+      at_most_four = lit≤ tt;
+      count = refl;
+      value = three_parts a w.small w.missing
+          ∙ ap (λ ns. number_from_digits 256 (ns ++ replicate 1 0)) (sym (values (in_decimal inside) (octets a 3) below));
+    })
 dotted_for inside a (suc (suc (suc (suc zero)))) w =
     let below : AllBelowBase 256 (octets a 4) = (below_256 (2 ^ 24) a, (below_256 (2 ^ 16) a, (below_256 (2 ^ 8) a, (below_256 1 a, tt)))) in
     dotted_of inside a 4 (lit< tt) below
-        (record { groups = map decimal (octets a 4); are = record { joined = refl; each = each (in_decimal inside) (octets a 4) below };
-        at_least_two = lit≤ tt; at_most_four = lit≤ tt; count = refl; value = four_parts a w.small
-        ∙ ap (λ ns. number_from_digits 256 (ns ++ replicate 0 0)) (sym (values (in_decimal inside) (octets a 4) below)) })
+    (record {
+      groups = map decimal (octets a 4);
+      are = record { joined = refl; each = each (in_decimal inside) (octets a 4) below };
+      at_least_two = lit≤ tt;
+      at_most_four = lit≤ tt;
+      count = refl;
+      value = four_parts a w.small
+          ∙ ap (λ ns. number_from_digits 256 (ns ++ replicate 0 0)) (sym (values (in_decimal inside) (octets a 4) below));
+    })
 dotted_for inside a (suc (suc (suc (suc (suc p))))) w = absurd (omega (arith, w.at_most_four))
 
 -- two hexadecimal digits
@@ -115,7 +134,7 @@ mac_for a small =
     let q : ℕ = a / 2 ^ 24 in
     let r : ℕ = a % 2 ^ 24 in
     let below : AllBelowBase 256 (half_bytes q ++ half_bytes r) =
-        (below_256 (2 ^ 16) q, (below_256 (2 ^ 8) q, (below_256 1 q, (below_256 (2 ^ 16) r, (below_256 (2 ^ 8) r, (below_256 1 r, tt)))))) in
+    (below_256 (2 ^ 16) q, (below_256 (2 ^ 8) q, (below_256 1 q, (below_256 (2 ^ 16) r, (below_256 (2 ^ 8) r, (below_256 1 r, tt)))))) in
     record {
       part = part in_bytes (half_bytes q ++ half_bytes r) (lit< tt) below;
       stands = mac {address = a} (record {
@@ -134,11 +153,14 @@ some_front n e = grind (arith, nat_tests)
 
 few_step : (k j n : ℕ) (onto : List ℕ) → n < 16 ^ suc j → ((i m : ℕ) (o : List ℕ) → 0 < i → m < 16 ^ i → length (digits_onto k 16 false m o) ≤ i + length o)
     → (b : Bool) → (n / 16 == 0) ≡ b
-        → length (cond b (digit_glyph false (n % 16) ∷ onto) (digits_onto k 16 false (n / 16) (digit_glyph false (n % 16) ∷ onto))) ≤ suc j + length onto
+    → length (cond b (digit_glyph false (n % 16) ∷ onto) (digits_onto k 16 false (n / 16) (digit_glyph false (n % 16) ∷ onto))) ≤ suc j + length onto
 few_step k j n onto small more true e = omega arith
 few_step k zero n onto small more false e = absurd (omega (arith, some_front n e))
-few_step k (suc j) n onto small more false e = omega (arith, more (suc j) (n / 16) (digit_glyph false (n % 16) ∷ onto) (omega arith)
-    (omega (arith, pow-suc 16 (suc j))))
+few_step k (suc j) n onto small more false e = omega (
+  arith,
+  more (suc j) (n / 16) (digit_glyph false (n % 16) ∷ onto) (omega arith)
+      (omega (arith, pow-suc 16 (suc j))),
+)
 
 few_onto : (k j n : ℕ) (onto : List ℕ) → 0 < j → n < 16 ^ j → length (digits_onto k 16 false n onto) ≤ j + length onto
 few_onto zero j n onto some small = omega arith
@@ -178,9 +200,13 @@ pub ip6_for : (a : ℕ) → a < 2 ^ 128 → IsWordFor false (ip6_word a) (TokenK
 ip6_for a small =
     let q : ℕ = a / 2 ^ 64 in
     let r : ℕ = a % 2 ^ 64 in
-    let below : AllBelowBase 65536 (half_groups q ++ half_groups r) =
-        (below_65536 (2 ^ 48) q, (below_65536 (2 ^ 32) q,
-        (below_65536 (2 ^ 16) q, (below_65536 1 q, (below_65536 (2 ^ 48) r, (below_65536 (2 ^ 32) r, (below_65536 (2 ^ 16) r, (below_65536 1 r, tt)))))))) in
+    let below : AllBelowBase 65536 (half_groups q ++ half_groups r) = (
+      below_65536 (2 ^ 48) q,
+      (
+        below_65536 (2 ^ 32) q,
+        (below_65536 (2 ^ 16) q, (below_65536 1 q, (below_65536 (2 ^ 48) r, (below_65536 (2 ^ 32) r, (below_65536 (2 ^ 16) r, (below_65536 1 r, tt)))))),
+      ),
+    ) in
     record {
       part = subst (IsPart false) (sym (all_joined a)) (part in_quads (half_groups q ++ half_groups r) (lit< tt) below);
       stands = ip6 {address = a} (whole (record {

@@ -1,15 +1,17 @@
 -- The tokens of a resolved tree are read as that tree, and so what an expression means is read as
 -- the expression.
-use Rattle.flt_explain.proofs.Common.{◌≡◌, ℕ, suc, refl, ap, Bool, true, false, ◌&&◌, not, is_some, List, [], ◌∷◌, Option, Some, None, Operator, Protocol,
-    TokenKind, ValueType, Proto, Direction, Qualifiers, CompleteQualifiers, NetMask, Value, NumberTree, literal, len, named, load, negated, applied, TruthTree,
-    check, cast, sized, bare, valued, qualified, compared, denied, joined, Expression, empty, truth, latest, with_inherited, complete, completed_qualifiers,
-    only_host, fill_expression, IsResolved, any_primitive, fill_fault, is_misfit, is_out_of_range, is_unfilled, has_bits_past_mask, ReadsProtocol, no_protocol,
-    protocol, ReadsDirection, no_direction, one_side, source_first, of_type, ReadsQualifiers, qualifiers, ReadsMask, no_mask, prefix, dotted_mask, ReadsValue,
-    number, dotted, ip6_prefix, range, level, Number, of_literal, of_len, of_name, enclosed, of_sized_load, minus, chain, Truth, of_check, of_cast,
-    of_protocol_cast, of_sized, of_valued, relation, denial, enclosed_truth, term, terms, IsReadAs, no_tokens, all_tokens, mask_tokens, value_tokens,
-    protocol_tokens, direction_tokens, qualifier_tokens, written_direction, written_side, written_qualifiers, number_tokens, open_operand, close_operand,
-    truth_tokens, explained_tokens, IsWritable, IsWritableNumber, IsWritableTruth, ◌≤◌, lit≤, length, sym, subst, arith, short, Other, type_tokens,
-    explained_text, IsReadBack, IsWritableMask, IsWritableValue, or-true, or_parts}
+use Rattle.flt_explain.proofs.Common.{◌≡◌, ℕ, suc, refl, ap, Bool, true, false, ◌&&◌, not, is_some, List, [], ◌∷◌, Option, Some, None, Operator, Protocol}
+use Rattle.flt_explain.proofs.Common.{TokenKind, ValueType, Proto, Direction, Qualifiers, CompleteQualifiers, NetMask, Value, NumberTree, literal, len, named}
+use Rattle.flt_explain.proofs.Common.{load, negated, applied, TruthTree, check, cast, sized, bare, valued, qualified, compared, denied, joined, Expression}
+use Rattle.flt_explain.proofs.Common.{empty, truth, latest, with_inherited, complete, completed_qualifiers, only_host, fill_expression, IsResolved}
+use Rattle.flt_explain.proofs.Common.{any_primitive, fill_fault, is_misfit, is_out_of_range, is_unfilled, has_bits_past_mask, ReadsProtocol, no_protocol}
+use Rattle.flt_explain.proofs.Common.{protocol, ReadsDirection, no_direction, one_side, source_first, of_type, ReadsQualifiers, qualifiers, ReadsMask, no_mask}
+use Rattle.flt_explain.proofs.Common.{prefix, dotted_mask, ReadsValue, number, dotted, ip6_prefix, range, level, Number, of_literal, of_len, of_name, enclosed}
+use Rattle.flt_explain.proofs.Common.{of_sized_load, minus, chain, Truth, of_check, of_cast, of_protocol_cast, of_sized, of_valued, relation, denial}
+use Rattle.flt_explain.proofs.Common.{enclosed_truth, term, terms, IsReadAs, no_tokens, all_tokens, mask_tokens, value_tokens, protocol_tokens}
+use Rattle.flt_explain.proofs.Common.{direction_tokens, qualifier_tokens, written_direction, written_side, written_qualifiers, number_tokens, open_operand}
+use Rattle.flt_explain.proofs.Common.{close_operand, truth_tokens, explained_tokens, IsWritable, IsWritableNumber, IsWritableTruth, ◌≤◌, lit≤, length, sym}
+use Rattle.flt_explain.proofs.Common.{subst, arith, short, Other, type_tokens, explained_text, IsReadBack, IsWritableMask, IsWritableValue, or-true, or_parts}
 use Rattle.flt_words.specs.declared.token.Join.{Join}
 use Rattle.flt_ast.specs.Fits.{fit_of, is_either, is_misfit_fit, is_proto}
 use Rattle.flt_lang.{proofs.Stacked.widened, proofs.ValuesBack.level_small, specs.Values.ip6, specs.Values.mac}

@@ -1,9 +1,10 @@
 -- A sign in a text is a token, and the text of tokens is cut into these tokens.
-use Rattle.flt_explain.proofs.Common.{◌≡◌, ℕ, ◌<◌, ◌≤◌, ◌⊎◌, ⊎_elim, inr, List, [], ◌∷◌, ◌++◌, length, get_or, take, refl, ◌∙◌, arith, Bool, true, false, ◌==◌,
-    ◌&&◌, ◌||◌, not, nat_tests, list_all, Option, None, Some, TokenKind, within_word, look_up, symbol_of, found_passes, IsToken, symbol_meaning, longest_one,
-    longest_two, fixed_spelling, inl, suc, zero, ◌+◌, drop, sym, ap, subst, cond, count_by, nat_lt, codes, if◌then◌else◌, Ok, append_assoc, append-nil,
-    length-append, drop_at, get_or_at, take_at, Token, is_inside, TokensFrom, kinds_of, Following, gap, joins_next, joins_previous, next_after, spelling,
-    tokens_text, IsSpellable, or-true, Operator, symbol_piece, closings, openings, token_has, lt-ltb}
+use Rattle.flt_explain.proofs.Common.{◌≡◌, ℕ, ◌<◌, ◌≤◌, ◌⊎◌, ⊎_elim, inr, List, [], ◌∷◌, ◌++◌, length, get_or, take, refl, ◌∙◌, arith, Bool, true, false, ◌==◌}
+use Rattle.flt_explain.proofs.Common.{◌&&◌, ◌||◌, not, nat_tests, list_all, Option, None, Some, TokenKind, within_word, look_up, symbol_of, found_passes}
+use Rattle.flt_explain.proofs.Common.{IsToken, symbol_meaning, longest_one, longest_two, fixed_spelling, inl, suc, zero, ◌+◌, drop, sym, ap, subst, cond}
+use Rattle.flt_explain.proofs.Common.{count_by, nat_lt, codes, if◌then◌else◌, Ok, append_assoc, append-nil, length-append, drop_at, get_or_at, take_at, Token}
+use Rattle.flt_explain.proofs.Common.{is_inside, TokensFrom, kinds_of, Following, gap, joins_next, joins_previous, next_after, spelling, tokens_text}
+use Rattle.flt_explain.proofs.Common.{IsSpellable, or-true, Operator, symbol_piece, closings, openings, token_has, lt-ltb}
 use Rattle.flt_words.specs.Spellings.{symbols}
 use Rattle.flt_words.specs.declared.token.Comparison.{Comparison}
 use Rattle.flt_explain.proofs.AddressTokens.{dotted_for, mac_for, ip6_for}
@@ -73,8 +74,11 @@ sign_at : (inside : Bool) (place : ℕ) (word more : List ℕ) (t : TokenKind) �
 sign_at inside place [] more t is stops = absurd (omega (arith, (symbol_piece inside [] t is).some))
 sign_at inside place (b ∷ []) more t is stops =
     record { longest = longest_one (omega arith) (symbol_piece inside (b ∷ []) t is).starts_none (no_two inside b more stops) is; means = symbol_meaning is }
-sign_at inside place (b ∷ c ∷ []) more t is stops = record { longest = longest_two (omega arith) (symbol_piece inside (b ∷ c ∷ []) t is).starts_none
-    is; means = symbol_meaning is }
+sign_at inside place (b ∷ c ∷ []) more t is stops = record {
+  longest = longest_two (omega arith) (symbol_piece inside (b ∷ c ∷ []) t is).starts_none
+      is;
+  means = symbol_meaning is;
+}
 sign_at inside place (b ∷ c ∷ d ∷ word) more t is stops = absurd (omega (arith, (symbol_piece inside (b ∷ c ∷ d ∷ word) t is).upper_bound))
 
 abbrev pub is_sign : TokenKind → Bool
@@ -176,7 +180,7 @@ gap_is : (t : TokenKind) (rest : List TokenKind) → (gap t rest ≡ []) ⊎ (ga
 gap_is t [] = inl refl
 gap_is t (u ∷ rest) =
     elim (joins_next t || joins_previous u) as (λ b. ((if b then [] else codes " ") ≡ []) ⊎ ((if b then [] else codes " ") ≡ 32 ∷ []))
-        [ true ↦ inl refl | false ↦ inr refl ]
+    [ true ↦ inl refl | false ↦ inr refl ]
 
 gap_none : (c : ℕ) (g : List ℕ) → (g ≡ []) ⊎ (g ≡ 32 ∷ []) → (32 == c) ≡ false → count_by (λ b. b == c) g ≡ 0
 gap_none c g which other = ⊎_elim (λ e. ap (count_by (λ b. b == c)) e) (λ e. ap (count_by (λ b. b == c)) e ∙ rw other refl) which
@@ -194,7 +198,7 @@ over_gap text front g tail tokens is which from =
     (λ one.
     let at : length front + length g ≡ length front + 1 = omega (arith, ap length one) in
     let byte : get_or text (length front) 0 ≡ 32 = ap (λ t. get_or t (length front) 0) (is ∙ ap (λ h. front ++ (h ++ tail)) one)
-        ∙ get_or_at front 32 tail 0 (length front) refl in
+    ∙ get_or_at front 32 tail 0 (length front) refl in
     blank (rw byte refl) (subst (λ k. TokensFrom text k (Ok tokens)) at from))
     which
 
@@ -219,12 +223,21 @@ lexes (t ∷ rest) d following front counts s =
     let opened : count_by (λ b. b == 91) word ≡ openings t = ap (count_by (λ b. b == 91)) (sym cut) ∙ has.opened in
     let closed : count_by (λ b. b == 93) word ≡ closings t = ap (count_by (λ b. b == 93)) (sym cut) ∙ has.closed in
     let more : count_by (λ b. b == 91) (front ++ (word ++ g)) ≡ count_by (λ b. b == 93) (front ++ (word ++ g)) + depth_after d t =
-    omega (arith, counted 91 front word g, counted 93 front word g, gap_none 91 g which refl, gap_none 93 g which refl, depth_is d t s.1, opened,
-        closed, counts) in
+    omega (
+      arith,
+      counted 91 front word g,
+      counted 93 front word g,
+      gap_none 91 g which refl,
+      gap_none 93 g which refl,
+      depth_is d t s.1,
+      opened,
+      closed,
+      counts,
+    ) in
     let later = lexes rest (depth_after d t) next (front ++ (word ++ g)) more s.2 in
     let whole : (front ++ (word ++ g)) ++ tail ≡ text = simp append_assoc refl in
     let long : length (front ++ (word ++ g)) ≡ length (front ++ word) + length g =
-        omega (arith, length-append front (word ++ g), length-append word g, length-append front word) in
+    omega (arith, length-append front (word ++ g), length-append word g, length-append front word) in
     let after_gap : TokensFrom text (length (front ++ word) + length g) (Ok later.tokens) =
     subst (λ k. TokensFrom text k (Ok later.tokens)) long (subst (λ t. TokensFrom t (length (front ++ (word ++ g))) (Ok later.tokens)) whole later.are) in
     let split : text ≡ (front ++ word) ++ (g ++ tail) = sym (append_assoc front word (g ++ tail)) in
@@ -232,11 +245,11 @@ lexes (t ∷ rest) d following front counts s =
     subst (λ k. TokensFrom text k (Ok later.tokens)) (length-append front word) (over_gap text (front ++ word) g tail later.tokens split which after_gap) in
     let inside : nat_lt 0 d ≡ is_inside (take (length front) text) =
     sym (ap is_inside (take_at front (word ++ (g ++ tail)) (length front) refl) ∙ inside_is (count_by (λ b. b == 91) front)
-        (count_by (λ b. b == 93) front) d counts) in
+    (count_by (λ b. b == 93) front) d counts) in
     let left : word ++ (g ++ tail) ≡ drop (length front) text = sym (drop_at front (word ++ (g ++ tail)) (length front) refl) in
     let placed : IsToken (is_inside (take (length front) text)) (length front + 1) (drop (length front) text) t (length word) =
     subst (λ i. IsToken i (length front + 1) (drop (length front) text) t (length word)) inside
-        (subst (λ r. IsToken (nat_lt 0 d) (length front + 1) r t (length word)) left here) in
+    (subst (λ r. IsToken (nat_lt 0 d) (length front + 1) r t (length word)) left here) in
     record {
       tokens = record { kind = t; place = length front + 1 } ∷ later.tokens;
       are = one_more {answer = Ok later.tokens} placed after_word;

@@ -1,8 +1,8 @@
 -- The nodes from the last to the first are written as the tokens of their tree.
-use Rattle.flt_explain.proofs.Common.{◌≡◌, ℕ, ◌+◌, ◌-◌, ◌<◌, ◌≤◌, refl, sym, ap, ◌∙◌, subst, arith, Bool, true, false, List, [], ◌∷◌, Some, None, length, drop,
-    get_or, nat_lt, nat_tests, drop_more, length-drop, TokenKind, NumberTree, load, negated, applied, TruthTree, check, cast, compared, denied, joined,
-    Expression, empty, truth, number_tokens, truth_tokens, explained_tokens, open_operand, WriterState, write_pending, parenthesis_before, is_more, write_nodes,
-    write_node}
+use Rattle.flt_explain.proofs.Common.{◌≡◌, ℕ, ◌+◌, ◌-◌, ◌<◌, ◌≤◌, refl, sym, ap, ◌∙◌, subst, arith, Bool, true, false, List, [], ◌∷◌, Some, None, length, drop}
+use Rattle.flt_explain.proofs.Common.{get_or, nat_lt, nat_tests, drop_more, length-drop, TokenKind, NumberTree, load, negated, applied, TruthTree, check, cast}
+use Rattle.flt_explain.proofs.Common.{compared, denied, joined, Expression, empty, truth, number_tokens, truth_tokens, explained_tokens, open_operand}
+use Rattle.flt_explain.proofs.Common.{WriterState, write_pending, parenthesis_before, is_more, write_nodes, write_node}
 use Rattle.flt_ast.specs.declared.node.Node.{Node}
 use Rattle.flt_ast.specs.declared.node.Node.TheVariants as node
 use Rattle.flt_ast.specs.Nodes.{number_nodes, truth_nodes, expr_nodes}
@@ -62,7 +62,7 @@ pub settled_end : (s new whole : WriterState) → s.pending ≡ [] → new.pendi
 settled_end s new whole none left same settles =
     let end : write_pending [] s.tokens ≡ whole = subst (λ ps. write_pending ps s.tokens ≡ whole) none settles in
     subst (λ ps. ◌≡◌ {A = WriterState} (record { pending = ps; tokens = new.tokens }) whole) (sym left)
-        (subst (λ ts. ◌≡◌ {A = WriterState} (record { pending = []; tokens = ts }) whole) (sym same) end)
+    (subst (λ ts. ◌≡◌ {A = WriterState} (record { pending = []; tokens = ts }) whole) (sym same) end)
 
 more_is : (nodes : List Node) → is_more nodes ≡ nat_lt 0 (length nodes)
 more_is [] = refl
@@ -80,11 +80,11 @@ pub writes_on : (nodes : List Node) (at : ℕ) (d : Node) (s new : WriterState) 
 writes_on nodes at d s new some within so_far node =
     let back : at - 1 + 1 ≡ at = omega arith in
     let cut : drop (at - 1) nodes ≡ get_or nodes (at - 1) d ∷ drop at nodes = drop_more nodes (at - 1) d (omega arith)
-        ∙ ap (λ i. get_or nodes (at - 1) d ∷ drop i nodes) back in
+    ∙ ap (λ i. get_or nodes (at - 1) d ∷ drop i nodes) back in
     let step : write_node (is_more (drop at nodes)) (get_or nodes (at - 1) d) (write_nodes (drop at nodes)) ≡ write_nodes (drop (at - 1) nodes) =
-        ap write_nodes (sym cut) in
+    ap write_nodes (sym cut) in
     node ∙ ap (write_node (nat_lt at (length nodes)) (get_or nodes (at - 1) d)) so_far
-        ∙ ap (λ o. write_node o (get_or nodes (at - 1) d) (write_nodes (drop at nodes))) (sym (more_at nodes at)) ∙ step
+    ∙ ap (λ o. write_node o (get_or nodes (at - 1) d) (write_nodes (drop at nodes))) (sym (more_at nodes at)) ∙ step
 
 pub all_written : (e : Expression) (nodes : List Node) (s : WriterState) (tokens : List TokenKind) (at : ℕ) → at ≤ 0 → nodes ≡ expr_nodes e
     → s ≡ write_nodes (drop at nodes) → tokens ≡ s.tokens → tokens ≡ explained_tokens e

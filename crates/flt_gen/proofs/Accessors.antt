@@ -1,7 +1,7 @@
 -- Tests of accessors and members of a group, one more at a time.
-use Rattle.flt_gen.proofs.Common.{◌≡◌, ℕ, ◌+◌, ◌<◌, List, [], ◌∷◌, ◌++◌, length, take, drop, get_or, refl, ap, ◌∙◌, add-one, reverse, take-suc, reverse-append,
-    Insn, Protocol, Link, accessor_tests, Block, block, emit_all, emit_elementary, emit_accessor_tests, Entry, rows_formula, Option, None, Formula,
-    CompleteQualifiers, Value, network_offset, ip6_test, ip6_tests}
+use Rattle.flt_gen.proofs.Common.{◌≡◌, ℕ, ◌+◌, ◌<◌, List, [], ◌∷◌, ◌++◌, length, take, drop, get_or, refl, ap, ◌∙◌, add-one, reverse, take-suc, reverse-append}
+use Rattle.flt_gen.proofs.Common.{Insn, Protocol, Link, accessor_tests, Block, block, emit_all, emit_elementary, emit_accessor_tests, Entry, rows_formula}
+use Rattle.flt_gen.proofs.Common.{Option, None, Formula, CompleteQualifiers, Value, network_offset, ip6_test, ip6_tests}
 use Rattle.flt_gen.specs.inside.{Cases.unasked, Code.emit_formula, Group.entry_formula}
 
 -- one more, and the last is the first
@@ -36,12 +36,12 @@ pub one_more_host : (link : Link) (es : List Entry) (k : ℕ) (other : Entry) (q
     (c d d' : List Insn) (entry entry' : ℕ) → k < length es → get_or es k other ≡ Entry.Value q (Value.Ip6 a m)
     → emit_formula link (unasked link (reverse (take k es))) hit miss c ≡ block d entry
     → (let e = emit_elementary (ip6_test None a (network_offset link + 24) 2) miss entry d in
-        emit_all (drop 2 (ip6_tests None a (network_offset link + 8))) hit e.entry e.code ≡ block d' entry')
+    emit_all (drop 2 (ip6_tests None a (network_offset link + 8))) hit e.entry e.code ≡ block d' entry')
     → emit_formula link (unasked link (reverse (take (k + 1) es))) hit miss c ≡ block d' entry'
 one_more_host link es k other q a m hit miss c d d' entry entry' l is h n =
     ap (λ (xs : List Entry). emit_formula link (unasked link xs) hit miss c) (turned es k other l ∙ ap (λ e. e ∷ reverse (take k es)) is)
     ∙ ap (λ (b : Block). let e = emit_elementary (ip6_test None a (network_offset link + 24) 2) miss b.entry b.code in
-        emit_all (drop 2 (ip6_tests None a (network_offset link + 8))) hit e.entry e.code) h ∙ n
+    emit_all (drop 2 (ip6_tests None a (network_offset link + 8))) hit e.entry e.code) h ∙ n
 
 -- an entry that is none
 pub no_host : (link : Link) (es : List Entry) (k : ℕ) (other e : Entry) (hit miss : ℕ) (c : List Insn) → k < length es → get_or es k other ≡ e
@@ -49,4 +49,4 @@ pub no_host : (link : Link) (es : List Entry) (k : ℕ) (other e : Entry) (hit m
     emit_formula link (unasked link (reverse (take k es))) hit miss c
 no_host link es k other e hit miss c l is skip =
     ap (λ (xs : List Entry). emit_formula link (unasked link xs) hit miss c) (turned es k other l ∙ ap (λ e. e ∷ reverse (take k es)) is)
-        ∙ ap (λ (f : Formula). emit_formula link f hit miss c) (skip (reverse (take k es)))
+    ∙ ap (λ (f : Formula). emit_formula link f hit miss c) (skip (reverse (take k es)))

@@ -1,8 +1,9 @@
 -- Intervals that ascend.
-use Rattle.flt_gen.proofs.Common.{◌≡◌, ℕ, zero, suc, ◌+◌, ◌-◌, ◌^◌, ◌<◌, ◌≤◌, List, [], ◌∷◌, length, take, drop, get_or, Bool, true, false, Option, Some, None,
-    refl, sym, ap, ap₂, ◌∙◌, subst, arith, nat_lt, nat_le, ◌==◌, ◌&&◌, ◌||◌, max, if◌then◌else◌, nat_tests, and_parts, or_assoc, Interval, Sides, Offset, Fixed,
-    AfterHeader, field_at, under_mask, low_of, Formula, Single, Compare, Both, Either, Except, Split, Sought, Numbers, is_in, is_within, no_interval,
-    first_ends, insert_ascending, is_gap, extended, joined_from, joined_all, same_interval, without}
+use Rattle.flt_gen.proofs.Common.{◌≡◌, ℕ, zero, suc, ◌+◌, ◌-◌, ◌^◌, ◌<◌, ◌≤◌, List, [], ◌∷◌, length, take, drop, get_or, Bool, true, false, Option, Some, None}
+use Rattle.flt_gen.proofs.Common.{refl, sym, ap, ap₂, ◌∙◌, subst, arith, nat_lt, nat_le, ◌==◌, ◌&&◌, ◌||◌, max, if◌then◌else◌, nat_tests, and_parts, or_assoc}
+use Rattle.flt_gen.proofs.Common.{Interval, Sides, Offset, Fixed, AfterHeader, field_at, under_mask, low_of, Formula, Single, Compare, Both, Either, Except}
+use Rattle.flt_gen.proofs.Common.{Split, Sought, Numbers, is_in, is_within, no_interval, first_ends, insert_ascending, is_gap, extended, joined_from}
+use Rattle.flt_gen.proofs.Common.{joined_all, same_interval, without}
 use Rattle.std.specs.List.{insert}
 
 -- by a test
@@ -27,12 +28,12 @@ inserted_at i [] (suc at) l low high = absurd (omega arith)
 inserted_at i (j ∷ js) zero l low high =
     let h = high (omega arith) in
     if_case (λ r. i ∷ j ∷ js ≡ r) (nat_lt j.low i.low) (j ∷ insert_ascending i js) (i ∷ j ∷ js)
-        (λ e. absurd (let k : j.low < i.low = grind (arith, nat_tests) in omega arith)) (λ e. refl)
+    (λ e. absurd (let k : j.low < i.low = grind (arith, nat_tests) in omega arith)) (λ e. refl)
 inserted_at i (j ∷ js) (suc at) l low high =
     let k = low 0 (omega arith) in
     let h = inserted_at i js at (omega arith) (λ n m. low (suc n) (omega arith)) (λ m. high (omega arith)) in
     if_case (λ r. j ∷ insert js at i ≡ r) (nat_lt j.low i.low) (j ∷ insert_ascending i js) (i ∷ j ∷ js) (λ e. ap (λ r. j ∷ r) h)
-        (λ e. absurd (let no : (j.low < i.low) → ⊥ = grind (arith, nat_tests) in no k))
+    (λ e. absurd (let no : (j.low < i.low) → ⊥ = grind (arith, nat_tests) in no k))
 
 -- intervals from a number on, each of which begins past the one before
 abbrev pub Apart : ℕ → List Interval → Type 0
@@ -160,7 +161,7 @@ pub length_inserted : (i : Interval) (is : List Interval) → length (insert_asc
 length_inserted i [] = refl
 length_inserted i (j ∷ js) =
     if_case (λ xs. length xs ≡ length (j ∷ js) + 1) (nat_lt j.low i.low) (j ∷ insert_ascending i js) (i ∷ j ∷ js)
-        (λ e. let h = length_inserted i js in omega arith) (λ e. omega arith)
+    (λ e. let h = length_inserted i js in omega arith) (λ e. omega arith)
 
 or_swap : (a b c : Bool) → (b || (a || c)) ≡ (a || (b || c))
 or_swap a b c = grind (arith, nat_tests)

@@ -1,10 +1,10 @@
 -- The counts of the table's formulas are at most those of the tree.
 use Rattle.flt_gen.proofs.Ascending.{Ready, Searches}
-use Rattle.flt_gen.proofs.Common.{◌≡◌, ℕ, ◌+◌, ◌-◌, ◌≤◌, max, min, List, [], ◌∷◌, length, Option, Some, None, refl, arith, Protocol, Source, Destination, And,
-    Or, ValueType, Host, Net, Port, PortRange, Proto, Direction, Value, Link, FrameKind, Elementary, Sides, One, Between, ip_transport, ip6_transport, Formula,
-    Single, Both, Either, Split, Sought, all_of, sides, Numbers, no_numbers, after, any_proto, mac_tests, check_formula, cast_formula, proto_formula,
-    hosts_of_kind, hosts_formula, net_formula, ip6_formula, ether_host, port_formula, port_test, port_sides, transport, value_formula, sought_tests, tests,
-    nodes, words}
+use Rattle.flt_gen.proofs.Common.{◌≡◌, ℕ, ◌+◌, ◌-◌, ◌≤◌, max, min, List, [], ◌∷◌, length, Option, Some, None, refl, arith, Protocol, Source, Destination, And}
+use Rattle.flt_gen.proofs.Common.{Or, ValueType, Host, Net, Port, PortRange, Proto, Direction, Value, Link, FrameKind, Elementary, Sides, One, Between}
+use Rattle.flt_gen.proofs.Common.{ip_transport, ip6_transport, Formula, Single, Both, Either, Split, Sought, all_of, sides, Numbers, no_numbers, after}
+use Rattle.flt_gen.proofs.Common.{any_proto, mac_tests, check_formula, cast_formula, proto_formula, hosts_of_kind, hosts_formula, net_formula, ip6_formula}
+use Rattle.flt_gen.proofs.Common.{ether_host, port_formula, port_test, port_sides, transport, value_formula, sought_tests, tests, nodes, words}
 use Rattle.flt_words.specs.declared.token.Cast.{Cast, TheVariants.Broadcast, TheVariants.Multicast}
 use Rattle.flt_ast.specs.Counts as count
 use Rattle.flt_gen.specs.declared.{address.Hosts.Hosts, port.PortTest.PortTest}
@@ -116,7 +116,7 @@ bare_net : (link : Link) (p : Option Protocol) (d : Direction) (mask : Option �
 bare_net link p d mask a =
     let e = ip4_are p d in
     bare_within _ (omega arith) (bare_hosts link p (Hosts.Net d mask a) no_numbers _ (omega arith)
-        (λ k. bare_after (bare_sides d _ _ 1 (omega arith) (omega arith) (omega arith))))
+    (λ k. bare_after (bare_sides d _ _ 1 (omega arith) (omega arith) (omega arith))))
 
 bare_ip6 : (link : Link) (d : Direction) (prefix : Option ℕ) (a : ℕ) → Bare (ip6_formula link d prefix a) (count.ip6_test_count d)
 bare_ip6 link d prefix a = bare_after (bare_sides d _ _ 4 (omega arith) (omega arith) (omega arith))
@@ -145,10 +145,10 @@ bare_value link Net p d (Value.Dotted a m) = bare_net link p d _ _
 bare_value link Net p d (Value.Ip6 a n) = bare_ip6 link d n a
 bare_value link Port p d (Value.Number n m) =
     bare_ports link (port_test p d (One n)) no_numbers _ (bare_sides d _ _ 1 (omega arith) (omega arith) (omega arith))
-        (bare_sides d _ _ 1 (omega arith) (omega arith) (omega arith))
+    (bare_sides d _ _ 1 (omega arith) (omega arith) (omega arith))
 bare_value link PortRange p d (Value.Range a b) =
     bare_ports link (port_test p d (Between (min a b) (max a b))) no_numbers _ (bare_sides d _ _ 2 (omega arith) (omega arith) (omega arith))
-        (bare_sides d _ _ 2 (omega arith) (omega arith) (omega arith))
+    (bare_sides d _ _ 2 (omega arith) (omega arith) (omega arith))
 bare_value link Proto p d (Value.Number n m) = bare_proto_value link p n
 bare_value link _ None d _ = bare_some _ (omega arith)
 bare_value link _ _ d _ = bare_some _ (omega arith)

@@ -1,10 +1,10 @@
 -- Decision trees of cases: they read as one case after the other, and have few tests.
 use Rattle.flt_gen.proofs.Ascending.{if_case, each_is}
-use Rattle.flt_gen.proofs.Common.{◌≡◌, ℕ, zero, suc, ◌+◌, ◌-◌, ◌*◌, ◌^◌, ◌<◌, ◌≤◌, List, [], ◌∷◌, ◌++◌, length, map, max, length-take, take, drop, Bool, true,
-    false, Option, Some, None, refl, sym, ap, ap₂, ◌∙◌, subst, arith, add-one, field, is_empty, is_idle, capture_test, last_test, needed_tests, ◌==◌, ◌&&◌,
-    nat_lt, nat_le, bit_and, nat_tests, and_parts, pow_pos, and_le_r, Tcp, Direction, Link, first_bits, Word, HalfWord, Byte, Width, Offset, Fixed, Equal,
-    Elementary, Field, MatchResult, Yes, No, Rejected, reading_of, with, field_at, under_mask, compares, elementary_reads, network_offset, Formula, both,
-    either, all_of, reads, partial_mask}
+use Rattle.flt_gen.proofs.Common.{◌≡◌, ℕ, zero, suc, ◌+◌, ◌-◌, ◌*◌, ◌^◌, ◌<◌, ◌≤◌, List, [], ◌∷◌, ◌++◌, length, map, max, length-take, take, drop, Bool, true}
+use Rattle.flt_gen.proofs.Common.{false, Option, Some, None, refl, sym, ap, ap₂, ◌∙◌, subst, arith, add-one, field, is_empty, is_idle, capture_test, last_test}
+use Rattle.flt_gen.proofs.Common.{needed_tests, ◌==◌, ◌&&◌, nat_lt, nat_le, bit_and, nat_tests, and_parts, pow_pos, and_le_r, Tcp, Direction, Link, first_bits}
+use Rattle.flt_gen.proofs.Common.{Word, HalfWord, Byte, Width, Offset, Fixed, Equal, Elementary, Field, MatchResult, Yes, No, Rejected, reading_of, with}
+use Rattle.flt_gen.proofs.Common.{field_at, under_mask, compares, elementary_reads, network_offset, Formula, both, either, all_of, reads, partial_mask}
 use Rattle.flt_gen.proofs.Counted.{Bare, bare_within, bare_all, bare_one, bare_some, bare_both, bare_either, bare_split}
 use Rattle.flt_gen.proofs.Exclusive.{both_either, or_no, either_assoc, and_yes}
 use Rattle.flt_gen.proofs.{Needed.all_put, Needed.later_none, Needed.idle_holds, Needed.fewer, Once.equal_are, Together.word_small}
@@ -17,8 +17,8 @@ use Rattle.flt_gen.specs.declared.{elementary.FieldTest.FieldTest, relation.Rela
 use Rattle.flt_gen.specs.inside.{Emitted.equals, Code.accessor_offset}
 use Rattle.flt_gen.specs.Numbers.{accessor_tests, width_of}
 use Rattle.flt_words.specs.declared.token.Protocol.{Protocol}
-use Rattle.flt_gen.specs.inside.Cases.{same_words, case_front, mac_place, ip6_place, case_tests, word_test, lowest, is_whole, keeps, all_keep, chain, test_at,
-    from_test, middle, is_parted, same_word, decided, decision}
+use Rattle.flt_gen.specs.inside.Cases.{same_words, case_front, mac_place, ip6_place, case_tests, word_test, lowest, is_whole, keeps, all_keep, chain, test_at}
+use Rattle.flt_gen.specs.inside.Cases.{from_test, middle, is_parted, same_word, decided, decision}
 use Rattle.std.proofs.lemmas.{List.length-map, List.map-append, List.take-append-drop, List.length-drop, List.length-append, Nat.and-not, Nat.and_comm}
 
 -- ---- which words cases have
@@ -62,17 +62,32 @@ masked_part k fs None word later = tt
 masked_part k fs (Some bits) word later =
     let some = pow_pos (32 - (bits - 32 * word)) in
     if_case (Masked (Fixed k, Word) fs) (first_bits 32 (bits - 32 * word) == 2 ^ 32 - 1) None (Some (first_bits 32 (bits - 32 * word))) (λ e. tt)
-        (λ e. (omega (arith, some), refl, (k, refl), later))
+    (λ e. (omega (arith, some), refl, (k, refl), later))
 
 pub shape_of : (link : Link) (d : Direction) (c : Case) → Shape (fields_of link d c) (case_tests link d c)
 shape_of link d (Mac a) = (refl, refl, refl, tt, (refl, refl, refl, tt, tt))
 shape_of link d (Ip6 n a) =
     let at = network_offset link + ip6_place d in
     let word : ℕ → Offset × Width = λ k. (Fixed (at + 4 * k), Word) in
-    let later : (k : ℕ) (p : List ℕ) → field p (at + 4 * k) Word ≡ None → field p (at + 4 * suc k) Word ≡ None = λ k p. later_none link p 0 at k in
-    (refl, refl, refl, masked_part _ (word 1 ∷ word 2 ∷ word 3 ∷ []) n 0 (later 0),
-        (refl, refl, refl, masked_part _ (word 2 ∷ word 3 ∷ []) n 1 (later 1), (refl, refl, refl, masked_part _ (word 3 ∷ []) n 2 (later 2),
-        (refl, refl, refl, masked_part _ [] n 3 tt, tt))))
+    let later : (k : ℕ) (p : List ℕ) → field p (at + 4 * k) Word ≡ None → field p (at + 4 * suc k) Word ≡ None = λ k p. later_none link p 0 at k in (
+      refl,
+      refl,
+      refl,
+      masked_part _ (word 1 ∷ word 2 ∷ word 3 ∷ []) n 0 (later 0),
+      (
+        refl,
+        refl,
+        refl,
+        masked_part _ (word 2 ∷ word 3 ∷ []) n 1 (later 1),
+        (
+          refl,
+          refl,
+          refl,
+          masked_part _ (word 3 ∷ []) n 2 (later 2),
+          (refl, refl, refl, masked_part _ [] n 3 tt, tt),
+        ),
+      ),
+    )
 shape_of link d (EitherIp6 a) =
     (refl, refl, refl, tt, (refl, refl, refl, tt, (refl, refl, refl, tt, (refl, refl, refl, tt, tt))))
 shape_of link d _ = (refl, refl, refl, tt, tt)
@@ -134,7 +149,7 @@ miss t (Below n) (Some mask) v x small k l =
     let whole = and-not 32 mask x s.0 s.1 in
     let swap = and_comm mask x in
     let rest : bit_and (2 ^ 32 - 1 - mask) x ≤ 2 ^ 32 - 1 - mask = (let c = and_comm (2 ^ 32 - 1 - mask) x in let r = and_le_r x (2 ^ 32 - 1 - mask)
-        in omega arith) in
+    in omega arith) in
     let apart : bit_and x mask ≡ v → ⊥ = λ e. omega arith in
     grind (arith, nat_tests)
 miss t (From n) None v x small k l = grind (arith, nat_tests)
@@ -309,7 +324,7 @@ module _ (link : Link) (p : List ℕ) (n : ℕ) where
   same_read f fs k ((Field t ∷ ts) ∷ rs) h a some =
       let b = and_parts (is_whole t.mask && t.value == k) (all_rows (Exactly k) rs) a in
       ap (λ r. either r (read_all rs)) (test_read f fs t ts h.0 ∙ ap (λ r. both r (told ts)) (one_word f k t.mask t.value b.0))
-          ∙ others rs (λ l. same_read f fs k rs h.1 b.1 l)
+      ∙ others rs (λ l. same_read f fs k rs h.1 b.1 l)
     where
       others : (qs : List (List Elementary)) → (0 < length qs → read_all qs ≡ both (by_field f None k) (read_all (map rest qs)))
           → either (both (by_field f None k) (told ts)) (read_all qs) ≡ both (by_field f None k) (either (told ts) (read_all (map rest qs)))
@@ -347,13 +362,13 @@ module _ (link : Link) (p : List ℕ) (n : ℕ) where
       by None is =
           ap (λ o. both (reading_of (with o (λ y. Some (under_mask t.mask y == t.value)))) (told (Field u ∷ us))) is
           ∙ sym (test_read g gs u us h.4 ∙ ap (λ o. both (reading_of (with o (λ y. Some (under_mask u.mask y == u.value)))) (told us))
-              (idle_later f g gs t.mask t.value e h.3 is))
+          (idle_later f g gs t.mask t.value e h.3 is))
       by (Some x) is = ap (λ r. both r (told (Field u ∷ us))) (idle_yes f t.mask t.value x e is)
 
   last_read : (f : Offset × Width) (t : FieldTest) → Shape (f ∷ []) (Field t ∷ []) → elementary_reads (last_test (Field t)) p ≡ elementary_reads (Field t) p
   last_read f t h =
       if_case (λ u. elementary_reads u p ≡ elementary_reads (Field t) p) (is_idle (Field t)) (capture_test (Field t)) (Field t)
-          (λ e. by e (field_at t.offset t.width p) refl) (λ e. refl)
+      (λ e. by e (field_at t.offset t.width p) refl) (λ e. refl)
     where
       by : is_idle (Field t) ≡ true → (o : Option ℕ) → field_at t.offset t.width p ≡ o → elementary_reads (capture_test (Field t)) p ≡
           elementary_reads (Field t) p
@@ -371,7 +386,7 @@ module _ (link : Link) (p : List ℕ) (n : ℕ) where
       let more = needed_read (g ∷ gs) (Field u ∷ us) h.4 in
       if_case (λ xs. told xs ≡ told (Field t ∷ Field u ∷ us)) (is_idle (Field t)) (needed_tests (Field u ∷ us)) (Field t ∷ needed_tests (Field u ∷ us))
       (λ e. more ∙ sym (idle_read f g gs t u us h e)) (λ e. all_put link p n (Field t) (needed_tests (Field u ∷ us))
-          ∙ ap (both (elementary_reads (Field t) p)) more)
+      ∙ ap (both (elementary_reads (Field t) p)) more)
   needed_read (f ∷ []) (Field t ∷ u ∷ us) h = absurd h.4
   needed_read (f ∷ g ∷ gs) (Field t ∷ _) h = absurd h.4
   needed_read _ _ h = absurd h
@@ -423,12 +438,17 @@ module _ (link : Link) where
   chain_good : (few : ℕ) (by : Case → List Elementary) (w : ℕ) (fs : List (Offset × Width)) (cs : List Case) → Shapes fs (rows by w cs)
       → Good few fs (rows by w cs) (chain by w cs)
   chain_good few by w fs [] h = (λ p n. refl, λ some l. absurd (omega arith))
-  chain_good few by w fs (c ∷ []) h = (λ p n. needed_read link p n fs (drop w (by c)) h.0 ∙ sym (or_no _), λ some l. bare_within _ (omega arith)
-      (row_bare fs (drop w (by c)) h.0 some))
+  chain_good few by w fs (c ∷ []) h = (
+    λ p n. needed_read link p n fs (drop w (by c)) h.0 ∙ sym (or_no _),
+    λ some l. bare_within _ (omega arith)
+        (row_bare fs (drop w (by c)) h.0 some),
+  )
   chain_good few by w fs (c ∷ d ∷ cs) h =
-      let more = chain_good few by w fs (d ∷ cs) h.1 in
-      (λ p n. ap₂ either (needed_read link p n fs (drop w (by c)) h.0) (more.0 p n), λ some l. bare_within _ (omega arith)
-          (bare_either (row_bare fs (drop w (by c)) h.0 some) (more.1 some (omega arith))))
+      let more = chain_good few by w fs (d ∷ cs) h.1 in (
+        λ p n. ap₂ either (needed_read link p n fs (drop w (by c)) h.0) (more.0 p n),
+        λ some l. bare_within _ (omega arith)
+            (bare_either (row_bare fs (drop w (by c)) h.0 some) (more.1 some (omega arith))),
+      )
 
   same_good : (few : ℕ) (next : Formula) (fs : List (Offset × Width)) (r : List Elementary) (rs : List (List Elementary)) → Shapes fs (r ∷ rs)
       → all_rows (Exactly (lowest (first r))) (r ∷ rs) ≡ true → ((gs : List (Offset × Width)) → Shapes gs (map rest (r ∷ rs))
@@ -437,7 +457,7 @@ module _ (link : Link) where
   same_good few next (f ∷ []) (Field t ∷ []) rs h a ok = (
     λ p n. first_told link p n f [] t [] rs h.0 a ∙ sym (and_yes _)
         ∙ ap (both (by_field link p n f None t.value))
-            (sym (all_over link p n (map rest ((Field t ∷ []) ∷ rs)) (shapes_rest f [] ((Field t ∷ []) ∷ rs) h) (omega arith)))
+        (sym (all_over link p n (map rest ((Field t ∷ []) ∷ rs)) (shapes_rest f [] ((Field t ∷ []) ∷ rs) h) (omega arith)))
         ∙ sym (same_read link p n f [] t.value ((Field t ∷ []) ∷ rs) h a (omega arith)),
     λ some l. bare_some _ (omega arith),
   )
@@ -463,7 +483,7 @@ module _ (link : Link) where
       let long = length-append lower upper in (
         λ p n. ap₂ (choose _) (m.0 p n) (l.0 p n)
             ∙ ap₂ (λ o w. choose (reading_of (with (field_at o w p) (λ x. Some (nat_le k x)))) (read_all link p n upper)
-                (read_all link p n ((Field t ∷ ts) ∷ lower))) (g.0).0 (g.0).1
+            (read_all link p n ((Field t ∷ ts) ∷ lower))) (g.0).0 (g.0).1
             ∙ halves_read link p n f fs k ((Field t ∷ ts) ∷ lower) upper g h a b (omega arith)
             ∙ sym (read_append link p n ((Field t ∷ ts) ∷ lower) upper),
         λ words z. bare_within _ (omega arith) (bare_split (m.1 words some) (l.1 words (omega arith))),
@@ -478,19 +498,19 @@ module _ (link : Link) where
       (λ e. if_case (Good few fs (rows by w cs)) (all_keep by w (Exactly (lowest (test_at by w cs 0))) cs) _ _
       (λ a. same cs h (let t : few < length cs = grind (arith, nat_tests) in omega arith) a)
       (λ a. if_case (Good few fs (rows by w cs)) (is_parted by w cs (middle by w cs)) _ _ (λ b. parts cs (middle by w cs) h (grind (arith, nat_tests))
-          b) (λ b. chain_good few by w fs cs h)))
+      b) (λ b. chain_good few by w fs cs h)))
     where
       same : (ds : List Case) → Shapes fs (rows by w ds) → 0 < length ds → all_keep by w (Exactly (lowest (test_at by w ds 0))) ds ≡ true
           → Good few fs (rows by w ds) (same_word (test_at by w ds 0) (test_at by (w + 1) ds 0) (next (w + 1) ds))
       same [] h some a = absurd (omega arith)
       same (d ∷ ds) h some a =
           subst (Good few fs (rows by w (d ∷ ds))) (ap₂ (λ t u. same_word t u (next (w + 1) (d ∷ ds))) (sym (first_is (by d) w))
-              (sym (first_is (by d) (w + 1) ∙ ap first (rest_is (by d) w))))
+          (sym (first_is (by d) (w + 1) ∙ ap first (rest_is (by d) w))))
           (same_good few (next (w + 1) (d ∷ ds)) fs (drop w (by d)) (rows by w ds) h
           (ap (λ t. all_rows (Exactly (lowest t)) (rows by w (d ∷ ds))) (sym (first_is (by d) w))
-              ∙ sym (kept_rows by w (Exactly (lowest (word_test by w d))) (d ∷ ds)) ∙ a)
+          ∙ sym (kept_rows by w (Exactly (lowest (word_test by w d))) (d ∷ ds)) ∙ a)
           (λ gs g. let same = rows_rest by w (d ∷ ds) in subst (λ rs. Good few gs rs (next (w + 1) (d ∷ ds))) same
-              (ok (w + 1) gs (d ∷ ds) (subst (Shapes gs) (sym same) g))))
+          (ok (w + 1) gs (d ∷ ds) (subst (Shapes gs) (sym same) g))))
 
       parts : (ds : List Case) (at : ℕ) → Shapes fs (rows by w ds) → few < length ds → is_parted by w ds at ≡ true → Good few fs (rows by w ds)
           (Split (from_test (test_at by w ds 0) (lowest (test_at by w ds at))) (next w (drop at ds)) (next w (take at ds)))
@@ -504,15 +524,20 @@ module _ (link : Link) where
           let shapes = shapes_parts fs by w (suc at) (d ∷ ds) h in
           let some : suc at < length (d ∷ ds) = (let t = b.0 in grind (arith, nat_tests)) in
           subst (λ rs. Good few fs rs (Split (from_test (word_test by w d) k) (next w (drop at ds)) (next w (d ∷ take at ds))))
-              (rows_parts by w (suc at) (d ∷ ds))
+          (rows_parts by w (suc at) (d ∷ ds))
           (subst (λ t. Good few fs (rows by w (d ∷ take at ds) ++ rows by w (drop at ds))
-              (Split (from_test t k) (next w (drop at ds)) (next w (d ∷ take at ds)))) (sym (first_is (by d) w))
+          (Split (from_test t k) (next w (drop at ds)) (next w (d ∷ take at ds)))) (sym (first_is (by d) w))
           (parted_good few fs k (drop w (by d)) (rows by w (take at ds)) (rows by w (drop at ds)) (next w (d ∷ take at ds)) (next w (drop at ds))
-              shapes.0 shapes.1 (sym (kept_rows by w (Below k) (d ∷ take at ds)) ∙ c.0) (sym (kept_rows by w (From k) (drop at ds)) ∙ c.1)
+          shapes.0 shapes.1 (sym (kept_rows by w (Below k) (d ∷ take at ds)) ∙ c.0) (sym (kept_rows by w (From k) (drop at ds)) ∙ c.1)
           (ok w fs (d ∷ take at ds) shapes.0) (ok w fs (drop at ds) shapes.1)
-              (omega (arith, length-map (drop at ds) (λ (c : Case). drop w (by c)), length-drop at ds))
-          (omega (arith, length-map (take at ds) (λ (c : Case). drop w (by c)), length-map (drop at ds) (λ (c : Case). drop w (by c)),
-              length-drop at ds, length-take at ds))))
+          (omega (arith, length-map (drop at ds) (λ (c : Case). drop w (by c)), length-drop at ds))
+          (omega (
+            arith,
+            length-map (take at ds) (λ (c : Case). drop w (by c)),
+            length-map (drop at ds) (λ (c : Case). drop w (by c)),
+            length-drop at ds,
+            length-take at ds,
+          ))))
 
   pub decision_good : (by : Case → List Elementary) (few k w : ℕ) (fs : List (Offset × Width)) (cs : List Case) → Shapes fs (rows by w cs)
       → Good few fs (rows by w cs) (decision few k by w cs)

@@ -1,14 +1,14 @@
 -- A decision tree, unfolded once, and the tests of a case from a word on.
-use Rattle.std.proofs.Common.{◌≡◌, ℕ, zero, suc, ◌+◌, ◌-◌, ◌<◌, List, [], ◌∷◌, drop, take, get_or, length, Bool, true, false, Option, Some, None, refl, ap, ap₂,
-    ◌∙◌, sym, subst, arith, nat_le, ◌≤◌, ◌⊎◌, inl, inr}
+use Rattle.std.proofs.Common.{◌≡◌, ℕ, zero, suc, ◌+◌, ◌-◌, ◌<◌, List, [], ◌∷◌, drop, take, get_or, length, Bool, true, false, Option, Some, None, refl, ap, ap₂}
+use Rattle.std.proofs.Common.{◌∙◌, sym, subst, arith, nat_le, ◌≤◌, ◌⊎◌, inl, inr}
 use Rattle.std.proofs.lemmas.Bool.Decides.{nat_tests}
 use Rattle.std.specs.Prelude.{slice_get, is_none, if◌then◌else◌, Result}
 use Rattle.std.specs.declared.alloc.AllocError.{AllocError}
 use Rattle.flt_gen.specs.Formula.{Formula, Single, Both, Split, all_of, guarded_formula}
 use Rattle.flt_gen.specs.{Primitives.ip6_tests, declared.cases.Bound.TheVariants.Exactly, declared.cases.Case.Case, declared.group.Entry.Entry}
 use Rattle.flt_gen.specs.declared.elementary.Elementary.{Elementary}
-use Rattle.flt_gen.specs.inside.Cases.{case_front, case_tests, cases_formula, sides_decision, either_ip6, asked, share_third, MOST_DECISIONS, chain, decided,
-    decision, all_keep, is_parted, middle, test_at, lowest, from_test, same_word, FEW_HOSTS}
+use Rattle.flt_gen.specs.inside.Cases.{case_front, case_tests, cases_formula, sides_decision, either_ip6, asked, share_third, MOST_DECISIONS, chain, decided}
+use Rattle.flt_gen.specs.inside.Cases.{decision, all_keep, is_parted, middle, test_at, lowest, from_test, same_word, FEW_HOSTS}
 use Rattle.flt_gen.specs.inside.Emitted.{needed_tests, last_test, is_idle}
 use Rattle.flt_gen.specs.inside.{Code.Block, Code.emit_all, Code.emit_elementary, Code.emit_formula, Emits.Emits}
 use Rattle.flt_gen.proofs.Ascending.{if_case}
@@ -31,7 +31,7 @@ decision_chain few zero tests word cs h = refl
 decision_chain few (suc k) tests word cs (inl e) = absurd (omega arith)
 decision_chain few (suc k) tests word cs (inr l) =
     if_case (λ (f : Formula). f ≡ chain tests word cs) (nat_le (length cs) few) _ _ (λ e. refl)
-        (λ e. absurd (let no : few < length cs = grind (arith, nat_tests) in omega arith))
+    (λ e. absurd (let no : few < length cs = grind (arith, nat_tests) in omega arith))
 
 -- the code of tests, of which all hold
 pub all_emitted : (link : Link) (ts : List Elementary) (hit miss : ℕ) (c : List Insn) → emit_formula link (all_of ts) hit miss c ≡ emit_all ts hit miss c
@@ -57,11 +57,11 @@ chain_emitted link tests word (d ∷ x ∷ xs) other hit miss c l = let e = emit
 pub turn_emitted : (r : Result ℕ AllocError) (new : List Insn) (link : Link) (tests : Case → List Elementary) (word : ℕ) (cs : List Case)
     (other : Case) (hit miss : ℕ) (c : List Insn) (e : Block) → 1 ≤ length cs → emit_formula link (chain tests word (drop 1 cs)) hit miss c ≡ e
     → Emits r (emit_all (needed_tests (drop word (tests (get_or cs 0 other)))) hit e.entry e.code) new
-        → Emits r (emit_formula link (chain tests word cs) hit miss c) new
+    → Emits r (emit_formula link (chain tests word cs) hit miss c) new
 turn_emitted r new link tests word cs other hit miss c e l is done =
     subst (λ (f : Block). Emits r f new)
     (sym (chain_emitted link tests word cs other hit miss c l ∙ ap (λ (f : Block). emit_all (needed_tests (drop word (tests (get_or cs 0 other)))) hit
-        f.entry f.code) is)) done
+    f.entry f.code) is)) done
 
 pub cases_put : (link : Link) (d : Direction) (key : ℕ) (cs : List Case) (es : List Entry) (other : Case) → 1 ≤ length cs → cases_formula link d key
     cs es ≡ guarded_formula (case_front link (get_or cs 0 other)) (sides_decision link d key (get_or cs 0 other) cs es)
@@ -75,7 +75,7 @@ pub either_emitted : (link : Link) (a : ℕ) (cs : List Case) (es : List Entry) 
     → emit_all (take 2 d) found.entry miss found.code ≡ other → emit_formula link (asked link a (share_third link cs) es) hit other.entry other.code ≡
     asks → emit_all (drop 2 s) hit asks.entry asks.code ≡ first
     → emit_formula link (decision FEW_HOSTS MOST_DECISIONS (case_tests link (direction.One Source)) 2 cs) first.entry other.entry first.code ≡ whole
-        → emit_formula link (either_ip6 link a cs es) hit miss c ≡ emit_all (take 2 s) whole.entry other.entry whole.code
+    → emit_formula link (either_ip6 link a cs es) hit miss c ≡ emit_all (take 2 s) whole.entry other.entry whole.code
 either_emitted link a cs es hit miss c found other asks first whole h i j k l = ap by_found h ∙ ap by_other i ∙ ap (by_asked other) j
     ∙ ap (by_first other) k ∙ ap (by_whole other) l
   where

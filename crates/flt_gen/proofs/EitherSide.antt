@@ -1,16 +1,17 @@
 -- Hosts of IPv6 on either side that have the first two words in common: a tree for each side reads as
 -- one host after the other, and has no more tests.
-use Rattle.flt_gen.proofs.Common.{◌≡◌, ℕ, ◌+◌, ◌-◌, ◌*◌, ◌/◌, ◌%◌, ◌^◌, ◌<◌, ◌≤◌, zero, suc, List, [], ◌∷◌, length, take, drop, Bool, true, false, Option, Some,
-    None, refl, sym, ap, ap₂, ◌∙◌, subst, arith, inl, inr, ◌==◌, ◌&&◌, nat_lt, nat_le, nat_tests, and_parts, Direction, Link, Source, Destination, Word, Width,
-    Offset, Fixed, big_endian_at, Elementary, MatchResult, Yes, No, Rejected, if◌then◌else◌, reading_of, with, elementary_reads, network_offset, Formula,
-    Single, Either, Except, Outcome, CompleteQualifiers, both, either, negation, all_of, reads, address_test, ip6_tests, Entry}
+use Rattle.flt_gen.proofs.Common.{◌≡◌, ℕ, ◌+◌, ◌-◌, ◌*◌, ◌/◌, ◌%◌, ◌^◌, ◌<◌, ◌≤◌, zero, suc, List, [], ◌∷◌, length, take, drop, Bool, true, false, Option, Some}
+use Rattle.flt_gen.proofs.Common.{None, refl, sym, ap, ap₂, ◌∙◌, subst, arith, inl, inr, ◌==◌, ◌&&◌, nat_lt, nat_le, nat_tests, and_parts, Direction, Link}
+use Rattle.flt_gen.proofs.Common.{Source, Destination, Word, Width, Offset, Fixed, big_endian_at, Elementary, MatchResult, Yes, No, Rejected, if◌then◌else◌}
+use Rattle.flt_gen.proofs.Common.{reading_of, with, elementary_reads, network_offset, Formula, Single, Either, Except, Outcome, CompleteQualifiers, both}
+use Rattle.flt_gen.proofs.Common.{either, negation, all_of, reads, address_test, ip6_tests, Entry}
 use Rattle.flt_gen.proofs.Counted.{Bare, bare_all, bare_one, bare_both, bare_either, bare_within}
 use Rattle.flt_gen.proofs.Deciding.{Known, known_both, known_either, Shapes, fields_of, rows, read_all, read_put, sizes, decision_good, Likes, shapes_of}
 use Rattle.flt_gen.proofs.{Exclusive.both_either, Exclusive.or_no}
 use Rattle.std.specs.{List.list_all, List.insert, Prelude.◌⊎◌, Prelude.count_by}
 use Rattle.flt_gen.specs.declared.cases.{Bound.TheVariants.Exactly, Case.Case, Case.TheVariants.EitherIp6}
-use Rattle.flt_gen.specs.inside.Cases.{key_of, ip6_place, case_tests, keeps, word_test, test_at, lowest, insert_case, decision, unasked, asked, share_third,
-    either_ip6, FEW_HOSTS, MOST_DECISIONS}
+use Rattle.flt_gen.specs.inside.Cases.{key_of, ip6_place, case_tests, keeps, word_test, test_at, lowest, insert_case, decision, unasked, asked, share_third}
+use Rattle.flt_gen.specs.inside.Cases.{either_ip6, FEW_HOSTS, MOST_DECISIONS}
 use Rattle.flt_gen.specs.Primitives.{ip6_test}
 use Rattle.flt_ast.specs.declared.qualifiers.Direction.TheVariants as direction
 use Rattle.flt_ast.specs.declared.value.Value.TheVariants as value
@@ -23,7 +24,7 @@ joined : (s d sources destinations hosts : MatchResult) → hosts ≡ either (bo
     (either d destinations)
 joined s d sources destinations hosts e (inl f) =
     ap (λ r. either (either s r) hosts) f ∙ cut s sources
-        ∙ sym (ap (λ r. either (both (either s sources) (either (either s r) hosts)) (either r destinations)) f)
+    ∙ sym (ap (λ r. either (both (either s sources) (either (either s r) hosts)) (either r destinations)) f)
   where
     cut : (s t : MatchResult) → either (either s Rejected) hosts ≡ either (both (either s t) (either (either s Rejected) hosts)) Rejected
     cut Yes t = refl
@@ -210,7 +211,7 @@ module _ (link : Link) (p : List ℕ) (n : ℕ) where
       → whole d (insert_case (EitherIp6 a) ds) ≡ either (told (words d a)) (whole d ds)
   whole_put d b a ds h e =
       read_put link p n 0 (case_tests link d) (fields_of link d (EitherIp6 b)) (EitherIp6 a) (count_by (λ c. nat_lt (key_of c) a) ds) ds
-          (shapes_of link d (EitherIp6 b) (EitherIp6 a ∷ []) (e, tt)).0 (shapes_of link d (EitherIp6 b) ds h)
+      (shapes_of link d (EitherIp6 b) (EitherIp6 a ∷ []) (e, tt)).0 (shapes_of link d (EitherIp6 b) ds h)
 
   -- if the destination's first word is captured, the sources are
   source_there : (a : ℕ) → place 24 0 + 4 ≤ length p → Known (told (words source a))
@@ -246,7 +247,7 @@ module _ (link : Link) (p : List ℕ) (n : ℕ) where
   by_sides b (Entry.Value q (value.Ip6 a m) ∷ es) cs h =
       let more : (d : Direction) → either (told (words d a)) (whole d h.0) ≡ whole d cs = λ d. sym (ap (whole d) h.1 ∙ whole_put d b a h.0 h.3 h.2) in
       joined (told (words source a)) (told (words destination a)) (whole source h.0) (whole destination h.0) (hosts_read es) (by_sides b es h.0 h.4)
-          (there a b h.0 h.3)
+      (there a b h.0 h.3)
       ∙ ap₂ (λ x y. either (both x (either (host_read a) (hosts_read es))) y) (more source) (more destination)
   by_sides b (_ ∷ es) cs h = absurd h
 
@@ -281,7 +282,7 @@ module _ (link : Link) (p : List ℕ) (n : ℕ) where
   in_turn b [] cs h cut f g found = (let no = ap (whole source) h in cc)
   in_turn b (Entry.Value q (value.Ip6 a m) ∷ es) cs h cut f g found =
       ap₂ (λ x y. either (either x y) (hosts_read es)) s (parts destination a ∙ ap₂ (λ x y. both x (both (third a) y))
-          (front_same destination a b h.2 ∙ g) (cut a))
+      (front_same destination a b h.2 ∙ g) (cut a))
       ∙ by (in_turn b es h.0 h.4 cut f g) (end source a) refl (third a)
     where
       s : told (words source a) ≡ end source a
@@ -342,7 +343,7 @@ module _ (link : Link) (p : List ℕ) (n : ℕ) where
       let parted : (x : ℕ) → told (take 3 (words destination x)) ≡ both (front destination x) (third x) = λ x. both_assoc (word x 0) (word x 1) (third x) in
       parted c
       ∙ ap₂ (λ r v. both r (elementary_reads (address_test None v (Fixed (place 24 2))) p))
-          (front_same destination c b f ∙ sym (front_same destination a b e)) (h ∙ sym g)
+      (front_same destination c b f ∙ sym (front_same destination a b e)) (h ∙ sym g)
       ∙ sym (parted a)
 
   -- what is asked of the destination, if the source is one of some hosts, is right
@@ -375,8 +376,11 @@ module _ (link : Link) (p : List ℕ) (n : ℕ) where
       cut gone false is =
           cut_right x d (front destination a) (end destination a) _ (hosts_read es) (parts destination a)
           (λ g. ap (λ y. either (either y d) (hosts_read es)) (sym s)
-          ∙ calm (λ c e v. (false, parts destination c ∙ ap (λ r. both r (end destination c))
-              (front_same destination c b e ∙ sym (front_same destination a b h.2) ∙ g))))
+          ∙ calm (λ c e v. (
+            false,
+            parts destination c ∙ ap (λ r. both r (end destination c))
+                (front_same destination c b e ∙ sym (front_same destination a b h.2) ∙ g),
+          )))
           (λ g. ap (λ r. either x (either (reads link (unasked link hosts) p n) (either r Yes))) (gone a)
           ∙ ap (either x) (sym (in_turn b hosts cs h gone f (sym (front_same destination a b h.2) ∙ g) found) ∙ ap (λ y. either (either y d) (hosts_read es)) s)
           ∙ again x d (hosts_read es))
@@ -386,7 +390,7 @@ module _ (link : Link) (p : List ℕ) (n : ℕ) where
           let l : place 24 3 + 4 ≤ length p = grind (arith, nat_tests) in
           asked_there a t hosts l
           ∙ sym (calm (λ c e v. known_both (word_of c 0 l (omega arith))
-              (known_both (word_of c 1 l (omega arith)) (known_both (word_of c 2 l (omega arith)) (word_of c 3 l (omega arith))))))
+          (known_both (word_of c 1 l (omega arith)) (known_both (word_of c 2 l (omega arith)) (word_of c 3 l (omega arith))))))
       by false e =
           cut (λ c. word_cut _ (place 24 3) (grind (arith, nat_tests))) t refl ∙ ap (λ y. either (either y d) (hosts_read es)) (sym s)
 
@@ -416,7 +420,7 @@ module _ (link : Link) (p : List ℕ) (n : ℕ) where
       right : whole source cs ≡ Yes → asks ≡ hosts_read hosts
       right found =
           asked_right b (lowest (test_at (case_tests link source) 2 cs 0)) x q m es cs (share_third link cs) h
-              (thirds link b _ (share_third link cs) hosts cs h (λ e. e)) found
+          (thirds link b _ (share_third link cs) hosts cs h (λ e. e)) found
           (first_yes (front source b) (ends source cs) (sym (whole_parts source b cs like some) ∙ found))
   either_read a b _ cs h first like some = absurd first
 
@@ -434,7 +438,7 @@ unasked_bare : (link : Link) (es : List Entry) → Bare (unasked link es) (3 * l
 unasked_bare link [] = bare_within _ (omega arith) (bare_one _)
 unasked_bare link (Entry.Value q (value.Ip6 a m) ∷ es) =
     bare_within _ (omega arith) (bare_either (bare_all (drop 2 (ip6_tests None a (network_offset link + 8))) 2 (omega arith) (omega arith))
-        (bare_both (bare_except (bare_one _)) (unasked_bare link es)))
+    (bare_both (bare_except (bare_one _)) (unasked_bare link es)))
 unasked_bare link (_ ∷ es) = bare_within _ (omega arith) (unasked_bare link es)
 
 asked_bare : (link : Link) (a : ℕ) (t : Bool) (es : List Entry) → Bare (asked link a t es) (3 * length es + 5)
@@ -458,7 +462,7 @@ either_bare link a b cs es h same l =
     let d = ip6_tests None a (network_offset link + 24) in
     bare_within _ (omega arith)
     (bare_either (bare_both (bare_all (take 2 s) 2 (omega arith) (omega arith))
-        (bare_both (tree source) (bare_either (bare_all (drop 2 s) 2 (omega arith) (omega arith)) (asked_bare link a (share_third link cs) es))))
+    (bare_both (tree source) (bare_either (bare_all (drop 2 s) 2 (omega arith) (omega arith)) (asked_bare link a (share_third link cs) es))))
     (bare_both (bare_all (take 2 d) 2 (omega arith) (omega arith)) (tree destination)))
   where
     tree : (d : Direction) → Bare (decision FEW_HOSTS MOST_DECISIONS (case_tests link d) 2 cs) (3 * length cs - 6)
@@ -466,4 +470,4 @@ either_bare link a b cs es h same l =
         let s = sizes_last link d b cs h in
         let k = length-map cs (λ (c : Case). drop 2 (case_tests link d c)) in
         bare_within _ (omega arith) ((decision_good link (case_tests link d) FEW_HOSTS MOST_DECISIONS 2 (last_fields link d) cs
-            (last_shapes link d b cs h)).1 (omega arith) (omega arith))
+        (last_shapes link d b cs h)).1 (omega arith) (omega arith))

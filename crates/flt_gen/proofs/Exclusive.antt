@@ -1,6 +1,6 @@
 -- A frame is of one kind at most.
-use Rattle.flt_gen.proofs.Common.{◌≡◌, ℕ, List, Bool, true, false, Option, Some, None, refl, ap, ◌∙◌, arith, ◌==◌, nat_tests, HalfWord, Byte, field, FrameKind,
-    Elementary, Yes, No, reading_of, with, under_mask, elementary_reads, type_test, MatchResult, both, either}
+use Rattle.flt_gen.proofs.Common.{◌≡◌, ℕ, List, Bool, true, false, Option, Some, None, refl, ap, ◌∙◌, arith, ◌==◌, nat_tests, HalfWord, Byte, field, FrameKind}
+use Rattle.flt_gen.proofs.Common.{Elementary, Yes, No, reading_of, with, under_mask, elementary_reads, type_test, MatchResult, both, either}
 
 -- readings after readings
 pub both_either : (i a b : MatchResult) → both i (either a b) ≡ either (both i a) (both i b)
@@ -42,5 +42,9 @@ module _ (p : List ℕ) where
       × Excludes (type_test place FrameKind.Ip) (type_test place FrameKind.Arp) × Excludes (type_test place FrameKind.Ip)
       (type_test place FrameKind.Rarp) × Excludes (type_test place FrameKind.Arp) (type_test place FrameKind.Rarp)
   kinds_exclude None = (other_value (field p 0 Byte) (Some 0xf0) 0x40 0x60 refl, λ e. refl, λ e. refl, λ e. refl)
-  kinds_exclude (Some at) = (other_value (field p at HalfWord) None 0x0800 0x86dd refl, other_value (field p at HalfWord) None 0x0800 0x0806 refl,
-      other_value (field p at HalfWord) None 0x0800 0x8035 refl, other_value (field p at HalfWord) None 0x0806 0x8035 refl)
+  kinds_exclude (Some at) = (
+    other_value (field p at HalfWord) None 0x0800 0x86dd refl,
+    other_value (field p at HalfWord) None 0x0800 0x0806 refl,
+    other_value (field p at HalfWord) None 0x0800 0x8035 refl,
+    other_value (field p at HalfWord) None 0x0806 0x8035 refl,
+  )

@@ -1,11 +1,12 @@
 -- An expression with its arithmetic of numbers folded means the same, and counts no more.
-use Rattle.flt_gen.proofs.Common.{◌≡◌, ℕ, ◌+◌, ◌%◌, ◌^◌, ◌≤◌, List, [], ◌∷◌, Option, Some, None, refl, sym, ap, ap₂, ◌∙◌, arith, fold, or_assoc, ◌||◌, Operator,
-    Protocol, field, Node, NumberTree, literal, load, negated, applied, TruthTree, compared, denied, joined, Expression, empty, truth, number_size,
-    number_words, number_tests, truth_size, truth_words, truth_tests, bound_of, words_of, number_nodes, truth_nodes, expr_nodes, number_onto, truth_onto,
-    expr_onto, is_unfilled, any_primitive, some_primitive, Link, MatchResult, Yes, with, reading_of, compares, width_of, base, number, result_of, accessors,
-    Compare, both, either, negation, reads, checked_formula, constant, formula, holds, short_bound_of, negated_constant, applied_constant, number_or,
-    negated_number, applied_number, folded_number, and_denied, joined_truth, folded_truth, folded_expression, node_or, with_negation, with_operator, Held,
-    with_held, with_folded}
+use Rattle.flt_gen.proofs.Common.{◌≡◌, ℕ, ◌+◌, ◌%◌, ◌^◌, ◌≤◌, List, [], ◌∷◌, Option, Some, None, refl, sym, ap, ap₂, ◌∙◌, arith, fold, or_assoc, ◌||◌, Operator}
+use Rattle.flt_gen.proofs.Common.{Protocol, field, Node, NumberTree, literal, load, negated, applied, TruthTree, compared, denied, joined, Expression, empty}
+use Rattle.flt_gen.proofs.Common.{truth, number_size, number_words, number_tests, truth_size, truth_words, truth_tests, bound_of, words_of, number_nodes}
+use Rattle.flt_gen.proofs.Common.{truth_nodes, expr_nodes, number_onto, truth_onto, expr_onto, is_unfilled, any_primitive, some_primitive, Link, MatchResult}
+use Rattle.flt_gen.proofs.Common.{Yes, with, reading_of, compares, width_of, base, number, result_of, accessors, Compare, both, either, negation, reads}
+use Rattle.flt_gen.proofs.Common.{checked_formula, constant, formula, holds, short_bound_of, negated_constant, applied_constant, number_or, negated_number}
+use Rattle.flt_gen.proofs.Common.{applied_number, folded_number, and_denied, joined_truth, folded_truth, folded_expression, node_or, with_negation}
+use Rattle.flt_gen.proofs.Common.{with_operator, Held, with_held, with_folded}
 use Rattle.flt_gen.proofs.{Held.held_truth, Held.none_held, Held.back_truth, Numbers.constant_is, Once.both_again, Once.checked_same}
 use Rattle.flt_words.specs.declared.token.Join.{Join}
 
@@ -78,8 +79,14 @@ number_folded (negated a) =
       accessors_are = λ rest. sym (constant_alone b s.0 rest s.1) ∙ h.accessors_are rest;
       same = λ p n link. sym (negated_is p n link b (constant b) refl k e) ∙ ap (λ o. negated_constant o) (h.same p n link);
     })
-    (record { size = omega (arith, h.size); words = h.words; tests = h.tests; accessors_are = h.accessors_are; same =
-        λ p n link. ap (λ o. negated_constant o) (h.same p n link) })
+    (record {
+      size = omega (arith, h.size);
+      words = h.words;
+      tests = h.tests;
+      accessors_are = h.accessors_are;
+      same =
+          λ p n link. ap (λ o. negated_constant o) (h.same p n link);
+    })
 number_folded (applied o a b) =
     let h = number_folded a in
     let g = number_folded b in
@@ -94,8 +101,14 @@ number_folded (applied o a b) =
       accessors_are = λ rest. sym (ap (accessors c) (constant_alone d s.1 rest s.3) ∙ constant_alone c s.0 rest s.2) ∙ all rest;
       same = λ p n link. sym (applied_is p n link o c d (constant d) (constant c) refl refl k e) ∙ operands_same o c a d b h g p n link;
     })
-    (record { size = omega (arith, h.size, g.size); words = omega (arith, h.words, g.words); tests = omega (arith, h.tests, g.tests); accessors_are =
-        all; same = operands_same o c a d b h g })
+    (record {
+      size = omega (arith, h.size, g.size);
+      words = omega (arith, h.words, g.words);
+      tests = omega (arith, h.tests, g.tests);
+      accessors_are =
+          all;
+      same = operands_same o c a d b h g;
+    })
 number_folded _ = record { size = omega arith; words = omega arith; tests = omega arith; accessors_are = λ rest. refl; same = λ p n link. refl }
 
 -- a truth in the place of another one: it counts no more, has primitives that lack qualifiers only

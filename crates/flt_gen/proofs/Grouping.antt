@@ -1,33 +1,35 @@
 -- The formula of a truth in which hosts or ports are looked for together reads as the truth's own,
 -- and has no more tests.
-use Rattle.flt_gen.proofs.Ascending.{if_case, Each, each_is, Searchable, Reached, Ready, Ordered, Points, ordered_inserted, points_inserted, length_inserted,
-    within_inserted, within_joined, searchable_joined, ends_few, one_point, joined_few, joined_points}
-use Rattle.flt_gen.proofs.Common.{◌≡◌, ℕ, ◌+◌, ◌-◌, ◌*◌, ◌<◌, ◌≤◌, max, List, [], ◌∷◌, length, Bool, true, false, Option, Some, None, refl, sym, ap, ap₂, ◌∙◌,
-    subst, arith, ◌==◌, ◌||◌, ◌&&◌, nat_lt, nat_le, if◌then◌else◌, suc-mul, nat_tests, and_parts, or_parts, Protocol, Ip, Tcp, Udp, Source, Destination, And,
-    Or, ValueType, Host, Net, Port, PortRange, Direction, CompleteQualifiers, Value, Interval, Sides, FrameKind, network_offset, not, map, and-false, inl, inr,
-    Sought, sought_tests, is_address, joined_all, left_out, high_mask, cut, address_places, port_places, ip_transport, ip6_transport, sought, Entry, TruthTree,
-    check, cast, sized, bare, valued, qualified, compared, denied, joined, is_unfilled, any_primitive, Link, MatchResult, Several, Formula, Both, Either,
-    Except, is_in, is_within, both, either, negation, Numbers, reads, check_formula, cast_formula, sized_formula, hosts_formula, port_test, port_formula,
-    relation_formula, qualified_needed, formula, first_ends, Group, no_group, entry, with_member, same_type, same_protocol, same_direction, goes_with,
-    member_of, group_and, larger_group, is_searched, numbers_of, several_formula, all_of, accessor_tests, accessor_test_count, guarded_formula, Elementary,
-    with, Tcp, value_formula, Proto, rows_formula, group_formula, or_any, or_group, choice, grouped_formula, MOST_TOGETHER, FEWEST_RANGES, suc}
-use Rattle.flt_gen.proofs.Counted.{Sized, Bare, bare_within, bare_some, bare_both, bare_either, bare_else, bare_after, bare_sought, bare_check, bare_cast,
-    of_kinds, bare_hosts, bare_ports}
-use Rattle.flt_gen.proofs.Deciding.{fields_of, some_fields, some_front, shapes_of, both_tests, rows, read_all, sizes, decision_good, Likes, likes_put,
-    sizes_put, length_put, read_put, alike, alike_alike, self_alike}
+use Rattle.flt_gen.proofs.Ascending.{if_case, Each, each_is, Searchable, Reached, Ready, Ordered, Points, ordered_inserted, points_inserted, length_inserted}
+use Rattle.flt_gen.proofs.Ascending.{within_inserted, within_joined, searchable_joined, ends_few, one_point, joined_few, joined_points}
+use Rattle.flt_gen.proofs.Common.{◌≡◌, ℕ, ◌+◌, ◌-◌, ◌*◌, ◌<◌, ◌≤◌, max, List, [], ◌∷◌, length, Bool, true, false, Option, Some, None, refl, sym, ap, ap₂, ◌∙◌}
+use Rattle.flt_gen.proofs.Common.{subst, arith, ◌==◌, ◌||◌, ◌&&◌, nat_lt, nat_le, if◌then◌else◌, suc-mul, nat_tests, and_parts, or_parts, Protocol, Ip, Tcp}
+use Rattle.flt_gen.proofs.Common.{Udp, Source, Destination, And, Or, ValueType, Host, Net, Port, PortRange, Direction, CompleteQualifiers, Value, Interval}
+use Rattle.flt_gen.proofs.Common.{Sides, FrameKind, network_offset, not, map, and-false, inl, inr, Sought, sought_tests, is_address, joined_all, left_out}
+use Rattle.flt_gen.proofs.Common.{high_mask, cut, address_places, port_places, ip_transport, ip6_transport, sought, Entry, TruthTree, check, cast, sized, bare}
+use Rattle.flt_gen.proofs.Common.{valued, qualified, compared, denied, joined, is_unfilled, any_primitive, Link, MatchResult, Several, Formula, Both, Either}
+use Rattle.flt_gen.proofs.Common.{Except, is_in, is_within, both, either, negation, Numbers, reads, check_formula, cast_formula, sized_formula, hosts_formula}
+use Rattle.flt_gen.proofs.Common.{port_test, port_formula, relation_formula, qualified_needed, formula, first_ends, Group, no_group, entry, with_member}
+use Rattle.flt_gen.proofs.Common.{same_type, same_protocol, same_direction, goes_with, member_of, group_and, larger_group, is_searched, numbers_of}
+use Rattle.flt_gen.proofs.Common.{several_formula, all_of, accessor_tests, accessor_test_count, guarded_formula, Elementary, with, Tcp, value_formula, Proto}
+use Rattle.flt_gen.proofs.Common.{rows_formula, group_formula, or_any, or_group, choice, grouped_formula, MOST_TOGETHER, FEWEST_RANGES, suc}
+use Rattle.flt_gen.proofs.Counted.{Sized, Bare, bare_within, bare_some, bare_both, bare_either, bare_else, bare_after, bare_sought, bare_check, bare_cast}
+use Rattle.flt_gen.proofs.Counted.{of_kinds, bare_hosts, bare_ports}
+use Rattle.flt_gen.proofs.Deciding.{fields_of, some_fields, some_front, shapes_of, both_tests, rows, read_all, sizes, decision_good, Likes, likes_put}
+use Rattle.flt_gen.proofs.Deciding.{sizes_put, length_put, read_put, alike, alike_alike, self_alike}
 use Rattle.flt_gen.proofs.EitherSide.{Paired, IsFirst, host_read, hosts_read, either_read, either_bare}
 use Rattle.flt_gen.proofs.{Exclusive.or_no, Exclusive.both_either, Exclusive.either_assoc, IdleBits.uncut}
 use Rattle.flt_gen.proofs.{Needed.bare_needed, Needed.value_same, Once.relation_sizes, Once.relation_same, Once.all_read, Once.guarded_read}
 use Rattle.flt_gen.proofs.Relations.{entry_tests, entry_bare, IsEntry, entry_is}
 use Rattle.flt_gen.proofs.Prefixes.{Idle, idle_sought, cut_in, cut_within, cut_order, cut_apart}
-use Rattle.flt_gen.proofs.Together.{Fitting, fitting_small, unmasked_fitting, address_fitting, Merged, members_read, members_more, members_alone, member_reads,
-    IsMember, member_tests, several_are, member_is}
+use Rattle.flt_gen.proofs.Together.{Fitting, fitting_small, unmasked_fitting, address_fitting, Merged, members_read, members_more, members_alone, member_reads}
+use Rattle.flt_gen.proofs.Together.{IsMember, member_tests, several_are, member_is}
 use Rattle.std.specs.Prelude.{◌⊎◌, count_by}
 use Rattle.flt_words.specs.declared.token.Protocol.TheVariants as protocol
 use Rattle.flt_gen.specs.declared.{address.Hosts.Hosts, cases.Case.Case, cases.Case.TheVariants.EitherIp6, cases.Case.TheVariants.Ip6}
 use Rattle.flt_gen.specs.inside.Cases.{case_of, same_words, key_of, insert_case, case_front, case_tests, sides_decision, MOST_DECISIONS}
-use Rattle.flt_gen.specs.inside.Group.{with_case, has_none, shares_words, case_goes_with, larger_with, together_formula, entry_formula, entry_of, leaf_formula,
-    fewest}
+use Rattle.flt_gen.specs.inside.Group.{with_case, has_none, shares_words, case_goes_with, larger_with, together_formula, entry_formula, entry_of, leaf_formula}
+use Rattle.flt_gen.specs.inside.Group.{fewest}
 use Rattle.std.proofs.lemmas.List.{length-map}
 use Rattle.cap_octet.specs.declared.link.Link.TheVariants as link
 use Rattle.cap_octet.specs.declared.link.Link.TheVariants.{Ether}
@@ -216,7 +218,7 @@ group_bare_several link group ms h e = by group.is_plain refl e
         bare_within _ h.counted
         (bare_several link group.qualifiers (numbers_of group) n few two k
         (λ e f. ready (address_places link f) (is_address k && not group.is_plain) group ms h (omega arith)
-            (address_fitting (is_address k && not group.is_plain) link f) (λ mask _. address_reached link f mask))
+        (address_fitting (is_address k && not group.is_plain) link f) (λ mask _. address_reached link f mask))
         (λ e. let no = ap (λ c. c && not group.is_plain) e in let l = offset_few link in (
           ready (port_places (ip_transport link)) (is_address k && not group.is_plain) group ms h (omega arith)
               (unmasked_fitting (is_address k && not group.is_plain) (port_places (ip_transport link)) no) (λ mask f. (f no, refl)),
@@ -263,10 +265,12 @@ sides_good : (link : Link) (d : Direction) (a m : ℕ) (kind c : Case) (cs : Lis
     → IsHosts kind (c ∷ cs) es → BeginsWith kind a es → length (c ∷ cs) ≡ length es → 6 ≤ length es → sizes (rows (case_tests link d) 0 (c ∷ cs)) +
     length (c ∷ cs) ≤ m → length (c ∷ cs) * both_tests kind ≤ m
     → ((p : List ℕ) (n : ℕ) → reads link (sides_decision link d a c (c ∷ cs) es) p n ≡ cases_read link p n d kind (c ∷ cs) es)
-        × Bare (sides_decision link d a c (c ∷ cs) es) (m - 1)
-sides_good link d a m (EitherIp6 b) (EitherIp6 x) cs es like hosts first same l few both =
-    (λ p n. either_read link p n a b es (EitherIp6 x ∷ cs) hosts first like (omega arith), bare_within _ (omega arith)
-        (either_bare link a b (EitherIp6 x ∷ cs) es like (sym same) (omega arith)))
+    × Bare (sides_decision link d a c (c ∷ cs) es) (m - 1)
+sides_good link d a m (EitherIp6 b) (EitherIp6 x) cs es like hosts first same l few both = (
+  λ p n. either_read link p n a b es (EitherIp6 x ∷ cs) hosts first like (omega arith),
+  bare_within _ (omega arith)
+      (either_bare link a b (EitherIp6 x ∷ cs) es like (sym same) (omega arith)),
+)
 sides_good link d a m (EitherIp6 b) _ cs es like hosts first same l few both = (let no = like.0 in cc)
 sides_good link d a m _ (EitherIp6 x) cs es like hosts first same l few both = (let no = like.0 in cc)
 sides_good link d a m kind c cs es like hosts first same l few both =
@@ -297,7 +301,7 @@ listed_is link group h searched (c ∷ cs) e =
     let fronts = ap (λ (ts : List Elementary). length ts) front in
     let room = 1 + group_tests group - length (case_front link h.kind) in
     let good = sides_good link d group.first_key room h.kind c cs group.entries like (subst (λ ds. IsHosts h.kind ds group.entries) (sym e) h.hosts)
-        h.begins (omega arith) lots
+    h.begins (omega arith) lots
     (subst (λ ds. sizes (rows (case_tests link d) 0 ds) + length ds ≤ room) (sym e) (omega arith))
     (subst (λ ds. length ds * both_tests h.kind ≤ room) (sym e) (omega arith)) in (
       bare_within _ (omega arith) (front_bare (case_front link c) good.1),
@@ -330,7 +334,7 @@ group_rows link p n group k =
         let few = sym (by_numbers group empty) ∙ e in
         ap (λ cs. reads link (together_formula link group cs) p n) empty
         ∙ several_are link p n group.qualifiers (is_address group.qualifiers.value_type && not group.is_plain) group.first ms group.all
-            (h.merged (searched_two group few)) h.ascends h.all_within group.qualifiers.value_type
+        (h.merged (searched_two group few)) h.ascends h.all_within group.qualifiers.value_type
         (λ t. (and_parts (is_address group.qualifiers.value_type) (not group.is_plain) t).0)
         ∙ sym (h.rows link p n)
     by (listed l h) e = (listed_is link group h e group.cases refl).1 p n
@@ -421,7 +425,7 @@ held_put : (q : CompleteQualifiers) (v : Value) (m : Interval) (group : Group) (
     → (group.is_plain ≡ true → Points group.all)
     → length group.entries * member_tests q.value_type q.protocol q.direction ≤ group_tests group → (0 < length group.entries → Merged q.direction)
     → ((link : Link) (p : List ℕ) (n : ℕ) → either (member_reads link p n q.value_type q.protocol q.direction m)
-        (reads link (rows_formula link group.entries) p n) ≡ members_read link p n q.value_type q.protocol q.direction m ls)
+    (reads link (rows_formula link group.entries) p n) ≡ members_read link p n q.value_type q.protocol q.direction m ls)
     → Held (with_member q v m group) ls
 held_put q v m group ls w up within many points few merged rows = record {
   order = order;
@@ -454,14 +458,14 @@ kept_with q v m group (nothing none all empty) g w =
     (held_put q v m group [] w (subst (Ordered 0) (sym all) tt) (λ y. ap (is_within y) all) (omega arith) (λ plain. subst Points (sym all) tt)
     (subst (λ k. k * member_tests q.value_type q.protocol q.direction ≤ group_tests group) (sym zero) (omega arith)) (λ l. absurd (omega arith))
     (λ link p n. ap (λ es. either (member_reads link p n q.value_type q.protocol q.direction m) (reads link (rows_formula link es) p n)) none
-        ∙ or_no _ ∙ sym (members_alone link p n q.value_type q.protocol q.direction m)))
+    ∙ or_no _ ∙ sym (members_alone link p n q.value_type q.protocol q.direction m)))
 kept_with q v m group (numbered l empty ms h) g w =
     let f = fits_in q group group.entries l g in
     numbered (omega arith) empty (group.first ∷ ms)
     (held_put q v m group (group.first ∷ ms) w h.ascends h.all_within h.all_count (λ plain. (h.points plain).1)
     (subst (λ k. length group.entries * k ≤ group_tests group) f.tests_are h.counted) (λ l. f.merged)
     (λ link p n. ap (either (member_reads link p n q.value_type q.protocol q.direction m)) (h.rows link p n ∙ f.reads_are link p n group.first ms)
-        ∙ sym (members_more link p n q.value_type q.protocol q.direction m group.first ms f.merged)))
+    ∙ sym (members_more link p n q.value_type q.protocol q.direction m group.first ms f.merged)))
 kept_with q v m group (listed l h) g w = absurd (no_cases group.cases (fits_in q group group.entries l g).none h.some)
   where
     no_cases : (cs : List Case) → has_none cs ≡ true → 0 < length cs → ⊥
@@ -530,7 +534,7 @@ read_more link p n d (EitherIp6 b) _ cs e es is h same = cc
 read_more link p n d _ (EitherIp6 x) cs e es is h same = cc
 read_more link p n d kind c cs e es is h same =
     sym (read_put link p n 0 (case_tests link d) (fields_of link d kind) c (place c cs) cs (shapes_of link d kind (c ∷ []) (same, tt)).0
-        (shapes_of link d kind cs h))
+    (shapes_of link d kind cs h))
 
 -- one more case before those of a group without numbers
 listed_put : (q : CompleteQualifiers) (e : Entry) (c kind : Case) (group : Group)
@@ -538,8 +542,8 @@ listed_put : (q : CompleteQualifiers) (e : Entry) (c kind : Case) (group : Group
     → length group.cases ≡ length group.entries → ((link : Link) → sizes (rows (case_tests link q.direction) 0 group.cases) + length group.cases ≤
     group_tests group) → length group.cases * both_tests kind ≤ group_tests group → IsEntryOf c e → IsHosts kind group.cases group.entries
     → ((link : Link) (p : List ℕ) (n : ℕ) → let front = all_read link p n (case_front link kind) in
-        either (both front (case_read link p n q.direction c)) (reads link (rows_formula link group.entries) p n) ≡ both front
-        (cases_read link p n q.direction kind (insert_case c group.cases) (e ∷ group.entries)))
+    either (both front (case_read link p n q.direction c)) (reads link (rows_formula link group.entries) p n) ≡ both front
+    (cases_read link p n q.direction kind (insert_case c group.cases) (e ∷ group.entries)))
     → Listed q.direction (with_case q e c group)
 listed_put q e c kind group its likes like count few both_few is hosts rows_are = record {
   kind = kind;
@@ -567,7 +571,7 @@ listed_put q e c kind group its likes like count few both_few is hosts rows_are 
   rows_are = λ link p n.
       rows_put link p n e group.entries
       ∙ ap (λ r. either r (reads link (rows_formula link group.entries) p n)) ((its link).2 p n ∙ guarded_read link p n (case_front link c)
-          (case_formula link q.direction c) ∙ ap (λ ts. both (all_read link p n ts) (case_read link p n q.direction c)) (alike link q.direction kind c like).1)
+      (case_formula link q.direction c) ∙ ap (λ ts. both (all_read link p n ts) (case_read link p n q.direction c)) (alike link q.direction kind c like).1)
       ∙ rows_are link p n;
 }
 
@@ -595,7 +599,7 @@ kept_with_case q e c group (nothing none all empty) g is w =
     let front = all_read link p n (case_front link c) in
     ap (λ es. either (both front (case_read link p n q.direction c)) (reads link (rows_formula link es) p n)) none ∙ or_no _
     ∙ ap (both front) (read_alone link p n q.direction c e is ∙ ap₂ (λ cs es. cases_read link p n q.direction c (insert_case c cs) (e ∷ es))
-        (sym empty) (sym none))))
+    (sym empty) (sym none))))
   where
     no_hosts : (c : Case) → IsHosts c [] []
     no_hosts (EitherIp6 a) = refl
@@ -607,14 +611,14 @@ kept_with_case q e c group (listed l h) g is w =
     let j = subst (λ d. Listed d group) fit.1 h in
     let like = shared j.kind c group.cases j.like fit.0 in
     let few : (link : Link) → sizes (rows (case_tests link q.direction) 0 group.cases) + length group.cases ≤ group_tests group =
-        λ link. (let all = j.counted link in let some = some_front link j.kind in omega arith) in
+    λ link. (let all = j.counted link in let some = some_front link j.kind in omega arith) in
     let few_both : length group.cases * both_tests j.kind ≤ group_tests group = (let all = j.counted_both Ether in let some = some_front Ether j.kind
-        in omega arith) in
+    in omega arith) in
     listed (omega arith)
     (listed_put q e c j.kind group w j.like like j.all_count few few_both is j.hosts
     (λ link p n. ap (either (both _ (case_read link p n q.direction c))) (j.rows_are link p n)
-        ∙ sym (both_either _ (case_read link p n q.direction c) _)
-        ∙ ap (both _) (read_more link p n q.direction j.kind c group.cases e group.entries is j.like like)))
+    ∙ sym (both_either _ (case_read link p n q.direction c) _)
+    ∙ ap (both _) (read_more link p n q.direction j.kind c group.cases e group.entries is j.like like)))
 
 -- what a member and those after it are, and how they read
 record Taken (link : Link) (e : Entry) (group more : Group) : Type 0 where
@@ -650,7 +654,7 @@ module _ (link : Link) (group more : Group) (k : Kept group) where
   by_case q v (Some c) w e =
       by_test (entry q v) (with_case q (entry q v) c group) (case_goes_with c q.direction group group.entries)
       (λ g. kept_with_case q (entry q v) c group k g ((its link).1 q)
-          (λ l. (((its l).0).0, ((its l).0).1, λ p n. value_same l p n q.value_type q.protocol q.direction v ∙ ((its l).0).2 p n))) refl e
+      (λ l. (((its l).0).0, ((its l).0).1, λ p n. value_same l p n q.value_type q.protocol q.direction v ∙ ((its l).0).2 p n))) refl e
     where
       its : (l : Link) → IsCase l q.value_type q.protocol q.direction v c
       its l = each_is (case_of q.value_type q.protocol q.direction v) (IsCase l q.value_type q.protocol q.direction v) c
@@ -660,9 +664,9 @@ module _ (link : Link) (group more : Group) (k : Kept group) where
   taken (Entry.Value q v) some = by_case q v (case_of q.value_type q.protocol q.direction v) refl some
   taken (Entry.Relation r) some =
       by_test (Entry.Relation r) (with_case no_group.qualifiers (Entry.Relation r) (Case.Relation r) group)
-          (case_goes_with (Case.Relation r) no_group.qualifiers.direction group group.entries)
+      (case_goes_with (Case.Relation r) no_group.qualifiers.direction group group.entries)
       (λ g. kept_with_case no_group.qualifiers (Entry.Relation r) (Case.Relation r) group k g tt
-          (λ l. (let few = fronts_few l r.protocol in (few, omega arith, λ p n. refl)))) refl some
+      (λ l. (let few = fronts_few l r.protocol in (few, omega arith, λ p n. refl)))) refl some
 
 sized_sizes : (s : Size) (n : ℕ) → Sized (sized_formula s n) 2 1 1
 sized_sizes Size.Less n = record { nodes_fit = omega arith; words_fit = omega arith; searches = tt; tests_fit = omega arith }
@@ -679,14 +683,24 @@ leaf_stands link a f group k sizes same (Some e) is = by (larger_group e group) 
     by None none =
         let b = entry_bare link e in
         or_stands link (entry_formula link e) a group k
-            (record { nodes_fit = omega (arith, b.nodes_fit); words_fit = omega (arith, b.words_fit); searches = b.searches; tests_fit =
-            omega (arith, b.tests_fit, is.few) }) is.same
+        (record {
+          nodes_fit = omega (arith, b.nodes_fit);
+          words_fit = omega (arith, b.words_fit);
+          searches = b.searches;
+          tests_fit =
+              omega (arith, b.tests_fit, is.few);
+        }) is.same
     by (Some more) some =
         let t = taken link group more k e some in
         let b = group_bare link more t.kept t.some in
         record {
-          counts = record { nodes_fit = omega (arith, b.nodes_fit); words_fit = omega (arith, b.words_fit); searches = b.searches; tests_fit =
-              omega (arith, b.tests_fit, t.tests_fit, is.few) };
+          counts = record {
+            nodes_fit = omega (arith, b.nodes_fit);
+            words_fit = omega (arith, b.words_fit);
+            searches = b.searches;
+            tests_fit =
+                omega (arith, b.tests_fit, t.tests_fit, is.few);
+          };
           reads_are = λ p n. t.reads_are p n ∙ ap (λ r. either r (reads link (group_formula link group) p n)) (is.same p n);
         }
 
@@ -708,8 +722,13 @@ module _ (link : Link) (a b : TruthTree) (group : Group) (k : Kept group) (f : G
       let t = taken link old more kept e some in
       let s = h more t.kept in
       record {
-        counts = record { nodes_fit = omega (arith, s.nodes_fit); words_fit = omega (arith, s.words_fit); searches = s.searches; tests_fit =
-            omega (arith, s.tests_fit, t.tests_fit, is.few) };
+        counts = record {
+          nodes_fit = omega (arith, s.nodes_fit);
+          words_fit = omega (arith, s.words_fit);
+          searches = s.searches;
+          tests_fit =
+              omega (arith, s.tests_fit, t.tests_fit, is.few);
+        };
         reads_are = λ p n. s.reads_are p n ∙ ap (either (reads link (formula link a) p n))
             (t.reads_are p n ∙ ap (λ r. either r (reads link (group_formula link old) p n)) (is.same p n))
             ∙ sym (either_assoc (reads link (formula link a) p n) (reads link (formula link b) p n) (reads link (group_formula link old) p n));
@@ -739,21 +758,21 @@ grouped_stands link (bare v) group k u = cc
 grouped_stands link (valued q v) group k u = cc
 grouped_stands link (qualified q v) group k u =
     leaf_stands link (qualified q v) (qualified_needed link q v) group k (bare_needed link q.value_type q.protocol q.direction v)
-        (λ p n. value_same link p n q.value_type q.protocol q.direction v) (Some (entry q v)) (entry_is link (qualified q v))
+    (λ p n. value_same link p n q.value_type q.protocol q.direction v) (Some (entry q v)) (entry_is link (qualified q v))
 grouped_stands link (compared c l r) group k u =
     leaf_stands link (compared c l r) (relation_formula link c l r) group k (relation_sizes link c l r) (λ p n. relation_same link p n c l r)
-        (entry_of (compared c l r)) (entry_is link (compared c l r))
+    (entry_of (compared c l r)) (entry_is link (compared c l r))
 grouped_stands link (denied a) group k u =
     let h = grouped_stands link a no_group kept_none u in
     or_stands link (Except (grouped_formula link no_group a)) (denied a) group k
-        (record { nodes_fit = h.nodes_fit; words_fit = h.words_fit; searches = h.searches; tests_fit = omega (arith, h.tests_fit) })
-        (λ p n. ap negation (h.reads_are p n ∙ or_no _))
+    (record { nodes_fit = h.nodes_fit; words_fit = h.words_fit; searches = h.searches; tests_fit = omega (arith, h.tests_fit) })
+    (λ p n. ap negation (h.reads_are p n ∙ or_no _))
 grouped_stands link (joined And a b) group k u =
     let parts = or_parts (any_primitive is_unfilled a) (any_primitive is_unfilled b) u in
     let h = grouped_stands link a no_group kept_none parts.0 in
     let g = grouped_stands link b no_group kept_none parts.1 in
     or_stands link (Both (grouped_formula link no_group a) (grouped_formula link no_group b)) (joined And a b) group k
-        (bare_within _ (omega arith) (bare_both h.counts g.counts)) (λ p n. ap₂ both (h.reads_are p n ∙ or_no _) (g.reads_are p n ∙ or_no _))
+    (bare_within _ (omega arith) (bare_both h.counts g.counts)) (λ p n. ap₂ both (h.reads_are p n ∙ or_no _) (g.reads_are p n ∙ or_no _))
 grouped_stands link (joined Or a b) group k u =
     either_stands link a b group k (λ more. grouped_formula link more a) (grouped_formula link group b)
-        (λ more j. grouped_stands link a more j (or_parts _ _ u).0) (grouped_stands link b group k (or_parts _ _ u).1) (entry_of b) (entry_is link b)
+    (λ more j. grouped_stands link a more j (or_parts _ _ u).0) (grouped_stands link b group k (or_parts _ _ u).1) (entry_of b) (entry_is link b)

@@ -2,17 +2,19 @@
 -- no jump, and no more instructions and branches than are counted.
 use Rattle.flt_gen.proofs.Ascending.{if_case, Searchable, Reached, Ready, Searches, length_without, ends_few}
 use Rattle.flt_bpf.proofs.Codes.{code_is}
-use Rattle.flt_gen.proofs.Common.{and_parts, accessor_offset, alu_operation, ◌≡◌, ℕ, zero, suc, ◌+◌, ◌-◌, ◌*◌, ◌/◌, ◌<◌, ◌≤◌, List, [], ◌∷◌, length, take, drop,
-    Bool, true, false, cond, Option, Some, None, refl, sym, ap, ◌∙◌, arith, length-drop, length-take, ◌≢◌, nat_lt, nat_le, ◌==◌, not, ◌&&◌, if◌then◌else◌,
-    count_by, nat_tests, sum_by-cons, All-cons, Insn, Operand, Constant, IndexRegister, Operation, LoadAbsolute, LoadIndirect, Load, LoadHeaderLength, Store,
-    Compute, Negate, Jump, JumpIf, CopyToIndex, Word, Accumulator, Index, Immediate, Memory, Length, Test, Width, fault_if_known, operation_fault, unless,
-    ends_in_return, IsValidUnlessLong, code_of, is_branch, JUMP, HasNoJump, Comparison, Equal, NotEqual, Less, AtMost, Greater, AtLeast, Operator, Protocol,
-    Tcp, Udp, Icmp, number_words, number_size, NumberTree, literal, len, named, load, negated, applied, Link, network_offset, Interval, Elementary, Outcome,
-    Field, Offset, Fixed, AfterHeader, width_of, Formula, Single, Compare, Both, Either, Except, Split, Sought, Numbers, Sides, Direction, Source, Destination,
-    And, Or, max, subst, plain, computation, takes_constant, constant, constant_operand, branch_insn, emit_branch, emit_comparison, emit_field, emit_mask,
-    emit_accessor, emit_base, emit_number, Block, at_top, emit_interval, emit_chain, are_few, low_of, MOST_HALVINGS, emit_elementary, emit_formula, emit_masked,
-    emit_side, emit_others, emit_few, emit_index, emit_at_index, emit_many, fewest_at_index, are_at_index, emit_among, words, nodes, first_ends, sought_tests,
-    tests}
+use Rattle.flt_gen.proofs.Common.{and_parts, accessor_offset, alu_operation, ◌≡◌, ℕ, zero, suc, ◌+◌, ◌-◌, ◌*◌, ◌/◌, ◌<◌, ◌≤◌, List, [], ◌∷◌, length, take, drop}
+use Rattle.flt_gen.proofs.Common.{Bool, true, false, cond, Option, Some, None, refl, sym, ap, ◌∙◌, arith, length-drop, length-take, ◌≢◌, nat_lt, nat_le, ◌==◌}
+use Rattle.flt_gen.proofs.Common.{not, ◌&&◌, if◌then◌else◌, count_by, nat_tests, sum_by-cons, All-cons, Insn, Operand, Constant, IndexRegister, Operation}
+use Rattle.flt_gen.proofs.Common.{LoadAbsolute, LoadIndirect, Load, LoadHeaderLength, Store, Compute, Negate, Jump, JumpIf, CopyToIndex, Word, Accumulator}
+use Rattle.flt_gen.proofs.Common.{Index, Immediate, Memory, Length, Test, Width, fault_if_known, operation_fault, unless, ends_in_return, IsValidUnlessLong}
+use Rattle.flt_gen.proofs.Common.{code_of, is_branch, JUMP, HasNoJump, Comparison, Equal, NotEqual, Less, AtMost, Greater, AtLeast, Operator, Protocol, Tcp}
+use Rattle.flt_gen.proofs.Common.{Udp, Icmp, number_words, number_size, NumberTree, literal, len, named, load, negated, applied, Link, network_offset, Interval}
+use Rattle.flt_gen.proofs.Common.{Elementary, Outcome, Field, Offset, Fixed, AfterHeader, width_of, Formula, Single, Compare, Both, Either, Except, Split}
+use Rattle.flt_gen.proofs.Common.{Sought, Numbers, Sides, Direction, Source, Destination, And, Or, max, subst, plain, computation, takes_constant, constant}
+use Rattle.flt_gen.proofs.Common.{constant_operand, branch_insn, emit_branch, emit_comparison, emit_field, emit_mask, emit_accessor, emit_base, emit_number}
+use Rattle.flt_gen.proofs.Common.{Block, at_top, emit_interval, emit_chain, are_few, low_of, MOST_HALVINGS, emit_elementary, emit_formula, emit_masked}
+use Rattle.flt_gen.proofs.Common.{emit_side, emit_others, emit_few, emit_index, emit_at_index, emit_many, fewest_at_index, are_at_index, emit_among, words}
+use Rattle.flt_gen.proofs.Common.{nodes, first_ends, sought_tests, tests}
 use Rattle.flt_gen.proofs.Numbers.{operand_is}
 use Rattle.flt_gen.proofs.Leads.{Extends, extends_none, extends_put, extends_on, by_operand}
 use Rattle.flt_bpf.specs.{Check.constant_fault, Check.fault_of, Instructions.operation_of}
@@ -251,7 +253,7 @@ module _ (b : Bool) where
       (number_grows link l slot (omega arith)
       (by_operand (λ code. GrowsBy b c code (m + 4 + 6 * number_size r) (w + 4 + 6 * number_size r)) (constant_operand operator r) _ _
       (λ k is. grows_more _ _ (omega arith) (omega arith)
-          (grows_put (computation operator Constant) k refl refl (constant_fine operator k (length d) (operand_is operator r k is).taken) g))
+      (grows_put (computation operator Constant) k refl refl (constant_fine operator k (length d) (operand_is operator r k is).taken) g))
       (grows_more _ _ (omega arith) (omega arith)
       (grows_put (Store Accumulator) slot refl refl (word_fine slot (omega arith))
       (number_grows link r (slot + 1) (omega arith)
@@ -336,7 +338,7 @@ module _ (b : Bool) where
       (λ many. let two = are_many is many in
       let first = first_of_half from half is (omega arith) in
       more_by _ _ (omega arith) (omega arith) (branch_fits Test.AtLeast (low_of (drop half is)) upper.entry lower.entry lower.code both.grows
-          (inside_on _ fl.grows fu.entry) fl.entry))
+      (inside_on _ fl.grows fu.entry) fl.entry))
 
   load_grows : (place : Offset) (width : Width) (mask : Option ℕ) → Lean mask place → {c d : List Insn} {m w : ℕ} → GrowsBy b c d m w
       → GrowsBy b c (emit_field place width (emit_mask mask d)) (m + 2) (w + 2)
@@ -366,12 +368,12 @@ module _ (b : Bool) where
       let all = emit_side at.destination at.width numbers.mask numbers.all hit others.entry others.code in
       let fo = others_fits at numbers numbers.others hit miss c lean.0 s h m in
       let fa = side_fits at.destination at.width numbers.mask numbers.all hit others.entry others.code lean.1 fo.grows.sound (inside_on _ fo.grows h)
-          fo.entry in
+      fo.entry in
       let ff = side_fits at.source at.width numbers.mask (numbers.first ∷ []) hit all.entry all.code lean.0 fa.grows.sound
-          (inside_on _ fa.grows (inside_on _ fo.grows h)) fa.entry in
+      (inside_on _ fa.grows (inside_on _ fo.grows h)) fa.entry in
       let some = some_searched numbers.all r.all in
       let fewer : length numbers.others ≤ length numbers.all = subst (λ (is : List Interval). length is ≤ length numbers.all) (sym r.others_are)
-          (length_without numbers.first numbers.all) in
+      (length_without numbers.first numbers.all) in
       let one = ends_few (numbers.first ∷ []) in
       let two = ends_few numbers.all in
       more_by _ _ (omega arith) (omega arith) (fits_on (fits_on fo.grows fa).grows ff)
@@ -399,11 +401,11 @@ module _ (b : Bool) where
       let fn = fits_top (at_index_grows at.destination at.width at.index (masked_grows numbers.mask numbers.all hit miss c s h m)) in
       let hn = inside_on _ fn.grows h in
       let fl = fits_top (at_index_grows at.destination at.width at.index (branch_grows Test.AtLeast Constant 0 hit miss none fn.grows.sound hn
-          (inside_on _ fn.grows m))) in
+      (inside_on _ fn.grows m))) in
       let fi = interval_fits false numbers.first [] hit (length later) later fl.grows.sound (inside_on _ fl.grows hn) fl.entry in
       let fs = fits_top (index_grows at.source at.index
-          (at_index_grows at.source at.width at.index (masked_grows numbers.mask numbers.all one.entry (length none) one.code fi.grows.sound fi.entry
-          (inside_on _ fi.grows (inside_on _ fl.grows fn.entry))))) in
+      (at_index_grows at.source at.width at.index (masked_grows numbers.mask numbers.all one.entry (length none) one.code fi.grows.sound fi.entry
+      (inside_on _ fi.grows (inside_on _ fl.grows fn.entry))))) in
       let some = some_searched numbers.all r.all in
       let one_more = ends_few (numbers.first ∷ []) in
       let two = ends_few numbers.all in
@@ -415,11 +417,11 @@ module _ (b : Bool) where
   among_fits (Direction.One Source) at numbers hit miss c r s h m =
       let some = some_searched numbers.all r.all in
       more_by _ _ (omega arith) (omega arith) (side_fits at.source at.width numbers.mask numbers.all hit miss c
-          (source_lean at.index numbers.mask at.source at.destination r.reached).0 s h m)
+      (source_lean at.index numbers.mask at.source at.destination r.reached).0 s h m)
   among_fits (Direction.One Destination) at numbers hit miss c r s h m =
       let some = some_searched numbers.all r.all in
       more_by _ _ (omega arith) (omega arith) (side_fits at.destination at.width numbers.mask numbers.all hit miss c
-          (source_lean at.index numbers.mask at.source at.destination r.reached).1 s h m)
+      (source_lean at.index numbers.mask at.source at.destination r.reached).1 s h m)
   among_fits (Direction.Both And) at numbers hit miss c r s h m = more_by _ _ (omega arith) (omega arith) (record { grows = none_by s; entry = m })
   among_fits (Direction.Both Or) at numbers hit miss c r s h m = by (are_at_index at numbers) refl
     where
@@ -468,6 +470,6 @@ module _ (b : Bool) where
       let f = emitted_by link y hit miss c (omega arith) up.1 s h m in
       let g = emitted_by link x hit miss no.code (omega arith) up.0 f.grows.sound (inside_on _ f.grows h) (inside_on _ f.grows m) in
       more_by _ _ (omega arith) (omega arith)
-          (fits_on (fits_on f.grows g).grows (elementary_fits t yes.entry no.entry yes.code g.grows.sound g.entry (inside_on _ g.grows f.entry)))
+      (fits_on (fits_on f.grows g).grows (elementary_fits t yes.entry no.entry yes.code g.grows.sound g.entry (inside_on _ g.grows f.entry)))
   emitted_by link (Sought d at numbers) hit miss c few r s h m =
       more_by _ _ (omega arith) (omega arith) (among_fits d at numbers hit miss c r s h m)

@@ -1,7 +1,7 @@
 -- Code that grew in front still stands at its end; what its first instruction does; and where it
 -- leads: its answer from a place on.
-use Rattle.flt_gen.proofs.Common.{constant_or, ◌≡◌, ℕ, suc, ◌-◌, ◌≤◌, List, ◌∷◌, length, drop, Option, Some, None, refl, sym, ap, ◌∙◌, arith, Insn, State,
-    Operation, plain, answer_of, answer_after, answer_drop, code_of, does, does_if_known}
+use Rattle.flt_gen.proofs.Common.{constant_or, ◌≡◌, ℕ, suc, ◌-◌, ◌≤◌, List, ◌∷◌, length, drop, Option, Some, None, refl, sym, ap, ◌∙◌, arith, Insn, State}
+use Rattle.flt_gen.proofs.Common.{Operation, plain, answer_of, answer_after, answer_drop, code_of, does, does_if_known}
 use Rattle.flt_bpf.proofs.Codes.{code_is}
 use Rattle.flt_bpf.specs.{Instructions.operation_of, Machine.step}
 

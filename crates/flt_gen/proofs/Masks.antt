@@ -1,7 +1,7 @@
 -- A mask of 128 bits, by the four words in which it stands.
 use Rattle.flt_gen.proofs.Ascending.{if_case}
-use Rattle.flt_gen.proofs.Common.{◌≡◌, ℕ, ◌+◌, ◌-◌, ◌*◌, ◌^◌, ◌<◌, ◌≤◌, [], ◌∷◌, map, refl, ap, ◌∙◌, arith, Option, None, Some, ⊎_elim, cases_lt, pow-add,
-    first_bits, ip6_mask, word_mask, ◌==◌, unwrap_or, nat_tests, partial_mask, ip6_tests}
+use Rattle.flt_gen.proofs.Common.{◌≡◌, ℕ, ◌+◌, ◌-◌, ◌*◌, ◌^◌, ◌<◌, ◌≤◌, [], ◌∷◌, map, refl, ap, ◌∙◌, arith, Option, None, Some, ⊎_elim, cases_lt, pow-add}
+use Rattle.flt_gen.proofs.Common.{first_bits, ip6_mask, word_mask, ◌==◌, unwrap_or, nat_tests, partial_mask, ip6_tests}
 use Rattle.std.proofs.Math.Pow.{pow_mono}
 use Rattle.std.specs.Int.Digits.{number_from_digits}
 
@@ -24,16 +24,36 @@ lack bits word = 32 - (bits - 32 * word)
 masks_join : (bits : ℕ) → number_from_digits (2 ^ 32) (first_bits 32 (bits - 32 * 0) ∷ first_bits 32 (bits - 32 * 1) ∷ first_bits 32 (bits - 32 * 2) ∷
     first_bits 32 (bits - 32 * 3) ∷ []) ≡ first_bits 128 bits
 masks_join bits =
-    ⊎_elim (λ first. by (omega (arith, same (lack bits 1) 32 (omega arith), same (lack bits 2) 32 (omega arith), same (lack bits 3) 32 (omega arith),
-        raised (128 - bits) (lack bits 0) 96 (omega arith))))
+    ⊎_elim (λ first. by (omega (
+      arith,
+      same (lack bits 1) 32 (omega arith),
+      same (lack bits 2) 32 (omega arith),
+      same (lack bits 3) 32 (omega arith),
+      raised (128 - bits) (lack bits 0) 96 (omega arith),
+    )))
     (λ past_first. ⊎_elim (λ second. by
-        (omega (arith, same (lack bits 0) 0 (omega arith), same (lack bits 2) 32 (omega arith), same (lack bits 3) 32 (omega arith),
-        raised (128 - bits) (lack bits 1) 64 (omega arith))))
+    (omega (
+      arith,
+      same (lack bits 0) 0 (omega arith),
+      same (lack bits 2) 32 (omega arith),
+      same (lack bits 3) 32 (omega arith),
+      raised (128 - bits) (lack bits 1) 64 (omega arith),
+    )))
     (λ past_second. ⊎_elim (λ third. by
-        (omega (arith, same (lack bits 0) 0 (omega arith), same (lack bits 1) 0 (omega arith), same (lack bits 3) 32 (omega arith),
-        raised (128 - bits) (lack bits 2) 32 (omega arith))))
-    (λ past_third. by (omega (arith, same (lack bits 0) 0 (omega arith), same (lack bits 1) 0 (omega arith), same (lack bits 2) 0 (omega arith),
-        same (128 - bits) (lack bits 3) (omega arith))))
+    (omega (
+      arith,
+      same (lack bits 0) 0 (omega arith),
+      same (lack bits 1) 0 (omega arith),
+      same (lack bits 3) 32 (omega arith),
+      raised (128 - bits) (lack bits 2) 32 (omega arith),
+    )))
+    (λ past_third. by (omega (
+      arith,
+      same (lack bits 0) 0 (omega arith),
+      same (lack bits 1) 0 (omega arith),
+      same (lack bits 2) 0 (omega arith),
+      same (128 - bits) (lack bits 3) (omega arith),
+    )))
     (cases_lt bits 96))
     (cases_lt bits 64))
     (cases_lt bits 32)

@@ -1,11 +1,11 @@
 -- Words of IPv6 addresses of which no bit counts: the formula reads the same, and has no more
 -- tests.
 use Rattle.flt_gen.proofs.Ascending.{if_case}
-use Rattle.flt_gen.proofs.Common.{◌≡◌, ℕ, suc, ◌+◌, ◌-◌, ◌*◌, ◌/◌, ◌%◌, ◌^◌, ◌≤◌, List, [], ◌∷◌, length, true, false, Option, Some, None, refl, sym, ap, ap₂,
-    ◌∙◌, arith, ◌==◌, ◌&&◌, nat_le, if◌then◌else◌, bit_and, nat_tests, Source, Destination, And, Or, Protocol, ValueType, Net, Direction, Value, first_bits,
-    Word, big_endian_at, field, Link, Fixed, FrameKind, Elementary, MatchResult, reading_of, with, under_mask, kind_test, elementary_reads, network_offset,
-    both, either, all_of, sides, reads, partial_mask, address_test, ip6_tests, ip6_formula, value_formula, is_empty, is_idle, capture_test, last_test,
-    needed_tests, ip6_needed, value_needed}
+use Rattle.flt_gen.proofs.Common.{◌≡◌, ℕ, suc, ◌+◌, ◌-◌, ◌*◌, ◌/◌, ◌%◌, ◌^◌, ◌≤◌, List, [], ◌∷◌, length, true, false, Option, Some, None, refl, sym, ap, ap₂}
+use Rattle.flt_gen.proofs.Common.{◌∙◌, arith, ◌==◌, ◌&&◌, nat_le, if◌then◌else◌, bit_and, nat_tests, Source, Destination, And, Or, Protocol, ValueType, Net}
+use Rattle.flt_gen.proofs.Common.{Direction, Value, first_bits, Word, big_endian_at, field, Link, Fixed, FrameKind, Elementary, MatchResult, reading_of, with}
+use Rattle.flt_gen.proofs.Common.{under_mask, kind_test, elementary_reads, network_offset, both, either, all_of, sides, reads, partial_mask, address_test}
+use Rattle.flt_gen.proofs.Common.{ip6_tests, ip6_formula, value_formula, is_empty, is_idle, capture_test, last_test, needed_tests, ip6_needed, value_needed}
 use Rattle.flt_gen.proofs.{Counted.Bare, Counted.bare_after, Counted.bare_sides, Counted.bare_value, Exclusive.and_yes}
 use Rattle.std.specs.Int.Bits.{and_zero_r}
 use Rattle.flt_ast.specs.Counts as count
@@ -52,7 +52,7 @@ module _ (link : Link) (p : List ℕ) (n : ℕ) where
   later_none at k e =
       if_case (λ o. o ≡ None → field p (at + 4 * suc k) Word ≡ None) (nat_le (at + 4 * k + 4) (length p)) _ _ (λ t f. cc)
       (λ t f. let past : nat_le (at + 4 * suc k + 4) (length p) ≡ false = grind (arith, nat_tests) in
-          ap (λ b. if b then Some (big_endian_at p (at + 4 * suc k) Word) else None) past) e
+      ap (λ b. if b then Some (big_endian_at p (at + 4 * suc k) Word) else None) past) e
 
   -- a test of a word by what is captured there
   abbrev of_word : Option ℕ × ℕ → Option ℕ → MatchResult
@@ -72,7 +72,7 @@ module _ (link : Link) (p : List ℕ) (n : ℕ) where
   last_same : (w : Option ℕ × ℕ) (at : ℕ) → elementary_reads (last_test (address_test w.0 w.1 (Fixed at))) p ≡ of_word w (field p at Word)
   last_same w at =
       if_case (λ x. elementary_reads x p ≡ of_word w (field p at Word)) (is_empty w.0 && w.1 == 0) (capture_test (address_test w.0 w.1 (Fixed at)))
-          (address_test w.0 w.1 (Fixed at))
+      (address_test w.0 w.1 (Fixed at))
       (λ e. captured_same e (field p at Word)) (λ e. refl)
     where
       captured_same : (is_empty w.0 && w.1 == 0) ≡ true → (o : Option ℕ) → reading_of (with o (λ v. Some (nat_le 0 v))) ≡ of_word w o

@@ -1,7 +1,8 @@
 -- The test of a kind of network header reads what the packet's network header is.
-use Rattle.flt_gen.proofs.Common.{◌≡◌, get_or-drop, ℕ, ◌+◌, ◌*◌, ◌/◌, ◌%◌, ◌<◌, List, length, drop, Bool, true, false, nat_lt, nat_le, ◌==◌, not, Option, Some,
-    None, refl, sym, ap, subst, ◌∙◌, arith, if◌then◌else◌, ◌↔◌, ◌^◌, All, bit_and, slice_index, nat_tests, HalfWord, big_endian_at, Link, MatchResult, Yes, No,
-    Rejected, reading_of, with, elementary_reads, is_at, kind_test, type_test, link_of, link_type, type_offset, frame_kind, carries_kind, carries}
+use Rattle.flt_gen.proofs.Common.{◌≡◌, get_or-drop, ℕ, ◌+◌, ◌*◌, ◌/◌, ◌%◌, ◌<◌, List, length, drop, Bool, true, false, nat_lt, nat_le, ◌==◌, not, Option, Some}
+use Rattle.flt_gen.proofs.Common.{None, refl, sym, ap, subst, ◌∙◌, arith, if◌then◌else◌, ◌↔◌, ◌^◌, All, bit_and, slice_index, nat_tests, HalfWord}
+use Rattle.flt_gen.proofs.Common.{big_endian_at, Link, MatchResult, Yes, No, Rejected, reading_of, with, elementary_reads, is_at, kind_test, type_test, link_of}
+use Rattle.flt_gen.proofs.Common.{link_type, type_offset, frame_kind, carries_kind, carries}
 use Rattle.std.proofs.lemmas.Grind.{and_high_numeral}
 use Rattle.cap_octet.specs.Assigned.{ETHERTYPE_IPV4, ETHERTYPE_IPV6, ETHERTYPE_ARP, ETHERTYPE_RARP}
 use Rattle.cap_octet.specs.Link.{all_links}
@@ -74,13 +75,13 @@ type_reads at kind p =
     let v = big_endian_at p at HalfWord in
     let other : nat_lt (length p) (at + 2) ≡ not (nat_le (at + 2) (length p)) = grind (arith, nat_tests) in
     rw (same_number p at) (captured kind (nat_le (at + 2) (length p)) (nat_lt (length p) (at + 2)) v (λ x. x == type_of kind) (header_by_ethertype v)
-        other (λ long. number_reads v kind))
+    other (λ long. number_reads v kind))
 
 -- by the version n, which the mask leaves as m
 version_reads : (kind : NetworkKind) (n m : ℕ) → m ≡ 16 * n → ((w : ℕ) → reading_of (Some (w == n)) ≡ reads_kind (header_by_version w) kind true)
     → (p : List ℕ) → All (λ b. b < 2 ^ 8) p
     → reading_of (with (if nat_le (0 + 1) (length p) then Some (slice_index p 0) else None) (λ (x : ℕ). Some (bit_and x 0xf0 == m))) ≡ reads_kind
-        (header_after None p) kind true
+    (header_after None p) kind true
 version_reads kind n m times is p bytes =
     let v = slice_index p 0 in
     let other : (length p == 0) ≡ not (nat_le (0 + 1) (length p)) = grind (arith, nat_tests) in

@@ -1,11 +1,12 @@
 -- What the code of arithmetic does.
-use Rattle.flt_gen.proofs.Common.{LoadAbsolute, accessor_offset, emit_field, ◌≡◌, ℕ, ◌+◌, ◌-◌, ◌%◌, ◌^◌, ◌<◌, ◌≤◌, List, ◌∷◌, length, Bool, true, false, Option,
-    Some, None, refl, sym, ap, ap₂, ◌∙◌, subst, arith, slice_get, slice_set, nat_lt, if◌then◌else◌, option_map, nat_tests, get_or-set_same, get_or-set_other,
-    Insn, State, Accumulator, Index, Width, Byte, Operand, Constant, IndexRegister, Goes, Lost, field, compute, operand_value, into, word_into, header_length,
-    Operator, Protocol, Ether, Tcp, Udp, Icmp, NumberTree, literal, len, named, load, negated, applied, Link, Offset, Fixed, AfterHeader, with, field_at,
-    network_offset, width_of, base, result_of, number, number_words, plain, alu_operation, computation, takes_constant, constant, constant_operand, emit_base,
-    emit_transport, emit_accessor, emit_operands, emit_number, answer_of, answer_after, LoadIndirect, Load, LoadHeaderLength, Store, Negate, CopyToIndex,
-    Immediate, Memory, Length}
+use Rattle.flt_gen.proofs.Common.{LoadAbsolute, accessor_offset, emit_field, ◌≡◌, ℕ, ◌+◌, ◌-◌, ◌%◌, ◌^◌, ◌<◌, ◌≤◌, List, ◌∷◌, length, Bool, true, false, Option}
+use Rattle.flt_gen.proofs.Common.{Some, None, refl, sym, ap, ap₂, ◌∙◌, subst, arith, slice_get, slice_set, nat_lt, if◌then◌else◌, option_map, nat_tests}
+use Rattle.flt_gen.proofs.Common.{get_or-set_same, get_or-set_other, Insn, State, Accumulator, Index, Width, Byte, Operand, Constant, IndexRegister, Goes, Lost}
+use Rattle.flt_gen.proofs.Common.{field, compute, operand_value, into, word_into, header_length, Operator, Protocol, Ether, Tcp, Udp, Icmp, NumberTree, literal}
+use Rattle.flt_gen.proofs.Common.{len, named, load, negated, applied, Link, Offset, Fixed, AfterHeader, with, field_at, network_offset, width_of, base}
+use Rattle.flt_gen.proofs.Common.{result_of, number, number_words, plain, alu_operation, computation, takes_constant, constant, constant_operand, emit_base}
+use Rattle.flt_gen.proofs.Common.{emit_transport, emit_accessor, emit_operands, emit_number, answer_of, answer_after, LoadIndirect, Load, LoadHeaderLength}
+use Rattle.flt_gen.proofs.Common.{Store, Negate, CopyToIndex, Immediate, Memory, Length}
 use Rattle.flt_gen.proofs.Leads.{by_operand, run_plain}
 use Rattle.std.proofs.{Math.ListN.length-set, lemmas.Option.slice_get-get_or}
 use Rattle.flt_words.specs.declared.token.Operator.TheVariants.{Add}
@@ -19,7 +20,7 @@ get_set_below : (xs : List ℕ) (i j v : ℕ) → j < i → i < length xs → sl
 get_set_below xs i j v less l =
     let within : j < length (slice_set xs i v) = omega (arith, length-set {A = ℕ}) in
     slice_get-get_or (slice_set xs i v) j 0 within ∙ ap Some (get_or-set_other xs i j v 0 (λ e. absurd (omega arith)))
-        ∙ sym (slice_get-get_or xs j 0 (omega arith))
+    ∙ sym (slice_get-get_or xs j 0 (omega arith))
 
 -- the machine's arithmetic is that of expressions
 pub computed : (o : Operator) (a b : ℕ) → compute (alu_operation o) a b ≡ result_of o a b
@@ -68,7 +69,7 @@ module _ (p : List ℕ) (n : ℕ) where
   run_store k c s l =
       let t : nat_lt k (length s.memory) ≡ true = grind (arith, nat_tests) in
       run_plain p n (Store Accumulator) k c s
-          ∙ ap (λ b. answer_after (answer_of c p n) (if b then Goes 0 (record s { memory = slice_set s.memory k s.accumulator }) else Lost)) t
+      ∙ ap (λ b. answer_after (answer_of c p n) (if b then Goes 0 (record s { memory = slice_set s.memory k s.accumulator }) else Lost)) t
 
   run_word : (k v : ℕ) (c : List Insn) (s : State) → slice_get s.memory k ≡ Some v → answer_of (plain (Load Accumulator Memory) k ∷ c) p n 0 s ≡
       answer_of c p n 0 (record s { accumulator = v })
@@ -141,7 +142,7 @@ module _ (p : List ℕ) (n : ℕ) where
           let place : (l + (v + x) % 2 ^ 32) % 2 ^ 32 ≡ (x + l + v) % 2 ^ 32 = omega arith in
           run_operator Add IndexRegister 0 (emit_base l w c) (record t { index = x })
           ∙ base_runs l w c slot ((v + x) % 2 ^ 32) s (record t { accumulator = (t.accumulator + x) % 2 ^ 32; index = x }) f
-              (record { long = k.long; kept = k.kept }) sum h
+          (record { long = k.long; kept = k.kept }) sum h
           ∙ ap (λ at. Some (answer_for (field p at w) f)) place
 
   accessor_runs : (link : Link) (protocol : Protocol) (w : Width) (c : List Insn) (slot v : ℕ) (s t : State) (f : ℕ → ℕ) → Keeps slot s t
@@ -213,25 +214,25 @@ module _ (p : List ℕ) (n : ℕ) where
       λ s f long h. by_operand (λ b. answer_of b p n 0 s ≡ Some (answer_for (number link (load protocol size i) p n) f)) (constant i) _ _
       (λ k is. indexed_runs link protocol (width_of size) c slot k s f (record { long = long; kept = λ j l. refl }) h
       ∙ ap (λ o. Some (answer_for (with o (λ v. with (base link protocol p) (λ at. field p ((at + v) % 2 ^ 32) (width_of size)))) f))
-          (sym (constant_is link i k is)))
+      (sym (constant_is link i k is)))
       (number_runs link i slot (emit_accessor link protocol (width_of size) c) few s _ long
-          (λ v t k e. accessor_runs link protocol (width_of size) c slot v s t f k e h)
+      (λ v t k e. accessor_runs link protocol (width_of size) c slot v s t f k e h)
       ∙ ap Some (for_with (number link i p n) (λ v. with (base link protocol p) (λ at. field p ((at + v) % 2 ^ 32) (width_of size))) f))
   number_runs link (negated a) slot c few =
       λ s f long h. number_runs link a slot (plain Negate 0 ∷ c) few s (λ v. f ((2 ^ 32 - v) % 2 ^ 32)) long
       (λ v t k e. run_plain p n Negate 0 c t ∙ h ((2 ^ 32 - v) % 2 ^ 32) (record t { accumulator = (2 ^ 32 - t.accumulator) % 2 ^ 32 })
-          (record { long = k.long; kept = k.kept }) (ap (λ m. (2 ^ 32 - m) % 2 ^ 32) e))
+      (record { long = k.long; kept = k.kept }) (ap (λ m. (2 ^ 32 - m) % 2 ^ 32) e))
       ∙ ap Some (for_with (number link a p n) (λ v. Some ((2 ^ 32 - v) % 2 ^ 32)) f)
   number_runs link (applied operator l r) slot c few =
       λ s f long h. number_runs link l slot _ (omega arith) s (λ x. answer_for (with (number link r p n) (λ y. result_of operator x y)) f) long
       (λ x t k e. by_operand (λ d. answer_of d p n 0 t ≡ Some (answer_for (with (number link r p n) (λ y. result_of operator x y)) f))
-          (constant_operand operator r) _ _
+      (constant_operand operator r) _ _
       (λ j is. run_operator operator Constant j c t
       ∙ ap (λ a. answer_after (answer_of c p n) (into Accumulator (result_of operator a j) t)) e
       ∙ into_runs (result_of operator x j) c slot s t f k h
       ∙ ap (λ o. Some (answer_for (with o (λ y. result_of operator x y)) f)) (sym (constant_is link r j (operand_is operator r j is).is)))
       (operands_run link r slot x (plain (computation operator IndexRegister) 0 ∷ c) s t (λ y. answer_for (result_of operator x y) f) (omega arith) k
-          e (number_runs link r (slot + 1) _ (omega arith))
+      e (number_runs link r (slot + 1) _ (omega arith))
       (λ y u j g i. run_operator operator IndexRegister 0 c u
       ∙ ap₂ (λ a b. answer_after (answer_of c p n) (into Accumulator (result_of operator a b) u)) g i
       ∙ into_runs (result_of operator x y) c slot s u f j h)

@@ -1,9 +1,10 @@
 -- The tests of a protocol's accessors stand once: the formula reads the same, and has no more
 -- tests.
 use Rattle.flt_gen.proofs.Ascending.{if_case}
-use Rattle.flt_gen.proofs.Common.{◌≡◌, ℕ, ◌+◌, ◌≤◌, List, [], ◌∷◌, true, refl, sym, ap, ◌∙◌, arith, Comparison, Protocol, Ether, Tcp, NumberTree, load, negated,
-    applied, compared, accessor_test_count, number_tests, truth_tests, Link, Elementary, MatchResult, Yes, elementary_reads, accessors, accessor_tests, Formula,
-    Compare, both, reads, guarded_formula, checked_formula, tests, nodes, words, equals, without_protocol, protocols_of, relation_formula, formula}
+use Rattle.flt_gen.proofs.Common.{◌≡◌, ℕ, ◌+◌, ◌≤◌, List, [], ◌∷◌, true, refl, sym, ap, ◌∙◌, arith, Comparison, Protocol, Ether, Tcp, NumberTree, load, negated}
+use Rattle.flt_gen.proofs.Common.{applied, compared, accessor_test_count, number_tests, truth_tests, Link, Elementary, MatchResult, Yes, elementary_reads}
+use Rattle.flt_gen.proofs.Common.{accessors, accessor_tests, Formula, Compare, both, reads, guarded_formula, checked_formula, tests, nodes, words, equals}
+use Rattle.flt_gen.proofs.Common.{without_protocol, protocols_of, relation_formula, formula}
 use Rattle.flt_gen.proofs.Counted.{Sized, bare_within, bare_after}
 
 pub equal_are : (p q : Protocol) → equals p q ≡ true → p ≡ q
@@ -34,7 +35,7 @@ without_tests link p (q ∷ qs) f =
     let t = accessor_tests_are link q (checked_formula link qs f) in
     let u = accessor_tests_are link q (checked_formula link (without_protocol p qs) f) in
     if_case (λ xs. tests (checked_formula link xs f) ≤ tests (checked_formula link (q ∷ qs) f)) (equals p q) (without_protocol p qs)
-        (q ∷ without_protocol p qs) (λ e. omega arith) (λ e. omega arith)
+    (q ∷ without_protocol p qs) (λ e. omega arith) (λ e. omega arith)
 
 protocols_tests : (link : Link) (a : NumberTree) (rest : List Protocol) (f : Formula) → tests (checked_formula link (protocols_of a rest) f) ≤
     number_tests a + tests (checked_formula link rest f)
@@ -56,7 +57,7 @@ relation_sizes link c l r =
     let h = protocols_tests link l (protocols_of r []) (Compare c l r) in
     let k = protocols_tests link r [] (Compare c l r) in
     bare_within _ (omega arith) (checked_sizes link (protocols_of l (protocols_of r [])) (Compare c l r)
-        (record { nodes_fit = omega arith; words_fit = omega arith; searches = tt; tests_fit = omega arith }))
+    (record { nodes_fit = omega arith; words_fit = omega arith; searches = tt; tests_fit = omega arith }))
 
 -- the same reading
 pub both_again : (a b r : MatchResult) → both a (both b r) ≡ both (both a b) r

@@ -1,9 +1,9 @@
 -- Last bits that don't decide which numbers are in intervals, and networks as intervals.
 use Rattle.flt_gen.proofs.Ascending.{if_case, Apart, apart_less}
-use Rattle.flt_gen.proofs.Common.{◌≡◌, ℕ, zero, suc, ◌+◌, ◌-◌, ◌*◌, ◌/◌, ◌%◌, ◌^◌, ◌<◌, ◌≤◌, List, [], ◌∷◌, map, Bool, true, false, Some, None, refl, sym, ap,
-    ap₂, ◌∙◌, subst, arith, ◌==◌, ◌&&◌, ◌||◌, nat_le, bit_and, if◌then◌else◌, div-mul-le_self, lt-div-mul-add, le-div_iff_mul-le, mul-le-mul_right, pow-succ',
-    suc-mul, nat_tests, and_parts, and_le_r, pow_pos, first_bits, under_mask, Interval, is_in, is_within, partial_mask, is_aligned, idle_bits, left_out,
-    high_mask, cut, interval}
+use Rattle.flt_gen.proofs.Common.{◌≡◌, ℕ, zero, suc, ◌+◌, ◌-◌, ◌*◌, ◌/◌, ◌%◌, ◌^◌, ◌<◌, ◌≤◌, List, [], ◌∷◌, map, Bool, true, false, Some, None, refl, sym, ap}
+use Rattle.flt_gen.proofs.Common.{ap₂, ◌∙◌, subst, arith, ◌==◌, ◌&&◌, ◌||◌, nat_le, bit_and, if◌then◌else◌, div-mul-le_self, lt-div-mul-add, le-div_iff_mul-le}
+use Rattle.flt_gen.proofs.Common.{mul-le-mul_right, pow-succ', suc-mul, nat_tests, and_parts, and_le_r, pow_pos, first_bits, under_mask, Interval, is_in}
+use Rattle.flt_gen.proofs.Common.{is_within, partial_mask, is_aligned, idle_bits, left_out, high_mask, cut, interval}
 use Rattle.flt_gen.proofs.Runs.{one_number}
 use Rattle.std.specs.{Int.Bits.and_zero_r, List.list_all}
 use Rattle.std.proofs.{Common.pow_mono, Math.Nat.div-lt_iff_lt-mul, Math.Nat.div-add-mod, lemmas.Nat.and_mask, lemmas.Nat.Bits.and_high_mask}
@@ -15,7 +15,7 @@ blocks_in x a b J some =
     let near : x < x / J * J + J = lt-div-mul-add some in
     let from : a * J ≤ x → a * J ≤ x / J * J = λ l. mul-le-mul_right J ((le-div_iff_mul-le some).1 l) in
     let upto : x ≤ b * J + (J - 1) → x / J * J ≤ b * J = λ l. mul-le-mul_right J (let m = suc-mul b J in let below : x / J < suc b =
-        (div-lt_iff_lt-mul some).1 (omega arith) in omega arith) in
+    (div-lt_iff_lt-mul some).1 (omega arith) in omega arith) in
     grind (arith, nat_tests)
 
 -- numbers that begin and end with a block
@@ -105,7 +105,7 @@ pub cut_in : (last x : ℕ) (first i : Interval) (is : List Interval) → Idle l
     → is_in (under_mask (high_mask last) x) (cut last i) ≡ is_in x i
 cut_in last x first i is h e s =
     subst (λ n. is_aligned n i ≡ true → Small n x → is_in (under_mask (high_mask n) x) (cut n i) ≡ is_in x i) (sym h.last_is)
-        (λ a b. cut_at h.bits x i h.few a b) e s
+    (λ a b. cut_at h.bits x i h.few a b) e s
 
 pub cut_within : (last x : ℕ) (first : Interval) (is : List Interval) → Idle last first is → Small last x → is_within (under_mask (high_mask last) x)
     (map (cut last) is) ≡ is_within x is
@@ -128,9 +128,12 @@ cut_apart last a first is h up = go a is h.all_aligned up
     go : (a : ℕ) (js : List Interval) → list_all (is_aligned last) js ≡ true → Apart a js → Apart a (map (cut last) js)
     go a [] e up = tt
     go a (j ∷ js) e up =
-        let t = and_parts (is_aligned last j) (list_all (is_aligned last) js) e in
-        (up.0, cut_order last first j is h t.0 up.1, apart_less ((cut last j).high + 1) (j.high + 1) (map (cut last) js) (omega arith)
-            (go (j.high + 1) js t.1 up.2))
+        let t = and_parts (is_aligned last j) (list_all (is_aligned last) js) e in (
+          up.0,
+          cut_order last first j is h t.0 up.1,
+          apart_less ((cut last j).high + 1) (j.high + 1) (map (cut last) js) (omega arith)
+              (go (j.high + 1) js t.1 up.2),
+        )
 
 -- the test of a network's address: its mask leaves the first number of a block
 net_mask : (b : ℕ) → partial_mask (first_bits 32 b) ≡ high_mask (2 ^ (32 - b) - 1)

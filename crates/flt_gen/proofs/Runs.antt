@@ -1,19 +1,21 @@
 -- The code of a formula goes on where the formula's reading says.
-use Rattle.flt_gen.specs.Formula.{choose, Formula, Single, Compare, Both, Either, Except, Split, Sought, Numbers, is_in, is_within, among_reads, captured_reads,
-    either_reads, sought_reads, relation_reads, both, either, negation as exchanged, reads}
+use Rattle.flt_gen.specs.Formula.{choose, Formula, Single, Compare, Both, Either, Except, Split, Sought, Numbers, is_in, is_within, among_reads, captured_reads}
+use Rattle.flt_gen.specs.Formula.{either_reads, sought_reads, relation_reads, both, either, negation as exchanged, reads}
 use Rattle.flt_gen.specs.inside.Code.{emit_search}
-use Rattle.flt_gen.proofs.Ascending.{if_case, Apart, Searchable, Reached, Ready, Searches, apart_without, within_without, searchable_apart, apart_take,
-    apart_drop, lower_half, first_taken, upper_half}
-use Rattle.flt_gen.proofs.Common.{◌≡◌, ℕ, zero, suc, ◌+◌, ◌-◌, ◌/◌, ◌%◌, ◌^◌, ◌<◌, ◌≤◌, List, [], ◌∷◌, length, take, drop, Bool, true, false, Option, Some,
-    None, refl, sym, ap, ◌∙◌, subst, arith, nat_le, nat_lt, ◌==◌, not, ◌&&◌, ◌||◌, if◌then◌else◌, bit_and, option_map, nat_tests, Insn, State, Width, Byte,
-    Test, Operand, Constant, IndexRegister, LoadIndirect, Load, Immediate, LoadHeaderLength, Compute, JumpIf, Accumulator, Index, answer_of, answer_after,
-    field, test_holds, operand_value, into, header_length, Comparison, Equal, NotEqual, Less, AtMost, Greater, AtLeast, number_words, NumberTree, Link, Offset,
-    Fixed, AfterHeader, Interval, Sides, Direction, Source, Destination, And, Or, without, ap₂, Elementary, Outcome, Field, MatchResult, Yes, No, Rejected,
-    reading_of, with, compares, field_at, under_mask, field_reads, elementary_reads, number, plain, constant, branch_insn, emit_elementary, emit_branch,
-    emit_comparison, emit_field, emit_mask, emit_relation, Block, at_top, emit_interval, emit_chain, are_few, low_of, MOST_HALVINGS, emit_masked, emit_side,
-    emit_others, emit_few, emit_second, emit_at_sides, emit_many, are_at_index, emit_among, emit_formula, words}
-use Rattle.flt_gen.proofs.Grows.{are_many, some_searched, source_lean, branch_grows, interval_fits, chain_fits, search_fits, side_fits, others_fits,
-    masked_grows, at_index_grows, emitted_by}
+use Rattle.flt_gen.proofs.Ascending.{if_case, Apart, Searchable, Reached, Ready, Searches, apart_without, within_without, searchable_apart, apart_take}
+use Rattle.flt_gen.proofs.Ascending.{apart_drop, lower_half, first_taken, upper_half}
+use Rattle.flt_gen.proofs.Common.{◌≡◌, ℕ, zero, suc, ◌+◌, ◌-◌, ◌/◌, ◌%◌, ◌^◌, ◌<◌, ◌≤◌, List, [], ◌∷◌, length, take, drop, Bool, true, false, Option, Some}
+use Rattle.flt_gen.proofs.Common.{None, refl, sym, ap, ◌∙◌, subst, arith, nat_le, nat_lt, ◌==◌, not, ◌&&◌, ◌||◌, if◌then◌else◌, bit_and, option_map, nat_tests}
+use Rattle.flt_gen.proofs.Common.{Insn, State, Width, Byte, Test, Operand, Constant, IndexRegister, LoadIndirect, Load, Immediate, LoadHeaderLength, Compute}
+use Rattle.flt_gen.proofs.Common.{JumpIf, Accumulator, Index, answer_of, answer_after, field, test_holds, operand_value, into, header_length, Comparison, Equal}
+use Rattle.flt_gen.proofs.Common.{NotEqual, Less, AtMost, Greater, AtLeast, number_words, NumberTree, Link, Offset, Fixed, AfterHeader, Interval, Sides}
+use Rattle.flt_gen.proofs.Common.{Direction, Source, Destination, And, Or, without, ap₂, Elementary, Outcome, Field, MatchResult, Yes, No, Rejected, reading_of}
+use Rattle.flt_gen.proofs.Common.{with, compares, field_at, under_mask, field_reads, elementary_reads, number, plain, constant, branch_insn, emit_elementary}
+use Rattle.flt_gen.proofs.Common.{emit_branch, emit_comparison, emit_field, emit_mask, emit_relation, Block, at_top, emit_interval, emit_chain, are_few, low_of}
+use Rattle.flt_gen.proofs.Common.{MOST_HALVINGS, emit_masked, emit_side, emit_others, emit_few, emit_second, emit_at_sides, emit_many, are_at_index, emit_among}
+use Rattle.flt_gen.proofs.Common.{emit_formula, words}
+use Rattle.flt_gen.proofs.Grows.{are_many, some_searched, source_lean, branch_grows, interval_fits, chain_fits, search_fits, side_fits, others_fits}
+use Rattle.flt_gen.proofs.Grows.{masked_grows, at_index_grows, emitted_by}
 use Rattle.flt_gen.proofs.Leads.{Extends, by_operand, run, run_plain, HasWords, Tops, Leads, leads_top, leads_on, leads_in, leads_to}
 use Rattle.flt_gen.proofs.Numbers.{answer_for, into_any, field_runs, constant_is, operands_run, number_runs}
 use Rattle.std.proofs.Math.Nat.{mod-eq_of_lt}
@@ -110,10 +112,10 @@ module _ (p : List ℕ) (n : ℕ) where
       λ s q. branch_tops Test.Equal operand k a b miss hit w v c e f m h s q ∙ ap Some (exchanged_if (a == b) v w)
   comparison_tops Less operand k a b hit miss v w c e f h m =
       λ s q. branch_tops Test.AtLeast operand k a b miss hit w v c e f m h s q
-          ∙ ap Some (exchanged_if (nat_le b a) v w ∙ ap (λ x. if x then v else w) (less_is a b))
+      ∙ ap Some (exchanged_if (nat_le b a) v w ∙ ap (λ x. if x then v else w) (less_is a b))
   comparison_tops AtMost operand k a b hit miss v w c e f h m =
       λ s q. branch_tops Test.Greater operand k a b miss hit w v c e f m h s q
-          ∙ ap Some (exchanged_if (nat_lt b a) v w ∙ ap (λ x. if x then v else w) (at_most_is a b))
+      ∙ ap Some (exchanged_if (nat_lt b a) v w ∙ ap (λ x. if x then v else w) (at_most_is a b))
   comparison_tops Greater operand k a b hit miss v w c e f h m = branch_tops Test.Greater operand k a b hit miss v w c e f h m
   comparison_tops AtLeast operand k a b hit miss v w c e f h m = branch_tops Test.AtLeast operand k a b hit miss v w c e f h m
 
@@ -123,7 +125,7 @@ module _ (p : List ℕ) (n : ℕ) where
   masked_tops Q keep None c x v h = h
   masked_tops Q keep (Some m) c x v h =
       λ s q. run_plain p n (Compute AluOperation.And Constant) m c s ∙ h (record s { accumulator = bit_and s.accumulator m })
-          (keep s (bit_and s.accumulator m) q.0, ap (λ y. bit_and y m) q.1)
+      (keep s (bit_and s.accumulator m) q.0, ap (λ y. bit_and y m) q.1)
 
   field_tops : (place : Offset) (width : Width) (b : ℕ → Bool) (c : List Insn) (v w : ℕ) → ((x : ℕ) → Tops p n (Has x) c (if b x then v else w))
       → Tops p n HasWords (emit_field place width c) (pick (reading_of (with (field_at place width p) (λ x. Some (b x)))) v w)
@@ -138,10 +140,10 @@ module _ (p : List ℕ) (n : ℕ) where
   elementary_leads (Field t) hit miss v w c h m =
       leads_top p n _ (pick (field_reads t p) v w)
       (field_tops t.offset t.width (λ x. compares t.comparison (under_mask t.mask x) t.value)
-          (emit_mask t.mask (emit_comparison t.comparison Constant t.value hit miss c)) v w (λ x.
+      (emit_mask t.mask (emit_comparison t.comparison Constant t.value hit miss c)) v w (λ x.
       masked_tops HasWords (λ s a q. q) t.mask (emit_comparison t.comparison Constant t.value hit miss c) x _
       (comparison_tops t.comparison Constant t.value (under_mask t.mask x) t.value hit miss v w c (λ s q. q.1) (λ s q. refl)
-          (leads_in p n (λ s q. q.0) h) (leads_in p n (λ s q. q.0) m))))
+      (leads_in p n (λ s q. q.0) h) (leads_in p n (λ s q. q.0) m))))
 
   module _ (Q : State → Type 0) where
     -- in so many intervals, where it may be known that A is no lower than the first; else it leads
@@ -173,7 +175,7 @@ module _ (p : List ℕ) (n : ℕ) where
           leads = at_most;
           right = λ t. let low = t refl in let above : nat_le i.low a ≡ true = grind (arith, nat_tests) in
               ap (λ b. if b then (if nat_lt i.high a then w else v) else w) (sym above) ∙ range_is (nat_le i.low a) (nat_lt i.high a) v w
-                  ∙ ap (λ b. if b then v else w) (inside_is (nat_le i.low a));
+              ∙ ap (λ b. if b then v else w) (inside_is (nat_le i.low a));
         }
         range false = record {
           value = if nat_le i.low a then (if nat_lt i.high a then w else v) else w;
@@ -203,7 +205,7 @@ module _ (p : List ℕ) (n : ℕ) where
         let e = emit_chain false is hit miss c in
         let rest = chain_found a false (i.high + 1) is hit miss v w c up.2 h m in
         let first = interval_found a from i hit e.entry v rest.value e.code up.1
-            (leads_on p n (chain_fits false false is hit miss c tt tt tt).grows.tail h) rest.leads in
+        (leads_on p n (chain_fits false false is hit miss c tt tt tt).grows.tail h) rest.leads in
         record {
           value = first.value;
           top = λ _. first.top (omega arith);
@@ -242,7 +244,7 @@ module _ (p : List ℕ) (n : ℕ) where
           top = λ _. omega arith;
           leads = leads_top p n (emit_branch Test.AtLeast Constant pivot upper.entry lower.entry lower.code) _
               (branch_tops Test.AtLeast Constant pivot a pivot upper.entry lower.entry fu.value fl.value lower.code (λ s q. q.1) (λ s q. refl)
-                  (leads_on p n (search_fits false k from (take half is) hit miss upper.code tt tt tt).grows.tail fu.leads) fl.leads);
+              (leads_on p n (search_fits false k from (take half is) hit miss upper.code tt tt tt).grows.tail fu.leads) fl.leads);
           right = λ t. halves_found a f half from is v w fu.value fl.value up (omega arith)
               (λ m. fu.right (λ _. m))
               (fl.right (λ e. subst (λ z. z ≤ a) (sym (first_taken half is some)) (t e)))
@@ -332,7 +334,7 @@ module _ (p : List ℕ) (n : ℕ) where
       let la = side_leads at.destination at.width numbers.mask numbers.all hit others.entry v _ others.code r.all (leads_on p n xo h) lo in
       leads_to p n (few_picks numbers (field_at at.source at.width p) (field_at at.destination at.width p) v w (r.first_in p) r.others_are)
       (side_leads at.source at.width numbers.mask (numbers.first ∷ []) hit all.entry v _ all.code (omega arith, r.order, tt)
-          (leads_on p n xa (leads_on p n xo h)) la)
+      (leads_on p n xa (leads_on p n xo h)) la)
 
   -- either side, of many numbers, at X
   index_loaded : (i k : ℕ) (width : Width) (c : List Insn) (f : ℕ → ℕ) → ((x : ℕ) → Tops p n (With (AtIndex i) x) c (f x))
@@ -373,7 +375,7 @@ module _ (p : List ℕ) (n : ℕ) where
       (pick (either_reads numbers (field p ((i + j) % 2 ^ 32) at.width) (field p ((i + k) % 2 ^ 32) at.width)) v w)
   many_tops at numbers hit miss v w i j k c order up sub h m =
       λ s q. index_loaded i j at.width (emit_masked numbers.mask numbers.all one.entry (length none) one.code) _ found s q
-          ∙ ap Some (many_picks numbers (field p ((i + j) % 2 ^ 32) at.width) destination v w sub)
+      ∙ ap Some (many_picks numbers (field p ((i + j) % 2 ^ 32) at.width) destination v w sub)
     where
       sides : Sides
       sides = at_bytes at j k
@@ -406,13 +408,13 @@ module _ (p : List ℕ) (n : ℕ) where
       none_leads =
           leads_top p n none _ (index_loaded i k at.width (emit_masked numbers.mask numbers.all hit miss c) all_value
           (λ y. looked_for (AtIndex i) (λ s a q. q) numbers.mask numbers.all hit miss v w c y up (leads_in p n (λ s q. q.0.0) h)
-              (leads_in p n (λ s q. q.0.0) m)))
+          (leads_in p n (λ s q. q.0.0) m)))
 
       later_leads : Leads p n (AtIndex i) later (length later) (answer_for destination (λ y. v))
       later_leads =
           leads_top p n later _ (index_loaded i k at.width (emit_branch Test.AtLeast Constant 0 hit miss none) (λ y. v)
           (λ y s q. branch_tops {P = With (AtIndex i) y} Test.AtLeast Constant 0 y 0 hit miss v w none (λ t r. r.1) (λ t r. refl) (here y)
-              (leads_on p n none_longer (leads_in p n (λ t r. r.0.0) m)) s q
+          (leads_on p n none_longer (leads_in p n (λ t r. r.0.0) m)) s q
           ∙ ap (λ b. Some (if b then v else w)) (zero_low y)))
 
       found : (x : ℕ) → Tops p n (With (AtIndex i) x) (emit_masked numbers.mask numbers.all one.entry (length none) one.code)
@@ -421,10 +423,10 @@ module _ (p : List ℕ) (n : ℕ) where
       found x =
           let u = under_mask numbers.mask x in
           let f = interval_found (AtIndex i) u false numbers.first hit (length later) v _ later order (leads_on p n later_longer (here u))
-              (leads_in p n (λ s q. q.0) later_leads) in
+          (leads_in p n (λ s q. q.0) later_leads) in
           λ s q. looked_for (AtIndex i) (λ t a r. r) numbers.mask numbers.all one.entry (length none) f.value _ one.code x up f.leads
-              (leads_in p n (λ t r. r.0) (leads_on p n (interval_fits false false numbers.first [] hit (length later) later tt tt tt).grows.tail
-              (leads_on p n later_longer none_leads))) s q
+          (leads_in p n (λ t r. r.0) (leads_on p n (interval_fits false false numbers.first [] hit (length later) later tt tt tt).grows.tail
+          (leads_on p n later_longer none_leads))) s q
           ∙ ap (λ z. Some (if is_within u numbers.all then z else answer_for destination all_value)) (f.right (λ z. cc))
 
   -- the number in X and that in the instruction are the place
@@ -452,9 +454,9 @@ module _ (p : List ℕ) (n : ℕ) where
           ∙ ap₂ (λ y z. Some (pick (either_reads numbers (field p y at.width) (field p z at.width)) v w)) ea eb
       by (AfterHeader g a) (AfterHeader k b) l sub =
           subst (λ z. Tops p n HasWords (emit_many (sides (AfterHeader g a) (AfterHeader z b)) numbers hit miss c).code
-              (pick (either_reads numbers (field_at (AfterHeader g a) at.width p) (field_at (AfterHeader z b) at.width p)) v w)) (sym l.1)
+          (pick (either_reads numbers (field_at (AfterHeader g a) at.width p) (field_at (AfterHeader z b) at.width p)) v w)) (sym l.1)
           (λ s q. run_plain p n LoadHeaderLength g (emit_at_sides (sides (AfterHeader g a) (AfterHeader g b)) numbers hit miss c) s
-              ∙ after (field p g Byte) refl s q)
+          ∙ after (field p g Byte) refl s q)
         where
           after : (o : Option ℕ) → field p g Byte ≡ o → (s : State) → HasWords s
               → answer_after (answer_of (emit_at_sides (sides (AfterHeader g a) (AfterHeader g b)) numbers hit miss c) p n)
@@ -465,7 +467,7 @@ module _ (p : List ℕ) (n : ℕ) where
           after (Some y) e s q =
               many_tops (sides (AfterHeader g a) (AfterHeader g b)) numbers hit miss v w (header_length y) a b c r.order r.all
               (λ x f. sub x (ap (λ o. with (with o (λ y. Some (header_length y))) (λ x. field p ((x + a) % 2 ^ 32) at.width)) e ∙ f)) h m
-                  (record s { index = header_length y }) (q, refl)
+              (record s { index = header_length y }) (q, refl)
       by (Fixed a) (AfterHeader k b) l sub = absurd l
       by (AfterHeader g a) (Fixed b) l sub = absurd l
 
@@ -477,7 +479,7 @@ module _ (p : List ℕ) (n : ℕ) where
   among_leads (Direction.Both And) at numbers hit miss v w c r h m = m
   among_leads (Direction.Both Or) at numbers hit miss v w c r h m =
       if_case (λ (e : Block). Leads p n HasWords e.code e.entry
-          (pick (either_reads numbers (field_at at.source at.width p) (field_at at.destination at.width p)) v w)) (are_at_index at numbers) _ _
+      (pick (either_reads numbers (field_at at.source at.width p) (field_at at.destination at.width p)) v w)) (are_at_index at numbers) _ _
       (λ e. many_leads at numbers hit miss v w c r h m) (λ e. few_leads at numbers hit miss v w c r h m)
 
   -- a relation: the test of both numbers, or of one and a constant
@@ -492,15 +494,15 @@ module _ (p : List ℕ) (n : ℕ) where
   relation_tops link comparison l r hit miss v w c h m few_l few_r =
       λ s long. number_runs p n link l 0 _ (omega arith) s (λ x. pick (reading_of (with (number link r p n) (λ y. Some (compares comparison x y)))) v w) long
       (λ x t k e. by_operand (λ d. answer_of d p n 0 t ≡ Some (pick (reading_of (with (number link r p n) (λ y. Some (compares comparison x y)))) v
-          w)) (constant r) _ _
+      w)) (constant r) _ _
       (λ j is. comparison_tops {P = Has x} comparison Constant j x j hit miss v w c (λ u q. q.1) (λ u q. refl) (leads_in p n (λ u q. q.0) h)
-          (leads_in p n (λ u q. q.0) m) t (k.long, e)
+      (leads_in p n (λ u q. q.0) m) t (k.long, e)
       ∙ ap Some (picked (compares comparison x j) v w)
       ∙ ap (λ o. Some (pick (reading_of (with o (λ y. Some (compares comparison x y)))) v w)) (sym (constant_is p n link r j is)))
       (operands_run p n link r 0 x (emit_comparison comparison IndexRegister 0 hit miss c) s t (λ y. if compares comparison x y then v else w)
-          (omega arith) k e (number_runs p n link r 1 _ few_r)
+      (omega arith) k e (number_runs p n link r 1 _ few_r)
       (λ y u j g i. comparison_tops {P = HasBoth x y} comparison IndexRegister 0 x y hit miss v w c (λ z q. q.1) (λ z q. q.2)
-          (leads_in p n (λ z q. q.0) h) (leads_in p n (λ z q. q.0) m) u (j.long, g, i))
+      (leads_in p n (λ z q. q.0) h) (leads_in p n (λ z q. q.0) m) u (j.long, g, i))
       ∙ ap Some (for_test (number link r p n) (compares comparison x) v w)))
       ∙ ap Some (relation_picks (number link l p n) (compares comparison) (number link r p n) v w)
 
@@ -530,8 +532,8 @@ module _ (p : List ℕ) (n : ℕ) where
       leads_to p n (pick_chosen (elementary_reads t p) (reads link a p n) (reads link b p n) v w)
       (elementary_leads t yes.entry no.entry (pick (reads link a p n) v w) (pick (reads link b p n) v w) yes.code
       (emitted_leads link a hit miss v w no.code (omega arith) up.0
-          (leads_on p n (emitted_by false link b hit miss c (omega arith) up.1 tt tt tt).grows.tail h)
-          (leads_on p n (emitted_by false link b hit miss c (omega arith) up.1 tt tt tt).grows.tail m))
+      (leads_on p n (emitted_by false link b hit miss c (omega arith) up.1 tt tt tt).grows.tail h)
+      (leads_on p n (emitted_by false link b hit miss c (omega arith) up.1 tt tt tt).grows.tail m))
       (leads_on p n (emitted_by false link a hit miss no.code (omega arith) up.0 tt tt tt).grows.tail
-          (emitted_leads link b hit miss v w c (omega arith) up.1 h m)))
+      (emitted_leads link b hit miss v w c (omega arith) up.1 h m)))
   emitted_leads link (Sought d at numbers) hit miss v w c few up h m = among_leads d at numbers hit miss v w c up h m

@@ -1,6 +1,6 @@
 -- The code of a search by halves, unfolded once.
-use Rattle.flt_gen.proofs.Common.{◌≡◌, ℕ, zero, suc, ◌-◌, ◌/◌, ◌<◌, List, length, take, drop, Bool, true, false, refl, ap, sym, ◌∙◌, arith, if◌then◌else◌,
-    take_rest, Insn, Interval, Block, emit_chain, are_few, low_of}
+use Rattle.flt_gen.proofs.Common.{◌≡◌, ℕ, zero, suc, ◌-◌, ◌/◌, ◌<◌, List, length, take, drop, Bool, true, false, refl, ap, sym, ◌∙◌, arith, if◌then◌else◌}
+use Rattle.flt_gen.proofs.Common.{take_rest, Insn, Interval, Block, emit_chain, are_few, low_of}
 use Rattle.flt_gen.specs.inside.Code.{emit_halves, emit_search}
 
 if_is : {A : Type 0} (b c : Bool) (x y : A) → b ≡ c → (if b then x else y) ≡ (if c then x else y)

@@ -1,12 +1,13 @@
 -- Addresses or ports that are looked for together read as one after the other.
 use Rattle.flt_gen.proofs.Ascending.{if_case, Each, each_is, Ordered, within_joined}
-use Rattle.flt_gen.proofs.Common.{◌≡◌, ℕ, ◌+◌, ◌*◌, ◌^◌, ◌%◌, ◌<◌, ◌≤◌, List, [], ◌∷◌, length, map, Bool, true, false, Option, Some, None, refl, sym, ap, ap₂,
-    ◌∙◌, arith, inl, inr, ◌==◌, ◌||◌, ◌&&◌, nat_le, min, max, bit_and, nat_tests, or-false, Protocol, Ip, Tcp, Udp, ValueType, Host, Net, Port, PortRange,
-    Source, Destination, And, Or, Direction, CompleteQualifiers, Value, first_bits, Word, HalfWord, Offset, field, Link, type_offset, FrameKind, Elementary,
-    Interval, One, Between, Several, Sides, Transport, MatchResult, Yes, No, Rejected, reading_of, with, field_at, under_mask, kind_test, elementary_reads,
-    Formula, Sought, is_in, is_within, both, either, all_of, sides, Numbers, no_numbers, reads, address_places, address_test, partial_mask, port_is,
-    port_between, port_places, port_sides, transport, following, ip_transport, ip6_transport, port_test, port_formula, net_formula, value_formula, joined_all,
-    left_out, high_mask, cut, sought, is_address, net_numbers, member_of, several_formula}
+use Rattle.flt_gen.proofs.Common.{◌≡◌, ℕ, ◌+◌, ◌*◌, ◌^◌, ◌%◌, ◌<◌, ◌≤◌, List, [], ◌∷◌, length, map, Bool, true, false, Option, Some, None, refl, sym, ap, ap₂}
+use Rattle.flt_gen.proofs.Common.{◌∙◌, arith, inl, inr, ◌==◌, ◌||◌, ◌&&◌, nat_le, min, max, bit_and, nat_tests, or-false, Protocol, Ip, Tcp, Udp, ValueType}
+use Rattle.flt_gen.proofs.Common.{Host, Net, Port, PortRange, Source, Destination, And, Or, Direction, CompleteQualifiers, Value, first_bits, Word, HalfWord}
+use Rattle.flt_gen.proofs.Common.{Offset, field, Link, type_offset, FrameKind, Elementary, Interval, One, Between, Several, Sides, Transport, MatchResult, Yes}
+use Rattle.flt_gen.proofs.Common.{No, Rejected, reading_of, with, field_at, under_mask, kind_test, elementary_reads, Formula, Sought, is_in, is_within, both}
+use Rattle.flt_gen.proofs.Common.{either, all_of, sides, Numbers, no_numbers, reads, address_places, address_test, partial_mask, port_is, port_between}
+use Rattle.flt_gen.proofs.Common.{port_places, port_sides, transport, following, ip_transport, ip6_transport, port_test, port_formula, net_formula}
+use Rattle.flt_gen.proofs.Common.{value_formula, joined_all, left_out, high_mask, cut, sought, is_address, net_numbers, member_of, several_formula}
 use Rattle.flt_gen.proofs.Exclusive.{or_no, both_either, kinds_exclude}
 use Rattle.flt_gen.proofs.Prefixes.{Idle, idle_sought, Small, cut_in, cut_within, net_hit}
 use Rattle.flt_gen.proofs.Runs.{one_number}
@@ -34,7 +35,7 @@ unmasked_fitting false at e = λ f. cc
 pub word_small : (p : List ℕ) (at x : ℕ) → field p at Word ≡ Some x → x < 2 ^ 32
 word_small p at x e =
     each_is (field p at Word) (λ y. y < 2 ^ 32) x (if_case (λ o. Each o (λ y. y < 2 ^ 32)) (nat_le (at + 4) (length p)) _ _
-        (λ t. mod-lt _ (omega arith)) (λ t. tt)) e
+    (λ t. mod-lt _ (omega arith)) (λ t. tt)) e
 
 pub address_fitting : (b : Bool) (link : Link) (k : FrameKind) → Fitting b (address_places link k)
 address_fitting b link k e p x (inl f) = word_small p _ x f
@@ -228,9 +229,9 @@ module _ (link : Link) (p : List ℕ) (n : ℕ) where
       let u = address_places link kind.Arp in
       let v = address_places link kind.Rarp in
       ap (either _) (ap (either _) (both_either r (x v) (y v)) ∙ kinds a (x u) (y u) (both r (x v)) (both r (y v))
-          (λ e. (ap (λ z. both z (x v)) (only.3 e), ap (λ z. both z (y v)) (only.3 e))))
+      (λ e. (ap (λ z. both z (x v)) (only.3 e), ap (λ z. both z (y v)) (only.3 e))))
       ∙ kinds (kind_reads kind.Ip) (x (address_places link kind.Ip)) (y (address_places link kind.Ip)) (either (both a (x u)) (both r (x v)))
-          (either (both a (y u)) (both r (y v)))
+      (either (both a (y u)) (both r (y v)))
       (λ e. (ap₂ (λ z w. either (both z (x u)) (both w (x v))) (only.1 e) (only.2 e), ap₂ (λ z w. either (both z (y u)) (both w (y v))) (only.1 e) (only.2 e)))
   hosts_join (Some Ip) x y = both_either (kind_reads kind.Ip) _ _
   hosts_join (Some Protocol.Arp) x y = both_either (kind_reads kind.Arp) _ _
@@ -244,10 +245,10 @@ module _ (link : Link) (p : List ℕ) (n : ℕ) where
       let k = port_places (ip6_transport link) in
       let after = after_reads protocol (ip6_transport link) in
       ap₂ (λ v w. either (both (kind_reads kind.Ip) v) (both (kind_reads kind.Ip6) w)) (after_more protocol (ip_transport link) (x h) (y h))
-          (after_more protocol (ip6_transport link) (x k) (y k))
+      (after_more protocol (ip6_transport link) (x k) (y k))
       ∙ ap (either _) (both_either (kind_reads kind.Ip6) (after (x k)) (after (y k)))
       ∙ kinds (kind_reads kind.Ip) _ _ (both (kind_reads kind.Ip6) (after (x k))) (both (kind_reads kind.Ip6) (after (y k)))
-          (λ e. let no = (kinds_exclude p (type_offset link)).0 e in (ap (λ z. both z (after (x k))) no, ap (λ z. both z (after (y k))) no))
+      (λ e. let no = (kinds_exclude p (type_offset link)).0 e in (ap (λ z. both z (after (x k))) no, ap (λ z. both z (after (y k))) no))
 
   sides_join : (k : ValueType) (protocol : Option Protocol) (x y : Sides → MatchResult) → by_sides k protocol (λ at. either (x at) (y at)) ≡ either
       (by_sides k protocol x) (by_sides k protocol y)
@@ -264,7 +265,7 @@ module _ (link : Link) (p : List ℕ) (n : ℕ) where
       let h = ip_transport link in
       let k = ip6_transport link in
       ap₂ (λ v w. either (both (kind_reads kind.Ip) v) (both (kind_reads kind.Ip6) w)) (after_is protocol h (port_sides ports d h bs))
-          (after_is protocol k (port_sides ports d k bs))
+      (after_is protocol k (port_sides ports d k bs))
 
   hosts_same : (protocol : Option Protocol) (x y : Sides → MatchResult) → ((k : FrameKind) → x (address_places link k) ≡ y (address_places link k))
       → hosts_by protocol x ≡ hosts_by protocol y
@@ -297,7 +298,7 @@ module _ (link : Link) (p : List ℕ) (n : ℕ) where
   members_more k protocol d m l ms h =
       ap (by_sides k protocol) (λ i at. one_more d (source_of at) (destination_of at) (hit m) (hit l) (λ x. is_within x ms) h i)
       ∙ sides_join k protocol (λ at. plain_reads d (source_of at) (destination_of at) (hit m))
-          (λ at. sides_read d (source_of at) (destination_of at) (hit l) (λ x. is_within x (l ∷ ms)))
+      (λ at. sides_read d (source_of at) (destination_of at) (hit l) (λ x. is_within x (l ∷ ms)))
 
   pub members_alone : (k : ValueType) (protocol : Option Protocol) (d : Direction) (m : Interval) → members_read k protocol d m [] ≡ member_reads k protocol d m
   members_alone k protocol d m = ap (by_sides k protocol) (λ i at. one_alone d (source_of at) (destination_of at) (hit m) i)
@@ -350,7 +351,7 @@ module _ (link : Link) (p : List ℕ) (n : ℕ) where
     several_ports e =
         ports_are q.protocol q.direction Several (sought b m all)
         ∙ ap₂ (two_headers q.protocol) (sides_are (port_places (ip_transport link)) (unmasked_fitting b (port_places (ip_transport link)) e))
-            (sides_are (port_places (ip6_transport link)) (unmasked_fitting b (port_places (ip6_transport link)) e))
+        (sides_are (port_places (ip6_transport link)) (unmasked_fitting b (port_places (ip6_transport link)) e))
 
     pub several_are : (k : ValueType) → (b ≡ true → is_address k ≡ true) → reads link (several_formula link q k (sought b m all)) p n ≡ members_read k
         q.protocol q.direction m ms
@@ -386,7 +387,7 @@ module _ (link : Link) (p : List ℕ) (n : ℕ) where
           let fit = address_fitting true link k refl p in
           row_sides at d (address_test mask a at.source ∷ []) (address_test mask a at.destination ∷ []) f
           (read_seen (source_of at) (λ x. under_mask mask x == a) f (λ x g. e x (fit x (inl g))))
-              (read_seen (destination_of at) (λ x. under_mask mask x == a) f (λ x g. e x (fit x (inr g))))
+          (read_seen (destination_of at) (λ x. under_mask mask x == a) f (λ x g. e x (fit x (inr g))))
 
   both_ends : (o : Option ℕ) (a b : ℕ) → both (read_by o (λ x. nat_le a x)) (read_by o (λ x. nat_le x b)) ≡ read_by o (λ x. nat_le a x && nat_le x b)
   both_ends None a b = refl
@@ -396,7 +397,7 @@ module _ (link : Link) (p : List ℕ) (n : ℕ) where
       → ((header : Transport) → port_sides ports d header no_numbers ≡ sides d (tests header.source) (tests header.destination))
       → ((at : Offset) → reads link (all_of (tests at)) p n ≡ read_by (field_at at HalfWord p) f)
       → reads link (port_formula link (port_test protocol d ports) no_numbers) p n ≡ ports_by protocol
-          (λ at. plain_reads d (source_of at) (destination_of at) f)
+      (λ at. plain_reads d (source_of at) (destination_of at) f)
   port_row protocol d ports tests f are e = ports_are protocol d ports no_numbers ∙ ap₂ (two_headers protocol) (row (ip_transport link))
       (row (ip6_transport link))
     where
@@ -427,9 +428,16 @@ module _ (link : Link) (p : List ℕ) (n : ℕ) where
   member_is Net protocol d (Value.Number x (NetMask.Prefix b)) = net_row protocol d b (x % 256 * 2 ^ 24)
   member_is Net protocol d (Value.Dotted x NetMask.Unwritten) = net_row protocol d (8 * x.parts) x.address
   member_is Net protocol d (Value.Dotted x (NetMask.Prefix b)) = net_row protocol d b x.address
-  member_is Port protocol d (Value.Number x z) = (omega arith, omega arith, port_row protocol d (One x) (port_is x) _ (λ header. refl)
-      (λ at. ap (read_by (field_at at HalfWord p)) (λ i y. one_number y x x refl i)))
-  member_is PortRange protocol d (Value.Range a b) =
-      (omega arith, (let more = more_tests d in omega arith), port_row protocol d (Between (min a b) (max a b)) (port_between (min a b) (max a b)) _
-          (λ header. refl) (λ at. both_ends (field_at at HalfWord p) (min a b) (max a b)))
+  member_is Port protocol d (Value.Number x z) = (
+    omega arith,
+    omega arith,
+    port_row protocol d (One x) (port_is x) _ (λ header. refl)
+        (λ at. ap (read_by (field_at at HalfWord p)) (λ i y. one_number y x x refl i)),
+  )
+  member_is PortRange protocol d (Value.Range a b) = (
+    omega arith,
+    (let more = more_tests d in omega arith),
+    port_row protocol d (Between (min a b) (max a b)) (port_between (min a b) (max a b)) _
+        (λ header. refl) (λ at. both_ends (field_at at HalfWord p) (min a b) (max a b)),
+  )
   member_is _ protocol d _ = tt

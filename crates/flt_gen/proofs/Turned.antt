@@ -1,7 +1,8 @@
 -- The last of the nodes that are left are emitted, one or several at once: what is left to do then
 -- leads to the same walk.
-use Rattle.flt_gen.proofs.Common.{◌++◌, drop, length-drop, zero, ◌<◌, Check, length-take, ◌≡◌, ℕ, ◌-◌, List, [], ◌∷◌, length, take, get_or, suc, ◌≤◌, Some,
-    None, Entry, Equal, Ether, refl, sym, ap, ◌∙◌, arith, reverse, take-suc, reverse-append, Node, Link, Walk, emit_node, emit_both_nodes, or_walk, emit_nodes}
+use Rattle.flt_gen.proofs.Common.{◌++◌, drop, length-drop, zero, ◌<◌, Check, length-take, ◌≡◌, ℕ, ◌-◌, List, [], ◌∷◌, length, take, get_or, suc, ◌≤◌, Some}
+use Rattle.flt_gen.proofs.Common.{None, Entry, Equal, Ether, refl, sym, ap, ◌∙◌, arith, reverse, take-suc, reverse-append, Node, Link, Walk, emit_node}
+use Rattle.flt_gen.proofs.Common.{emit_both_nodes, or_walk, emit_nodes}
 use Rattle.flt_gen.specs.inside.{Relations.relation, Relations.relation_in, Walk.emit_member}
 use Rattle.std.proofs.Math.Seq.{drop-append_seam}
 use Rattle.std.proofs.lemmas.List.{take_all, take-append-drop, length-reverse}
@@ -12,7 +13,7 @@ reverse_taken xs e =
     let parts : reverse xs ≡ reverse (drop e xs) ++ reverse (take e xs) = ap reverse (sym (take-append-drop e xs)) ∙ reverse-append (take e xs) (drop e xs) in
     let n : length (reverse xs) - e ≡ length (reverse (drop e xs)) = omega (arith, length-reverse xs, length-reverse (drop e xs), length-drop e xs) in
     sym (ap (λ k. drop k (reverse xs)) n ∙ ap (λ ys. drop (length (reverse (drop e xs))) ys) parts ∙ drop-append_seam (reverse (drop e xs))
-        (reverse (take e xs)))
+    (reverse (take e xs)))
 
 never : {A B : Type 0} (v : A) → None ≡ Some v → B
 never v e = cc
@@ -62,7 +63,7 @@ last_four ns l =
     ap reverse (sym (take_all (length ns) ns (omega arith)))
     ∙ two_put ns (length ns) (length ns - 1) (length ns - 2) (Check Ether) (omega arith) (omega arith) (omega arith)
     ∙ ap (λ xs. get_or ns (length ns - 1) (Check Ether) ∷ get_or ns (length ns - 2) (Check Ether) ∷ xs)
-        (two_put ns (length ns - 2) (length ns - 3) (length ns - 4) (Check Ether) (omega arith) (omega arith) (omega arith))
+    (two_put ns (length ns - 2) (length ns - 3) (length ns - 4) (Check Ether) (omega arith) (omega arith) (omega arith))
 
 pub relation_put : (link : Link) (ns : List Node) (j : ℕ) (w : Walk) (e : Entry) → 4 ≤ length (take j ns) → j ≤ length ns
     → relation_in (reverse (take j ns)) ≡ Some e → emit_nodes link (emit_member link e w) (reverse (take (j - 4) ns)) ≡ emit_nodes link w (reverse (take j ns))
@@ -91,7 +92,7 @@ node_put link ns left w some within none =
     let one = one_put ns (left - 1) (left - 1 - 1) (Check Ether) (omega arith) (omega arith) in
     let two = two_put ns left (left - 1) (left - 1 - 1) (Check Ether) (omega arith) (omega arith) within in
     sym (ap (emit_nodes link w) two ∙ one_walked link w (get_or ns (left - 1) (Check Ether)) (get_or ns (left - 1 - 1) (Check Ether))
-        (reverse (take (left - 1 - 1) ns)) none ∙ ap (emit_nodes link (emit_node link w (get_or ns (left - 1) (Check Ether)))) (sym one))
+    (reverse (take (left - 1 - 1) ns)) none ∙ ap (emit_nodes link (emit_node link w (get_or ns (left - 1) (Check Ether)))) (sym one))
 
 pub both_put : (link : Link) (ns : List Node) (left : ℕ) (w v : Walk) → 0 < left - 1 → left ≤ length ns → relation_in (reverse (take left ns)) ≡ None
     → emit_both_nodes link w (get_or ns (left - 1) (Check Ether)) (get_or ns (left - 1 - 1) (Check Ether)) ≡ Some v → left_walk link ns (left - 1 - 1)
@@ -99,7 +100,7 @@ pub both_put : (link : Link) (ns : List Node) (left : ℕ) (w v : Walk) → 0 < 
 both_put link ns left w v some within none both =
     let two = two_put ns left (left - 1) (left - 1 - 1) (Check Ether) (omega arith) (omega arith) within in
     sym (ap (emit_nodes link w) two ∙ both_walked link w v (get_or ns (left - 1) (Check Ether)) (get_or ns (left - 1 - 1) (Check Ether))
-        (reverse (take (left - 1 - 1) ns)) (ap relation_in (sym two) ∙ none) both)
+    (reverse (take (left - 1 - 1) ns)) (ap relation_in (sym two) ∙ none) both)
 
 -- of what is left after each way to emit the last nodes
 pub ruleset node_steps = (first_put, node_put, both_put, relation_put)

@@ -1,11 +1,12 @@
 -- The walk over the nodes of a tree, the last first, puts the code of the tree's formula in front.
-use Rattle.flt_gen.proofs.Common.{Formula, Both, Either, Except, Compare, checked_formula, ◌+◌, if◌then◌else◌, ◌≡◌, ℕ, List, [], ◌∷◌, Bool, true, false, Option,
-    Some, None, with, Equal, refl, sym, ap, ◌∙◌, Insn, And, Or, Comparison, Node, Apply, Literal, Not, Constant, IndexRegister, Operator, formula, Group,
-    no_group, larger_group, entry, choice, or_any, or_group, group_formula, grouped_formula, NumberTree, literal, len, named, load, negated, applied, TruthTree,
-    qualified, compared, denied, joined, Expression, empty, truth, number_onto, truth_onto, expr_onto, Link, Entry, protocols_of, relation_formula,
-    accessor_tests, Protocol, plain, computation, takes_constant, emit_comparison, emit_operands, constant_or, Store, Accumulator, emit_number, Block,
-    emit_formula, emit_all, emit_accessor_tests, program_code, Walk, targets, finish_truth, finish_number, with_insns, finish_formula, flush_members,
-    flush_group, emit_truth_node, emit_node, or_walk, start_walk, insns_of, emit_nodes}
+use Rattle.flt_gen.proofs.Common.{Formula, Both, Either, Except, Compare, checked_formula, ◌+◌, if◌then◌else◌, ◌≡◌, ℕ, List, [], ◌∷◌, Bool, true, false, Option}
+use Rattle.flt_gen.proofs.Common.{Some, None, with, Equal, refl, sym, ap, ◌∙◌, Insn, And, Or, Comparison, Node, Apply, Literal, Not, Constant, IndexRegister}
+use Rattle.flt_gen.proofs.Common.{Operator, formula, Group, no_group, larger_group, entry, choice, or_any, or_group, group_formula, grouped_formula, NumberTree}
+use Rattle.flt_gen.proofs.Common.{literal, len, named, load, negated, applied, TruthTree, qualified, compared, denied, joined, Expression, empty, truth}
+use Rattle.flt_gen.proofs.Common.{number_onto, truth_onto, expr_onto, Link, Entry, protocols_of, relation_formula, accessor_tests, Protocol, plain, computation}
+use Rattle.flt_gen.proofs.Common.{takes_constant, emit_comparison, emit_operands, constant_or, Store, Accumulator, emit_number, Block, emit_formula, emit_all}
+use Rattle.flt_gen.proofs.Common.{emit_accessor_tests, program_code, Walk, targets, finish_truth, finish_number, with_insns, finish_formula, flush_members}
+use Rattle.flt_gen.proofs.Common.{flush_group, emit_truth_node, emit_node, or_walk, start_walk, insns_of, emit_nodes}
 use Rattle.flt_gen.proofs.Decision.{guarded_emitted}
 use Rattle.flt_gen.specs.inside.Group.{is_empty, entry_formula, entry_of, leaf_formula}
 use Rattle.flt_gen.specs.inside.Relations.{relation_of}
@@ -18,7 +19,7 @@ checked_emitted : (link : Link) (ps : List Protocol) (f : Formula) (hit miss : �
 checked_emitted link [] f hit miss c = refl
 checked_emitted link (p ∷ ps) f hit miss c =
     guarded_emitted link (accessor_tests link p) (checked_formula link ps f) hit miss c
-        ∙ ap (λ (e : Block). emit_all (accessor_tests link p) e.entry miss e.code) (checked_emitted link ps f hit miss c)
+    ∙ ap (λ (e : Block). emit_all (accessor_tests link p) e.entry miss e.code) (checked_emitted link ps f hit miss c)
 
 -- a number's code and accessors are put
 abbrev with_number : Link → NumberTree → Walk → Walk
@@ -29,10 +30,12 @@ constant_walked : (link : Link) (o : Operator) (k : ℕ) (a : NumberTree) (w : W
     → ((v : Walk) → emit_nodes link v (number_onto a d) ≡ emit_nodes link (finish_number link v.numbers (with_number link a v)) d) → (t : Bool)
     → emit_nodes link (or_walk (if t then Some (with_insns (plain (computation o Constant) k ∷ w.code) w) else None)
     (emit_node link (emit_node link w (Apply o)) (Literal k))) (number_onto a d) ≡ emit_nodes link
-    (finish_number link w.numbers (record w
-    { code = emit_number link a w.slot (constant_or (if t then Some k else None) (λ j. plain (computation o Constant) j ∷ w.code)
-    (plain (Store Accumulator) w.slot ∷ emit_number link (literal k) (w.slot + 1)
-    (emit_operands w.slot (plain (computation o IndexRegister) 0 ∷ w.code)))); accessors = protocols_of a w.accessors })) d
+    (finish_number link w.numbers (record w {
+      code = emit_number link a w.slot (constant_or (if t then Some k else None) (λ j. plain (computation o Constant) j ∷ w.code)
+          (plain (Store Accumulator) w.slot ∷ emit_number link (literal k) (w.slot + 1)
+          (emit_operands w.slot (plain (computation o IndexRegister) 0 ∷ w.code))));
+      accessors = protocols_of a w.accessors;
+    })) d
 constant_walked link o k a w d left true = left _
 constant_walked link o k a w d left false = left _
 
@@ -102,7 +105,7 @@ relation_walked : (link : Link) (k : Comparison) (a b : NumberTree) (c : List In
     → comparison_walked link k b (between c to ts) (number_onto a d) ≡ emit_nodes link (emit_of link (relation_formula link k a b) c to ts) d
 relation_walked link k a b c to ts d =
     both b ∙ ap (λ (e : Block). emit_nodes link (finish_truth e (between c to ts)) d)
-        (sym (checked_emitted link (protocols_of a (protocols_of b [])) (Compare k a b) to.yes to.no c))
+    (sym (checked_emitted link (protocols_of a (protocols_of b [])) (Compare k a b) to.yes to.no c))
   where
     both : (r : NumberTree) → comparison_walked link k r (between c to ts) (number_onto a d) ≡
         (let e = emit_formula link (Compare k a r) to.yes to.no c in
@@ -130,7 +133,7 @@ compared_walked : (link : Link) (k : Comparison) (a b : NumberTree) (group : Gro
 compared_walked link k a b group None none c to ts d =
     compare_walked link k a b (waiting c to ts group) d none
     ∙ settled link group Pending.Nothing ts (relation_formula link k a b) d (λ w. comparison_walked link k b w (number_onto a d))
-        (λ c to. relation_walked link k a b c to ts d) c to group.entries
+    (λ c to. relation_walked link k a b c to ts d) c to group.entries
 compared_walked link k a b group (Some e) is c to ts d = entry_nodes link (compared k a b) e (waiting c to ts group) d is ∙ entry_walked link e group
     (larger_group e group) c to ts d
 
@@ -149,7 +152,7 @@ right_begins link _ c to ts group d e = refl
 abbrev Walks : Link → TruthTree → Group → Type 0
 Walks link a group =
     (c : List Insn) (to : Targets) (ts : List LeftTruth) (d : List Node) → emit_nodes link (waiting c to ts group) (truth_onto a d) ≡ emit_nodes link
-        (emit_of link (grouped_formula link group a) c to ts) d
+    (emit_of link (grouped_formula link group a) c to ts) d
 
 both_walked : (link : Link) (a b : TruthTree) → Walks link a no_group → Walks link b no_group → (c : List Insn) (to : Targets) (ts : List LeftTruth)
     (d : List Node) → emit_nodes link (between c to (record { join = And; to = to } ∷ ts)) (truth_onto b (truth_onto a d)) ≡ emit_nodes link
@@ -190,7 +193,7 @@ module _ (link : Link) (a b : TruthTree) (ha : (more : Group) → Walks link a m
   apart e group c to p is =
       let flushed = flush_members link (waiting c to (left_after_or to ∷ ts) group) (is_empty group.entries) in
       ap (λ o. emit_nodes link (emit_apart link e flushed Pending.Or o) (truth_onto a d))
-          (ap (larger_group e) (flushed_group link (waiting c to (left_after_or to ∷ ts) group) (is_empty group.entries)) ∙ is)
+      (ap (larger_group e) (flushed_group link (waiting c to (left_after_or to ∷ ts) group) (is_empty group.entries)) ∙ is)
 
   or_member : (e : Entry) (group : Group) (c : List Insn) (to : Targets) → entry_of b ≡ Some e → (o p : Option Group) → larger_group e group ≡ o
       → larger_group e no_group ≡ p → emit_nodes link (emit_entry link e (after_or c to ts group) o) (truth_onto a d) ≡ emit_nodes link
@@ -198,7 +201,7 @@ module _ (link : Link) (a b : TruthTree) (ha : (more : Group) → Walks link a m
   or_member e group c to is None None none alone =
       apart e group c to None alone
       ∙ sym (entry_nodes link b e (waiting c to (left_after_or to ∷ ts) group) (truth_onto a d) is
-          ∙ ap (λ o. emit_nodes link (emit_entry link e (waiting c to (left_after_or to ∷ ts) group) o) (truth_onto a d)) none)
+      ∙ ap (λ o. emit_nodes link (emit_entry link e (waiting c to (left_after_or to ∷ ts) group) o) (truth_onto a d)) none)
       ∙ begins group c to
   or_member e group c to is None (Some new) none begun = apart e group c to (Some new) begun ∙ new_begins new group c to group.entries
   or_member e group c to is (Some more) p some q = ha more c to ts d
@@ -215,12 +218,12 @@ truth_walked link (qualified q v) group = entry_walked link (entry q v) group (l
 truth_walked link (compared k a b) group = compared_walked link k a b group (relation_of k a b) refl
 truth_walked link (denied a) group =
     λ c to ts d. settled link group Pending.Nothing ts (Except (grouped_formula link no_group a)) d
-        (λ w. emit_nodes link (emit_truth_node link w Not) (truth_onto a d)) (λ c to. truth_walked link a no_group c (targets to.no to.yes) ts d) c to
-        group.entries
+    (λ w. emit_nodes link (emit_truth_node link w Not) (truth_onto a d)) (λ c to. truth_walked link a no_group c (targets to.no to.yes) ts d) c to
+    group.entries
 truth_walked link (joined And a b) group =
     λ c to ts d. settled link group Pending.Nothing ts (Both (grouped_formula link no_group a) (grouped_formula link no_group b)) d
-        (λ v. emit_nodes link (record v { truths = record { join = And; to = v.to } ∷ v.truths }) (truth_onto b (truth_onto a d)))
-        (λ c to. both_walked link a b (truth_walked link a no_group) (truth_walked link b no_group) c to ts d) c to group.entries
+    (λ v. emit_nodes link (record v { truths = record { join = And; to = v.to } ∷ v.truths }) (truth_onto b (truth_onto a d)))
+    (λ c to. both_walked link a b (truth_walked link a no_group) (truth_walked link b no_group) c to ts d) c to group.entries
 truth_walked link (joined Or a b) group =
     λ c to ts d. either_walked link a b (λ more. truth_walked link a more) (λ more. truth_walked link b more) ts d group c to (entry_of b) refl
 truth_walked link a group = leaf_walked link (formula link a) group

@@ -1,9 +1,10 @@
 -- The wide code of an expression decides it, within its bounds; and so does what replaces it.
-use Rattle.flt_gen.proofs.Common.{◌≡◌, ℕ, ◌+◌, ◌-◌, ◌*◌, ◌≤◌, List, [], ◌∷◌, length, drop, take, true, false, cond, Some, refl, sym, ap, ◌∙◌, subst, arith,
-    fold, length-drop, ◌≢◌, ◌↔◌, reverse, All-cons, All-drop, All-nil, sum_by-take-drop, Insn, ReturnConstant, answer_of, IsValidUnlessLong, is_branch, JUMP,
-    HasNoJump, IsShort, start, valid_if_short, faultless_drop, ends_drop, answer_drop, machine_answers, Node, tests_of, nodes_of, words_of, bound_of,
-    expr_nodes, is_unfilled, some_primitive, Expression, empty, truth, Link, MatchResult, Yes, plain, IsProgramOf, short_bound_of, holds, with_folded,
-    folded_expression, no_group, grouped_formula, returns_code, expression_code, program_code, emit_nodes, start_walk, insns_of}
+use Rattle.flt_gen.proofs.Common.{◌≡◌, ℕ, ◌+◌, ◌-◌, ◌*◌, ◌≤◌, List, [], ◌∷◌, length, drop, take, true, false, cond, Some, refl, sym, ap, ◌∙◌, subst, arith}
+use Rattle.flt_gen.proofs.Common.{fold, length-drop, ◌≢◌, ◌↔◌, reverse, All-cons, All-drop, All-nil, sum_by-take-drop, Insn, ReturnConstant, answer_of}
+use Rattle.flt_gen.proofs.Common.{IsValidUnlessLong, is_branch, JUMP, HasNoJump, IsShort, start, valid_if_short, faultless_drop, ends_drop, answer_drop}
+use Rattle.flt_gen.proofs.Common.{machine_answers, Node, tests_of, nodes_of, words_of, bound_of, expr_nodes, is_unfilled, some_primitive, Expression, empty}
+use Rattle.flt_gen.proofs.Common.{truth, Link, MatchResult, Yes, plain, IsProgramOf, short_bound_of, holds, with_folded, folded_expression, no_group}
+use Rattle.flt_gen.proofs.Common.{grouped_formula, returns_code, expression_code, program_code, emit_nodes, start_walk, insns_of}
 use Rattle.flt_gen.proofs.Folded.{expression_folded, nodes_folded}
 use Rattle.flt_gen.proofs.Grouping.{kept_none, grouped_stands}
 use Rattle.flt_gen.proofs.Exclusive.{or_no}
@@ -67,7 +68,7 @@ fits link (truth a) filled few =
     let s = grouped_stands link a no_group kept_none filled in
     more_by true _ _ (omega (arith, s.tests_fit, s.nodes_fit)) (omega (arith, s.tests_fit, s.nodes_fit))
     (emitted_by true link (grouped_formula link no_group a) 2 1 returns_code (omega (arith, s.words_fit)) s.searches returns_sound
-        (record { low = omega arith; upper_bound = omega arith }) (record { low = omega arith; upper_bound = omega arith }))
+    (record { low = omega arith; upper_bound = omega arith }) (record { low = omega arith; upper_bound = omega arith }))
 
 leads : (link : Link) (e : Expression) → some_primitive is_unfilled e ≡ false → words_of e ≤ 16 → (p : List ℕ) (n : ℕ)
     → Leads p n HasWords (expression_code link e).code (expression_code link e).entry (pick (holds e link p n) 262144 0)
@@ -76,7 +77,7 @@ leads link (truth a) filled few p n =
     let s = grouped_stands link a no_group kept_none filled in
     leads_to p n (ap (λ r. pick r 262144 0) (s.reads_are p n ∙ or_no _))
     (emitted_leads p n link (grouped_formula link no_group a) 2 1 262144 0 returns_code (omega (arith, s.words_fit)) s.searches (hit_leads p n)
-        (miss_leads p n))
+    (miss_leads p n))
 
 -- what is left of code
 branches_drop : (c : List Insn) (k : ℕ) → branches (drop k c) ≤ branches c
@@ -147,7 +148,7 @@ once_more link e code short within r m =
     let t = r.threads in
     let s = r.shortens in
     let is = replaced_code r.moved code e link m.is (t.no_jump m.is.no_jump) (omega (arith, t.same_length)) (omega (arith, t.branches))
-        (λ p n answer was. t.runs p n ∙ was) in
+    (λ p n answer was. t.runs p n ∙ was) in
     let v = parts short (s.valid (valid_if_short r.moved (t.sound m.valid) (omega (arith, is.bounded)))) in
     record {
       is = replaced_code short r.moved e link is (s.no_jump is.no_jump) s.shorter s.fewer (λ p n answer i.

@@ -1,10 +1,11 @@
 -- What the grammar reads, the machine reads.
-use Rattle.flt_lang.proofs.Common.{◌≡◌, ◌≢◌, ℕ, ◌+◌, ◌<◌, ◌≤◌, List, [], ◌∷◌, refl, sym, ap, ◌∙◌, subst, ◌⊎◌, inl, inr, ⊎_elim, arith, Option, Some, None, true,
-    lit≤, Protocol, Operator, Divide, Join, TokenKind, Value, Node, Frame, Operand, NumberTree, literal, TruthTree, bare, Expression, no_mask, prefix,
-    ReadsValue, number, level, is_accessor, stands_alone, has_casts, Number, of_literal, of_len, of_name, enclosed, of_load, of_sized_load, minus, single,
-    chain, Truth, of_check, of_cast, of_protocol_cast, of_sized, of_valued, of_bare, relation, denial, enclosed_truth, term, terms, IsReadAs, no_tokens,
-    all_tokens, ◌>>=◌, precedence, operand_precedence, token_precedence, next_precedence, as_number, as_truth, as_sort, fill_frame, run, nodes_of_tokens,
-    enclosed_operand, number_with_prefix, next_of, after_operand, IsLoose, number_onto, truth_onto, expr_onto}
+use Rattle.flt_lang.proofs.Common.{◌≡◌, ◌≢◌, ℕ, ◌+◌, ◌<◌, ◌≤◌, List, [], ◌∷◌, refl, sym, ap, ◌∙◌, subst, ◌⊎◌, inl, inr, ⊎_elim, arith, Option, Some, None, true}
+use Rattle.flt_lang.proofs.Common.{lit≤, Protocol, Operator, Divide, Join, TokenKind, Value, Node, Frame, Operand, NumberTree, literal, TruthTree, bare}
+use Rattle.flt_lang.proofs.Common.{Expression, no_mask, prefix, ReadsValue, number, level, is_accessor, stands_alone, has_casts, Number, of_literal, of_len}
+use Rattle.flt_lang.proofs.Common.{of_name, enclosed, of_load, of_sized_load, minus, single, chain, Truth, of_check, of_cast, of_protocol_cast, of_sized}
+use Rattle.flt_lang.proofs.Common.{of_valued, of_bare, relation, denial, enclosed_truth, term, terms, IsReadAs, no_tokens, all_tokens, ◌>>=◌, precedence}
+use Rattle.flt_lang.proofs.Common.{operand_precedence, token_precedence, next_precedence, as_number, as_truth, as_sort, fill_frame, run, nodes_of_tokens}
+use Rattle.flt_lang.proofs.Common.{enclosed_operand, number_with_prefix, next_of, after_operand, IsLoose, number_onto, truth_onto, expr_onto}
 use Rattle.flt_lang.proofs.Reducing.{le_true, le_false, reduce_stays}
 use Rattle.flt_lang.proofs.Valued.{IsNoMask, no_mask_at, plain_runs, value_runs, valued_runs}
 use Rattle.flt_lang.proofs.ValuesBack.{level_small}
@@ -60,14 +61,22 @@ no_prefix_at t ts _ h = refl
 comparison_step : (c : Comparison) (ts : List TokenKind) (fs : List Frame) (x : Operand) (d e : List Node) → 6 ≤ operand_precedence fs
     → as_number x d ≡ Some e → run (token.Comparison c ∷ ts) 0 fs (Some x) d ≡ run ts 0 (frame.Compare c ∷ fs) None e
 comparison_step c ts fs x d e h is_num =
-    rw (no_prefix_at (token.Comparison c) ts x tt, reduce_stays 5 fs x d (loose 5 fs (lit≤ tt) (λ e. absurd (omega arith)) (omega arith)),
-        le_true 5 (operand_precedence fs) (omega arith), is_num)
+    rw (
+      no_prefix_at (token.Comparison c) ts x tt,
+      reduce_stays 5 fs x d (loose 5 fs (lit≤ tt) (λ e. absurd (omega arith)) (omega arith)),
+      le_true 5 (operand_precedence fs) (omega arith),
+      is_num,
+    )
 
 join_step : (j : Join) (ts : List TokenKind) (fs : List Frame) (x : Operand) (d e : List Node) → 7 ≤ operand_precedence fs → as_truth x d ≡ Some e
     → run (token.Join j ∷ ts) 0 fs (Some x) d ≡ run ts 0 (frame.Join j ∷ fs) None e
 join_step j ts fs x d e h truth =
-    rw (no_prefix_at (token.Join j) ts x tt, reduce_stays 7 fs x d (loose 7 fs (lit≤ tt) (λ e. absurd (omega arith)) h),
-        le_true 7 (operand_precedence fs) h, truth)
+    rw (
+      no_prefix_at (token.Join j) ts x tt,
+      reduce_stays 7 fs x d (loose 7 fs (lit≤ tt) (λ e. absurd (omega arith)) h),
+      le_true 7 (operand_precedence fs) h,
+      truth,
+    )
 
 -- the machine comes from the tokens ts with nothing read to rest with an operand that is the
 -- number, or the truth
@@ -138,9 +147,9 @@ as_prefix o ts mid rest fs d e nodes x b runs is_num right roomy is =
     let unary : level o ≡ 0 = ap level is.divides in
     let lit = literal_first right is.len_of is.rest unary is.tokens in
     let here : run (token.Operator o ∷ mid) 0 fs (Some x) nodes ≡ run (token.Operator Divide ∷ token.Number is.len_of ∷ is.rest) 0 fs
-        (Some (operand.Plain is.number)) nodes = cc (is.divides, is.tokens, is.plain) in
+    (Some (operand.Plain is.number)) nodes = cc (is.divides, is.tokens, is.plain) in
     let there : run is.rest 0 fs (Some (operand.Either is.number (Some is.len_of))) nodes ≡ run rest 0 fs
-        (Some (operand.Either is.number (Some is.len_of))) nodes = cc (lit.left) in
+    (Some (operand.Either is.number (Some is.len_of))) nodes = cc (lit.left) in
     let front : ◌≡◌ {A = Option (List Node)} (Some (node.Literal is.number ∷ nodes)) (Some e) = ap (λ y. as_number y nodes) (sym is.plain) ∙ is_num in
     let whole : number_onto (literal is.len_of) e ≡ number_onto b e = ap (λ t. number_onto t e) (sym lit.tree) in
     record {
@@ -158,16 +167,29 @@ reads_number of_len fs d roomy reaches unmasked = record { operand = operand.Num
 reads_number of_name fs d roomy reaches unmasked = record { operand = operand.Number; nodes = node.Named _ ∷ d; runs = refl; value = refl }
 reads_number (enclosed {rest = rest} inner) fs d roomy reaches unmasked =
     let r = reads_number inner (frame.Open ∷ fs) d (lit≤ tt) (lit≤ tt) tt in
-    record { operand = enclosed_operand r.operand; nodes = r.nodes; runs = r.runs ∙ close_step rest fs r.operand r.nodes; value =
-        enclosed_value Sort.Number r.operand r.nodes ∙ r.value }
+    record {
+      operand = enclosed_operand r.operand;
+      nodes = r.nodes;
+      runs = r.runs ∙ close_step rest fs r.operand r.nodes;
+      value =
+          enclosed_value Sort.Number r.operand r.nodes ∙ r.value;
+    }
 reads_number (of_load {p = p} {ts = ts} {rest = rest} accessor inner) fs d roomy reaches unmasked =
     let r = reads_number inner (frame.Load p ∷ fs) d (lit≤ tt) (lit≤ tt) tt in
-    record { operand = operand.Number; nodes = _; runs = load_step p ts fs d accessor ∙ r.runs ∙ bracket_step p rest fs r.operand r.nodes _ r.value;
-        value = refl }
+    record {
+      operand = operand.Number;
+      nodes = _;
+      runs = load_step p ts fs d accessor ∙ r.runs ∙ bracket_step p rest fs r.operand r.nodes _ r.value;
+      value = refl;
+    }
 reads_number (of_sized_load {p = p} {n = n} {ts = ts} {rest = rest} accessor inner) fs d roomy reaches unmasked =
     let r = reads_number inner (frame.Load p ∷ fs) d (lit≤ tt) (lit≤ tt) tt in
-    record { operand = operand.Number; nodes = _; runs = load_step p ts fs d accessor ∙ r.runs ∙ colon_step p n rest fs r.operand r.nodes _ r.value;
-        value = refl }
+    record {
+      operand = operand.Number;
+      nodes = _;
+      runs = load_step p ts fs d accessor ∙ r.runs ∙ colon_step p n rest fs r.operand r.nodes _ r.value;
+      value = refl;
+    }
 reads_number (minus inner) fs d roomy reaches unmasked =
     let r = reads_number inner (frame.Negate ∷ fs) d (lit≤ tt) reaches unmasked in
     record { operand = operand.Number; nodes = _; runs = r.runs ∙ take_frame frame.Negate fs _ _ _ _ _ reaches (rw r.value refl) refl; value = refl }
@@ -177,7 +199,7 @@ reads_number (chain {k = k} {ts = ts} {mid = mid} {rest = rest} {a = a} {b = b} 
     let r = reads_number right (frame.Apply o ∷ fs) (number_onto a d) (omega arith) (omega arith) unmasked in
     ⊎_elim
     (λ is. as_prefix o ts mid rest fs d (number_onto a d) l.nodes l.operand b l.runs l.value (subst (λ i. Number i mid b rest) (sym at_level) right)
-        (omega arith) is)
+    (omega arith) is)
     (λ other. record {
       operand = operand.Number;
       nodes = node.Apply o ∷ number_onto b (number_onto a d);
@@ -214,8 +236,13 @@ reads_bare : {ts rest : List TokenKind} {v : Value} → ReadsValue ts v rest →
     → 6 ≤ next_precedence rest → Reaches Sort.Truth ts fs d (truth_onto (bare v) d) rest
 reads_bare (number {n = n} {rest = rest} no_mask) fs d roomy reaches =
     record { operand = operand.Plain n; nodes = d; runs = plain_runs n rest fs d (no_mask_at rest (omega arith)); value = refl }
-reads_bare (number {n = n} {rest = rest} (prefix {m = m})) fs d roomy reaches = record { operand = operand.Either n (Some m); nodes = d; runs =
-    prefix_step n m rest fs d (omega arith); value = refl }
+reads_bare (number {n = n} {rest = rest} (prefix {m = m})) fs d roomy reaches = record {
+  operand = operand.Either n (Some m);
+  nodes = d;
+  runs =
+      prefix_step n m rest fs d (omega arith);
+  value = refl;
+}
 reads_bare v fs d roomy reaches = whole_truth (value_runs v refl fs d reaches)
 
 reads_truth : {k : ℕ} {ts rest : List TokenKind} {a : TruthTree} → Truth k ts a rest → (fs : List Frame) (d : List Node) → k + 6 ≤ operand_precedence
@@ -238,12 +265,22 @@ reads_truth (relation {c = c} {mid = mid} {rest = rest} {a = a} {b = b} left rig
     }
 reads_truth (denial {ts = ts} {rest = rest} {a = a} inner) fs d roomy reaches =
     let r = reads_truth inner (frame.Not ∷ fs) d (lit≤ tt) reaches in
-    record { operand = operand.Truth; nodes = node.Not ∷ truth_onto a d; runs = not_step ts fs d roomy ∙ r.runs ∙ take_frame frame.Not fs r.operand
-        operand.Truth r.nodes (node.Not ∷ truth_onto a d) rest reaches (rw r.value refl) refl; value = refl }
+    record {
+      operand = operand.Truth;
+      nodes = node.Not ∷ truth_onto a d;
+      runs = not_step ts fs d roomy ∙ r.runs ∙ take_frame frame.Not fs r.operand
+          operand.Truth r.nodes (node.Not ∷ truth_onto a d) rest reaches (rw r.value refl) refl;
+      value = refl;
+    }
 reads_truth (enclosed_truth {rest = rest} inner) fs d roomy reaches =
     let r = reads_truth inner (frame.Open ∷ fs) d (lit≤ tt) (lit≤ tt) in
-    record { operand = enclosed_operand r.operand; nodes = r.nodes; runs = r.runs ∙ close_step rest fs r.operand r.nodes; value =
-        enclosed_value Sort.Truth r.operand r.nodes ∙ r.value }
+    record {
+      operand = enclosed_operand r.operand;
+      nodes = r.nodes;
+      runs = r.runs ∙ close_step rest fs r.operand r.nodes;
+      value =
+          enclosed_value Sort.Truth r.operand r.nodes ∙ r.value;
+    }
 reads_truth (term inner) fs d roomy reaches = reads_truth inner fs d (omega arith) (omega arith)
 reads_truth (terms {mid = mid} {rest = rest} {a = a} {b = b} {j = j} left right) fs d roomy reaches =
     let l = reads_truth left fs d roomy (lit≤ tt) in

@@ -1,11 +1,13 @@
 -- A fault of some node is a fault of some primitive; and the nodes and faults of a tree whose
 -- values inherit, and of one that is completed.
-use Rattle.flt_lang.proofs.Common.{◌≡◌, ℕ, List, [], ◌∷◌, refl, sym, ap, ◌∙◌, Bool, true, false, not, ◌||◌, list_any, Protocol, Operator, Node, NumberTree,
-    literal, len, named, load, negated, applied, TruthTree, valued, qualified, compared, denied, joined, Expression, empty, truth, number_nodes, truth_nodes,
-    expr_nodes, is_size, has_wrong_size, is_misfit, is_out_of_range, has_bits_past_mask, any_primitive, some_primitive, tree_fault, is_misfit_node,
-    is_out_of_range_node, has_bits_past_mask_node, nodes_fault, map, Qualifiers, tree_of, tree_back, IsTree, latest, with_inherited, complete, only_host,
-    expr_inherited, fill_expression, completed_node, inherited_nodes, ◌&&◌, is_some, Option, Some, None, unwrap_or, Direction, Value, fit_of, is_misfit_fit,
-    is_proto, is_either, type_or_host, completed_qualifiers, is_unfilled, first_fault, fill_fault, IsResolved, or_parts, or_from, Join}
+use Rattle.flt_lang.proofs.Common.{◌≡◌, ℕ, List, [], ◌∷◌, refl, sym, ap, ◌∙◌, Bool, true, false, not, ◌||◌, list_any, Protocol, Operator, Node, NumberTree}
+use Rattle.flt_lang.proofs.Common.{literal, len, named, load, negated, applied, TruthTree, valued, qualified, compared, denied, joined, Expression, empty}
+use Rattle.flt_lang.proofs.Common.{truth, number_nodes, truth_nodes, expr_nodes, is_size, has_wrong_size, is_misfit, is_out_of_range, has_bits_past_mask}
+use Rattle.flt_lang.proofs.Common.{any_primitive, some_primitive, tree_fault, is_misfit_node, is_out_of_range_node, has_bits_past_mask_node, nodes_fault, map}
+use Rattle.flt_lang.proofs.Common.{Qualifiers, tree_of, tree_back, IsTree, latest, with_inherited, complete, only_host, expr_inherited, fill_expression}
+use Rattle.flt_lang.proofs.Common.{completed_node, inherited_nodes, ◌&&◌, is_some, Option, Some, None, unwrap_or, Direction, Value, fit_of, is_misfit_fit}
+use Rattle.flt_lang.proofs.Common.{is_proto, is_either, type_or_host, completed_qualifiers, is_unfilled, first_fault, fill_fault, IsResolved, or_parts, or_from}
+use Rattle.flt_lang.proofs.Common.{Join}
 use Rattle.std.proofs.Math.Bool.{or_assoc, or-false}
 use Rattle.flt_ast.specs.declared.node.Node.TheVariants as node
 use Rattle.flt_ast.specs.declared.qualifiers.Direction.TheVariants as direction
@@ -27,7 +29,7 @@ any_nodes : (g : Node → Bool) (f : TruthTree → Bool) → Agrees g f → (a :
 any_nodes g f s (denied a) rest = any_nodes g f s a (node.Not ∷ rest) ∙ rw s.denials refl
 any_nodes g f s (joined j a b) rest =
     any_nodes g f s a (truth_nodes b (node.Join j ∷ rest)) ∙ ap (λ r. any_primitive f a || r) (any_nodes g f s b (node.Join j ∷ rest)
-        ∙ rw (s.joins j) refl) ∙ sym (or_assoc (any_primitive f a) (any_primitive f b) (list_any g rest))
+    ∙ rw (s.joins j) refl) ∙ sym (or_assoc (any_primitive f a) (any_primitive f b) (list_any g rest))
 any_nodes g f s a rest = s.primitives a rest refl
 
 some_node : (g : Node → Bool) (f : TruthTree → Bool) → Agrees g f → (e : Expression) → list_any g (expr_nodes e) ≡ some_primitive f e
@@ -50,7 +52,7 @@ misfit_primitive : (a : TruthTree) (rest : List Node) → is_primitive a ≡ tru
     (is_misfit a || list_any is_misfit_node rest)
 misfit_primitive (compared c a b) rest h =
     number_free is_misfit_node (λ _. refl) (λ _. refl) refl (λ _ _. refl) refl (λ _. refl) a (number_nodes b (node.Compare c ∷ rest))
-        ∙ number_free is_misfit_node (λ _. refl) (λ _. refl) refl (λ _ _. refl) refl (λ _. refl) b (node.Compare c ∷ rest)
+    ∙ number_free is_misfit_node (λ _. refl) (λ _. refl) refl (λ _ _. refl) refl (λ _. refl) b (node.Compare c ∷ rest)
 misfit_primitive (denied a) rest h = cc
 misfit_primitive (joined j a b) rest h = cc
 misfit_primitive _ rest h = refl
@@ -59,7 +61,7 @@ past_primitive : (a : TruthTree) (rest : List Node) → is_primitive a ≡ true 
     (has_bits_past_mask a || list_any has_bits_past_mask_node rest)
 past_primitive (compared c a b) rest h =
     number_free has_bits_past_mask_node (λ _. refl) (λ _. refl) refl (λ _ _. refl) refl (λ _. refl) a (number_nodes b (node.Compare c ∷ rest))
-        ∙ number_free has_bits_past_mask_node (λ _. refl) (λ _. refl) refl (λ _ _. refl) refl (λ _. refl) b (node.Compare c ∷ rest)
+    ∙ number_free has_bits_past_mask_node (λ _. refl) (λ _. refl) refl (λ _ _. refl) refl (λ _. refl) b (node.Compare c ∷ rest)
 past_primitive (denied a) rest h = cc
 past_primitive (joined j a b) rest h = cc
 past_primitive _ rest h = refl
@@ -72,14 +74,14 @@ number_sizes (load p s a) rest = number_sizes a (node.Load p s ∷ rest)
 number_sizes (negated a) rest = number_sizes a (node.Negate ∷ rest)
 number_sizes (applied o a b) rest =
     number_sizes a (number_nodes b (node.Apply o ∷ rest)) ∙ ap (λ r. has_wrong_size a || r) (number_sizes b (node.Apply o ∷ rest))
-        ∙ sym (or_assoc (has_wrong_size a) (has_wrong_size b) (list_any is_out_of_range_node rest))
+    ∙ sym (or_assoc (has_wrong_size a) (has_wrong_size b) (list_any is_out_of_range_node rest))
 number_sizes _ rest = refl
 
 range_primitive : (a : TruthTree) (rest : List Node) → is_primitive a ≡ true → list_any is_out_of_range_node (truth_nodes a rest) ≡
     (is_out_of_range a || list_any is_out_of_range_node rest)
 range_primitive (compared c a b) rest h =
     number_sizes a (number_nodes b (node.Compare c ∷ rest)) ∙ ap (λ r. has_wrong_size a || r) (number_sizes b (node.Compare c ∷ rest))
-        ∙ sym (or_assoc (has_wrong_size a) (has_wrong_size b) (list_any is_out_of_range_node rest))
+    ∙ sym (or_assoc (has_wrong_size a) (has_wrong_size b) (list_any is_out_of_range_node rest))
 range_primitive (denied a) rest h = cc
 range_primitive (joined j a b) rest h = cc
 range_primitive _ rest h = refl
@@ -183,7 +185,7 @@ no_fault _ _ _ h = cc
 pub filled_resolved : (e : Expression) → fill_fault e ≡ None → IsResolved (fill_expression e)
 filled_resolved e h =
     let (m, r, p) = no_fault (some_primitive is_misfit (expr_inherited e)) (some_primitive is_out_of_range (expr_inherited e))
-        (some_primitive has_bits_past_mask (expr_inherited e)) h in
+    (some_primitive has_bits_past_mask (expr_inherited e)) h in
     record {
       is_filled = none_bare_of e;
       fits = filled_keeps is_misfit (λ q v h. undirected (is_misfit_fit (fit_of (type_or_host q) v q.protocol)) (is_proto (type_or_host q)) q.direction h) e m;

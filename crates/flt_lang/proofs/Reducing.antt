@@ -1,6 +1,6 @@
 -- One turn of the loop that lets tight frames take the operand.
-use Rattle.flt_lang.proofs.Common.{◌≡◌, ℕ, ◌≤◌, ◌<◌, List, [], ◌∷◌, refl, Some, None, true, false, nat_le, arith, le-leb, Node, Frame, Operand, precedence,
-    fill_frame, reduce, IsLoose}
+use Rattle.flt_lang.proofs.Common.{◌≡◌, ℕ, ◌≤◌, ◌<◌, List, [], ◌∷◌, refl, Some, None, true, false, nat_le, arith, le-leb, Node, Frame, Operand, precedence}
+use Rattle.flt_lang.proofs.Common.{fill_frame, reduce, IsLoose}
 use Rattle.std.proofs.lemmas.Bool.Decides.{nat_tests}
 
 pub le_true : (m n : ℕ) → m ≤ n → nat_le m n ≡ true

@@ -1,14 +1,16 @@
 -- What the machine reads, the grammar reads: where an operand begins, and after one; so the machine
 -- gives the nodes of the tree, or there is none.
-use Rattle.flt_lang.proofs.Common.{◌≡◌, ℕ, suc, zero, ◌-◌, length, drop, inl, List, [], ◌∷◌, refl, sym, ap, ◌∙◌, subst, Option, Some, None, true, nat_le,
-    zero-le, Protocol, Subtract, TokenKind, Value, Qualifiers, Node, Frame, Operand, len, named, TruthTree, check, cast, sized, bare, valued, is_written,
-    qualifiers_of, value_of, is_accessor, stands_alone, has_casts, of_len, of_name, Truth, of_check, of_cast, of_protocol_cast, of_sized, of_valued, of_bare,
-    truth_onto, operand_precedence, Begun, begin, valued_of, valued_or, check_of, primitive, bare_of, with_frames, ◌+◌, ◌≤◌, arith, Bool, false, if◌then◌else◌,
-    lit≤, leb-true, Divide, literal, load, Expression, empty, truth, no_mask, prefix, number, level, Number, of_literal, enclosed, of_load, of_sized_load,
-    single, chain, enclosed_truth, term, IsReadAs, no_tokens, all_tokens, ◌>>=◌, token_precedence, next_precedence, as_number, as_truth, reduce, after_token,
-    whole, finish, run, nodes_of_tokens, enclosed_operand, next_of, after_operand, expr_onto, reverse, expr_nodes, tree_of, tree_back, IsTree, expr_turned}
-use Rattle.flt_lang.proofs.Stacked.{some_first, some_then, Stacked, Following, widened, either_number, either_truth, Between, number_between, truth_between,
-    chain_of, reduce_sound, loosened}
+use Rattle.flt_lang.proofs.Common.{◌≡◌, ℕ, suc, zero, ◌-◌, length, drop, inl, List, [], ◌∷◌, refl, sym, ap, ◌∙◌, subst, Option, Some, None, true, nat_le}
+use Rattle.flt_lang.proofs.Common.{zero-le, Protocol, Subtract, TokenKind, Value, Qualifiers, Node, Frame, Operand, len, named, TruthTree, check, cast, sized}
+use Rattle.flt_lang.proofs.Common.{bare, valued, is_written, qualifiers_of, value_of, is_accessor, stands_alone, has_casts, of_len, of_name, Truth, of_check}
+use Rattle.flt_lang.proofs.Common.{of_cast, of_protocol_cast, of_sized, of_valued, of_bare, truth_onto, operand_precedence, Begun, begin, valued_of, valued_or}
+use Rattle.flt_lang.proofs.Common.{check_of, primitive, bare_of, with_frames, ◌+◌, ◌≤◌, arith, Bool, false, if◌then◌else◌, lit≤, leb-true, Divide, literal}
+use Rattle.flt_lang.proofs.Common.{load, Expression, empty, truth, no_mask, prefix, number, level, Number, of_literal, enclosed, of_load, of_sized_load, single}
+use Rattle.flt_lang.proofs.Common.{chain, enclosed_truth, term, IsReadAs, no_tokens, all_tokens, ◌>>=◌, token_precedence, next_precedence, as_number, as_truth}
+use Rattle.flt_lang.proofs.Common.{reduce, after_token, whole, finish, run, nodes_of_tokens, enclosed_operand, next_of, after_operand, expr_onto, reverse}
+use Rattle.flt_lang.proofs.Common.{expr_nodes, tree_of, tree_back, IsTree, expr_turned}
+use Rattle.flt_lang.proofs.Stacked.{some_first, some_then, Stacked, Following, widened, either_number, either_truth, Between, number_between, truth_between}
+use Rattle.flt_lang.proofs.Stacked.{chain_of, reduce_sound, loosened}
 use Rattle.flt_lang.proofs.Valued.{left_after, qualifiers_sound, side_written, value_left, value_sound}
 use Rattle.flt_lang.proofs.ValuesBack.{carried}
 use Rattle.flt_words.specs.declared.token.Size.{Size}
@@ -50,13 +52,13 @@ valued_sound : (t : TokenKind) (ts : List TokenKind) (fs : List Frame) (d : List
     (node.Valued q.0 q.1 ∷ d) start (drop q.2 ts)
 valued_sound t ts fs d start q stacked w h =
     let (v, value_is, is) = some_first (value_of (qualifiers_of (t ∷ ts)).1)
-        (λ r. Some ((qualifiers_of (t ∷ ts)).0, r.0, length (t ∷ ts) - length r.1 - 1)) q h in
+    (λ r. Some ((qualifiers_of (t ∷ ts)).0, r.0, length (t ∷ ts) - length r.1 - 1)) q h in
     let P : Qualifiers × Value × ℕ → Type 0 = λ q. SoFar (Some operand.Truth) fs (node.Valued q.0 q.1 ∷ d) start (drop q.2 ts) in
     let reads_qualifiers = qualifiers_sound (t ∷ ts) in
     let reads_value = value_sound (qualifiers_of (t ∷ ts)).1 v value_is in
     let rest_is = left_after t ts (qualifiers_of (t ∷ ts)).1 v.1 (qualifiers_of (t ∷ ts)).0 v.0 reads_qualifiers reads_value in
     let reads : Truth 0 (t ∷ ts) (valued (qualifiers_of (t ∷ ts)).0 v.0) (drop (length (t ∷ ts) - length v.1 - 1) ts) =
-        subst (λ us. Truth 0 (t ∷ ts) (valued (qualifiers_of (t ∷ ts)).0 v.0) us) (sym rest_is) (of_valued reads_qualifiers w reads_value) in
+    subst (λ us. Truth 0 (t ∷ ts) (valued (qualifiers_of (t ∷ ts)).0 v.0) us) (sym rest_is) (of_valued reads_qualifiers w reads_value) in
     carried P (d, (t ∷ ts), stacked, (valued (qualifiers_of (t ∷ ts)).0 v.0, inl reads, refl)) is
 
 primitive_or : (t : TokenKind) (ts : List TokenKind) (fs : List Frame) (d : List Node) (start : List TokenKind) (r : Begun)
@@ -78,7 +80,7 @@ bare_sound t ts fs d start r stacked h =
     let reads_value = value_sound (t ∷ ts) v value_is in
     let rest_is = value_left t ts v.1 v.0 reads_value in
     let reads : Truth 0 (t ∷ ts) (bare v.0) (drop (length (t ∷ ts) - length v.1 - 1) ts) = subst (λ us. Truth 0 (t ∷ ts) (bare v.0) us) (sym rest_is)
-        (of_bare reads_value) in
+    (of_bare reads_value) in
     truth_begun t ts fs d start r (length (t ∷ ts) - length v.1 - 1) (node.Bare v.0) (bare v.0) stacked reads refl (ap (with_frames fs) is_w ∙ is)
 
 protocol_sound : (p : Protocol) (ts : List TokenKind) (fs : List Frame) (d : List Node) (start : List TokenKind) (r : Begun)
@@ -145,36 +147,77 @@ place_sound (token.Operator o) ts fs x e start r (d, mid, stacked, between) h =
     let (roomy, placed_is) = some_then (nat_le (level o + 1) (operand_precedence fs)) (as_number x e >>= λ i. Some (0, (frame.Apply o ∷ fs, None, i))) r h in
     let (i, is_number, is_rest) = some_first (as_number x e) (λ i. Some (0, (frame.Apply o ∷ fs, None, i))) r placed_is in
     let n = number_between (level o + 1) (operand_precedence fs) x d e i mid (token.Operator o ∷ ts) between is_number in
-    begun ts start (0, (frame.Apply o ∷ fs, None, i)) r (d, mid, n.tree, stacked, n.nodes, widened n.precedence_of (suc (level o)) mid
-        (token.Operator o ∷ ts) n.tree (omega (arith, n.in_reach)) n.reads, leb-true _ _ roomy) is_rest
+    begun ts start (0, (frame.Apply o ∷ fs, None, i)) r (
+      d,
+      mid,
+      n.tree,
+      stacked,
+      n.nodes,
+      widened n.precedence_of (suc (level o)) mid
+          (token.Operator o ∷ ts) n.tree (omega (arith, n.in_reach)) n.reads,
+      leb-true _ _ roomy,
+    ) is_rest
 place_sound (token.Comparison c) ts fs x e start r (d, mid, stacked, between) h =
     let (roomy, placed_is) = some_then (nat_le 5 (operand_precedence fs)) (as_number x e >>= λ i. Some (0, (frame.Compare c ∷ fs, None, i))) r h in
     let (i, is_number, is_rest) = some_first (as_number x e) (λ i. Some (0, (frame.Compare c ∷ fs, None, i))) r placed_is in
     let n = number_between 5 (operand_precedence fs) x d e i mid (token.Comparison c ∷ ts) between is_number in
-    begun ts start (0, (frame.Compare c ∷ fs, None, i)) r (d, mid, n.tree, stacked, n.nodes, widened n.precedence_of 4 mid (token.Comparison c ∷ ts)
-        n.tree n.small n.reads) is_rest
+    begun ts start (0, (frame.Compare c ∷ fs, None, i)) r (
+      d,
+      mid,
+      n.tree,
+      stacked,
+      n.nodes,
+      widened n.precedence_of 4 mid (token.Comparison c ∷ ts)
+          n.tree n.small n.reads,
+    ) is_rest
 place_sound (token.Join j) ts fs x e start r (d, mid, stacked, between) h =
     let (roomy, placed_is) = some_then (nat_le 7 (operand_precedence fs)) (as_truth x e >>= λ i. Some (0, (frame.Join j ∷ fs, None, i))) r h in
     let (i, is_truth, is_rest) = some_first (as_truth x e) (λ i. Some (0, (frame.Join j ∷ fs, None, i))) r placed_is in
     let t = truth_between 7 (operand_precedence fs) x d e i mid (token.Join j ∷ ts) between is_truth in
     begun ts start (0, (frame.Join j ∷ fs, None, i)) r (d, mid, t.tree, stacked, t.nodes, chain_of t.reads, leb-true _ _ roomy) is_rest
 place_sound token.Close ts (frame.Open ∷ fs) x e start r (d, mid, stacked, between) h =
-    begun ts start (0, (fs, Some (enclosed_operand x), e)) r (d, (token.Open ∷ mid), stacked, enclosed_between 8 7 (operand_precedence fs) x d e mid
-        ts between) h
+    begun ts start (0, (fs, Some (enclosed_operand x), e)) r (
+      d,
+      (token.Open ∷ mid),
+      stacked,
+      enclosed_between 8 7 (operand_precedence fs) x d e mid
+          ts between,
+    ) h
 place_sound token.CloseBracket ts (frame.Load p ∷ fs) x e start r (d, mid, (allowed, stacked), between) h =
     let (i, is_number, is_rest) = some_first (as_number x e) (λ i. Some (0, (fs, Some operand.Number, node.Load p 1 ∷ i))) r h in
     let n = number_between 8 4 x d e i mid (token.CloseBracket ∷ ts) between is_number in
-    begun ts start (0, (fs, Some operand.Number, node.Load p 1 ∷ i)) r (d, (token.Protocol p ∷ token.OpenBracket ∷ mid), stacked,
-        (0, load p 1 n.tree, zero-le, zero-le, zero-le, of_load allowed (widened n.precedence_of 4 mid (token.CloseBracket ∷ ts) n.tree n.small
-        n.reads), ap (λ l. node.Load p 1 ∷ l) n.nodes)) is_rest
+    begun ts start (0, (fs, Some operand.Number, node.Load p 1 ∷ i)) r (
+      d,
+      (token.Protocol p ∷ token.OpenBracket ∷ mid),
+      stacked,
+      (
+        0,
+        load p 1 n.tree,
+        zero-le,
+        zero-le,
+        zero-le,
+        of_load allowed (widened n.precedence_of 4 mid (token.CloseBracket ∷ ts) n.tree n.small
+            n.reads),
+        ap (λ l. node.Load p 1 ∷ l) n.nodes,
+      ),
+    ) is_rest
 place_sound token.Colon (token.Number s ∷ token.CloseBracket ∷ ts) (frame.Load p ∷ fs) x e start r (d, mid, (allowed, stacked), between) h =
     let (i, is_number, is_rest) = some_first (as_number x e) (λ i. Some (2, (fs, Some operand.Number, node.Load p s ∷ i))) r h in
     let n = number_between 8 4 x d e i mid (token.Colon ∷ token.Number s ∷ token.CloseBracket ∷ ts) between is_number in
-    begun (token.Number s ∷ token.CloseBracket ∷ ts) start (2, (fs, Some operand.Number, node.Load p s ∷ i)) r
-        (d, (token.Protocol p ∷ token.OpenBracket ∷ mid), stacked,
-        (0, load p s n.tree, zero-le, zero-le, zero-le,
+    begun (token.Number s ∷ token.CloseBracket ∷ ts) start (2, (fs, Some operand.Number, node.Load p s ∷ i)) r (
+      d,
+      (token.Protocol p ∷ token.OpenBracket ∷ mid),
+      stacked,
+      (
+        0,
+        load p s n.tree,
+        zero-le,
+        zero-le,
+        zero-le,
         of_sized_load allowed (widened n.precedence_of 4 mid (token.Colon ∷ token.Number s ∷ token.CloseBracket ∷ ts) n.tree n.small n.reads),
-        ap (λ l. node.Load p s ∷ l) n.nodes)) is_rest
+        ap (λ l. node.Load p s ∷ l) n.nodes,
+      ),
+    ) is_rest
 place_sound _ ts fs x e start r b h = cc
 
 reach_some : (t : TokenKind) → 1 ≤ token_precedence t
@@ -186,8 +229,13 @@ next_sound : (t : TokenKind) (ts : List TokenKind) (fs : List Frame) (x : Operan
     → SoFar (Some x) fs d start (t ∷ ts) → next_of (t ∷ ts) fs x d ≡ Some r → After r start ts
 next_sound t ts fs x d start r (e, mid, stacked, between) h =
     let (q, settles, places) = some_first (reduce (token_precedence t) fs x d) (λ q. after_token (t ∷ ts) q.0 q.1 q.2) r h in
-    let reduced = reduce_sound (token_precedence t) fs x d start (t ∷ ts) q (e, mid, stacked, loosened (token_precedence t) (operand_precedence fs) x
-        e d mid (t ∷ ts) (reach_some t) between) settles in
+    let reduced = reduce_sound (token_precedence t) fs x d start (t ∷ ts) q (
+      e,
+      mid,
+      stacked,
+      loosened (token_precedence t) (operand_precedence fs) x
+          e d mid (t ∷ ts) (reach_some t) between,
+    ) settles in
     place_sound t ts q.0 q.1 q.2 start r reduced places
 
 -- a plain number and a length
@@ -228,7 +276,7 @@ finish_sound fs None d start out b h = cc
 finish_sound fs (Some x) d start out (e, mid, stacked, between) h =
     let (r, settles, is_whole) = some_first (reduce 8 fs x d) (λ r. whole r.0 r.1 r.2) out h in
     whole_sound r.0 r.1 r.2 start out
-        (reduce_sound 8 fs x d start [] r (e, mid, stacked, loosened 8 (operand_precedence fs) x e d mid [] (lit≤ tt) between) settles) is_whole
+    (reduce_sound 8 fs x d start [] r (e, mid, stacked, loosened 8 (operand_precedence fs) x e d mid [] (lit≤ tt) between) settles) is_whole
 
 run_sound : (ts : List TokenKind) (k : ℕ) (fs : List Frame) (x : Option Operand) (d : List Node) (start : List TokenKind) (out : List Node)
     → SoFar x fs d start (drop k ts) → run ts k fs x d ≡ Some out → Found start out

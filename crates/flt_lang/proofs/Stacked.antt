@@ -1,9 +1,10 @@
 -- What the parser keeps stands for the tokens before: each frame for its left side, the operand for
 -- a number or a truth.
-use Rattle.flt_lang.proofs.Common.{◌≡◌, ℕ, suc, zero, ◌+◌, ◌≤◌, ◌⊎◌, inl, inr, ⊎_elim, List, [], ◌∷◌, refl, sym, ap, ◌∙◌, subst, arith, Option, Some, None,
-    Bool, true, false, nat_le, if◌then◌else◌, lit≤, zero-le, leb-true, Subtract, Divide, TokenKind, Node, Frame, Operand, NumberTree, literal, negated, applied,
-    TruthTree, bare, compared, denied, joined, no_mask, number, level, is_accessor, Number, of_literal, minus, single, chain, Truth, of_bare, relation, denial,
-    term, terms, ◌>>=◌, precedence, operand_precedence, prefix_mask, as_number, as_truth, Read, fill_frame, Reduced, reduce, number_onto, truth_onto, Value}
+use Rattle.flt_lang.proofs.Common.{◌≡◌, ℕ, suc, zero, ◌+◌, ◌≤◌, ◌⊎◌, inl, inr, ⊎_elim, List, [], ◌∷◌, refl, sym, ap, ◌∙◌, subst, arith, Option, Some, None}
+use Rattle.flt_lang.proofs.Common.{Bool, true, false, nat_le, if◌then◌else◌, lit≤, zero-le, leb-true, Subtract, Divide, TokenKind, Node, Frame, Operand}
+use Rattle.flt_lang.proofs.Common.{NumberTree, literal, negated, applied, TruthTree, bare, compared, denied, joined, no_mask, number, level, is_accessor}
+use Rattle.flt_lang.proofs.Common.{Number, of_literal, minus, single, chain, Truth, of_bare, relation, denial, term, terms, ◌>>=◌, precedence}
+use Rattle.flt_lang.proofs.Common.{operand_precedence, prefix_mask, as_number, as_truth, Read, fill_frame, Reduced, reduce, number_onto, truth_onto, Value}
 use Rattle.flt_lang.proofs.ValuesBack.{carried, level_small}
 use Rattle.std.proofs.str.Laws.{order}
 use Rattle.flt_words.specs.declared.token.TokenKind.TheVariants as token
@@ -76,13 +77,28 @@ number_between m r operand.Truth d e f mid rest b h = cc
 number_between m r operand.Number d e f mid rest (k, a, in_reach, in_room, small, reads, nodes) h =
     record { precedence_of = k; tree = a; in_reach = in_reach; in_room = in_room; small = small; reads = reads; nodes = cc }
 number_between m r (operand.Plain n) d e f mid rest (is, nodes) h =
-    record { precedence_of = 0; tree = literal n; in_reach = omega arith; in_room = omega arith; small = omega arith; reads =
-        subst (λ ts. Number 0 ts (literal n) rest) (sym is) of_literal; nodes = cc }
+    record {
+      precedence_of = 0;
+      tree = literal n;
+      in_reach = omega arith;
+      in_room = omega arith;
+      small = omega arith;
+      reads =
+          subst (λ ts. Number 0 ts (literal n) rest) (sym is) of_literal;
+      nodes = cc;
+    }
 number_between m r (operand.Either n None) d e f mid rest (k, in_reach, in_room, small, reads, reads_truth, nodes) h =
     record { precedence_of = k; tree = literal n; in_reach = in_reach; in_room = in_room; small = small; reads = reads; nodes = cc }
 number_between m r (operand.Either n (Some l)) d e f mid rest (k, in_reach, in_room, small, reads, reads_truth, nodes) h =
-    record { precedence_of = k; tree = applied Divide (literal n) (literal l); in_reach = in_reach; in_room = in_room; small = small; reads = reads;
-        nodes = cc }
+    record {
+      precedence_of = k;
+      tree = applied Divide (literal n) (literal l);
+      in_reach = in_reach;
+      in_room = in_room;
+      small = small;
+      reads = reads;
+      nodes = cc;
+    }
 
 pub record TruthBetween (m r : ℕ) (d e : List Node) (mid rest : List TokenKind) : Type 0 where
   pub tree : TruthTree
@@ -119,34 +135,73 @@ fill_sound : (m : ℕ) (f : Frame) (fs : List Frame) (x y : Operand) (e g : List
 fill_sound m frame.Negate fs x y e g start rest h (d, mid, stacked, between) filled =
     let (i, is_number, is_rest) = some_first (as_number x e) (λ i. Some (operand.Number, node.Negate ∷ i)) (y, g) filled in
     let n = number_between m 0 x d e i mid rest between is_number in
-    moved m fs start rest operand.Number y (node.Negate ∷ i) g (d, (token.Operator Subtract ∷ mid), stacked,
-        (0, negated n.tree, zero-le, zero-le, zero-le, minus (widened n.precedence_of 0 mid rest n.tree n.in_room n.reads), ap (λ l. node.Negate ∷ l)
-        n.nodes)) is_rest
+    moved m fs start rest operand.Number y (node.Negate ∷ i) g (
+      d,
+      (token.Operator Subtract ∷ mid),
+      stacked,
+      (
+        0,
+        negated n.tree,
+        zero-le,
+        zero-le,
+        zero-le,
+        minus (widened n.precedence_of 0 mid rest n.tree n.in_room n.reads),
+        ap (λ l. node.Negate ∷ l)
+            n.nodes,
+      ),
+    ) is_rest
 fill_sound m (frame.Apply o) fs x y e g start rest h (d, mid, (d', mid', a, stacked, d_is, left, roomy), between) filled =
     let (i, is_number, is_rest) = some_first (as_number x e) (λ i. Some (operand.Number, node.Apply o ∷ i)) (y, g) filled in
     let n = number_between m (level o) x d e i mid rest between is_number in
     let right = widened n.precedence_of (level o) mid rest n.tree n.in_room n.reads in
-    moved m fs start rest operand.Number y (node.Apply o ∷ i) g
-        (d', mid', stacked, (suc (level o), applied o a n.tree, omega arith, omega arith, omega (arith, level_small o), chain left refl right,
-        ap (λ l. node.Apply o ∷ l) (n.nodes ∙ ap (λ l. number_onto n.tree l) d_is))) is_rest
+    moved m fs start rest operand.Number y (node.Apply o ∷ i) g (
+      d',
+      mid',
+      stacked,
+      (
+        suc (level o),
+        applied o a n.tree,
+        omega arith,
+        omega arith,
+        omega (arith, level_small o),
+        chain left refl right,
+        ap (λ l. node.Apply o ∷ l) (n.nodes ∙ ap (λ l. number_onto n.tree l) d_is),
+      ),
+    ) is_rest
 fill_sound m (frame.Compare c) fs x y e g start rest h (d, mid, (d', mid', a, stacked, d_is, left), between) filled =
     let (i, is_number, is_rest) = some_first (as_number x e) (λ i. Some (operand.Truth, node.Compare c ∷ i)) (y, g) filled in
     let n = number_between m 4 x d e i mid rest between is_number in
     let right = widened n.precedence_of 4 mid rest n.tree n.small n.reads in
-    moved m fs start rest operand.Truth y (node.Compare c ∷ i) g
-        (d', mid', stacked, (compared c a n.tree, inl (relation left right), ap (λ l. node.Compare c ∷ l)
-        (n.nodes ∙ ap (λ l. number_onto n.tree l) d_is))) is_rest
+    moved m fs start rest operand.Truth y (node.Compare c ∷ i) g (
+      d',
+      mid',
+      stacked,
+      (
+        compared c a n.tree,
+        inl (relation left right),
+        ap (λ l. node.Compare c ∷ l)
+            (n.nodes ∙ ap (λ l. number_onto n.tree l) d_is),
+      ),
+    ) is_rest
 fill_sound m frame.Not fs x y e g start rest h (d, mid, stacked, between) filled =
     let (i, is_truth, is_rest) = some_first (as_truth x e) (λ i. Some (operand.Truth, node.Not ∷ i)) (y, g) filled in
     let t = truth_between m 6 x d e i mid rest between is_truth in
     moved m fs start rest operand.Truth y (node.Not ∷ i) g
-        (d, (token.Not ∷ mid), stacked, (denied t.tree, inl (denial (term_of (lit≤ tt) t.reads)), ap (λ l. node.Not ∷ l) t.nodes)) is_rest
+    (d, (token.Not ∷ mid), stacked, (denied t.tree, inl (denial (term_of (lit≤ tt) t.reads)), ap (λ l. node.Not ∷ l) t.nodes)) is_rest
 fill_sound m (frame.Join j) fs x y e g start rest h (d, mid, (d', mid', a, stacked, d_is, left, roomy), between) filled =
     let (i, is_truth, is_rest) = some_first (as_truth x e) (λ i. Some (operand.Truth, node.Join j ∷ i)) (y, g) filled in
     let t = truth_between m 6 x d e i mid rest between is_truth in
-    moved m fs start rest operand.Truth y (node.Join j ∷ i) g
-        (d', mid', stacked, (joined j a t.tree, inr (h, roomy, terms left (term_of (lit≤ tt) t.reads)), ap (λ l. node.Join j ∷ l)
-        (t.nodes ∙ ap (λ l. truth_onto t.tree l) d_is))) is_rest
+    moved m fs start rest operand.Truth y (node.Join j ∷ i) g (
+      d',
+      mid',
+      stacked,
+      (
+        joined j a t.tree,
+        inr (h, roomy, terms left (term_of (lit≤ tt) t.reads)),
+        ap (λ l. node.Join j ∷ l)
+            (t.nodes ∙ ap (λ l. truth_onto t.tree l) d_is),
+      ),
+    ) is_rest
 fill_sound m frame.Open fs x y e g start rest h b filled = cc
 fill_sound m (frame.Load p) fs x y e g start rest h b filled = cc
 

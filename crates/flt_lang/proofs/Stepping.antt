@@ -1,8 +1,8 @@
 -- Tokens with a first one, and what the loop of the reader needs of the machine.
-use Rattle.flt_lang.proofs.Common.{◌≡◌, ℕ, ◌+◌, ◌-◌, ◌<◌, ◌≤◌, ◌⊎◌, inl, inr, List, [], ◌∷◌, length, take, drop, get_or, ap, arith, Some, None, one-add,
-    take_rest, Token, TokenKind, Value, kinds_of, value_of, sym, ◌∙◌, refl, Option, drop-map, drop-drop, Node, Frame, Operand, State, run, after_operand,
-    begin_at, next_of, number_with_prefix, operand_precedence, token_precedence, reduce, Reduced, ◌>>=◌, nodes_of_tokens, finish, as_truth, NetMask, Divide,
-    mask_of}
+use Rattle.flt_lang.proofs.Common.{◌≡◌, ℕ, ◌+◌, ◌-◌, ◌<◌, ◌≤◌, ◌⊎◌, inl, inr, List, [], ◌∷◌, length, take, drop, get_or, ap, arith, Some, None, one-add}
+use Rattle.flt_lang.proofs.Common.{take_rest, Token, TokenKind, Value, kinds_of, value_of, sym, ◌∙◌, refl, Option, drop-map, drop-drop, Node, Frame, Operand}
+use Rattle.flt_lang.proofs.Common.{State, run, after_operand, begin_at, next_of, number_with_prefix, operand_precedence, token_precedence, reduce, Reduced}
+use Rattle.flt_lang.proofs.Common.{◌>>=◌, nodes_of_tokens, finish, as_truth, NetMask, Divide, mask_of}
 use Rattle.flt_lang.specs.declared.frame.Operand.TheVariants.{Either}
 use Rattle.flt_words.specs.declared.token.TokenKind.TheVariants as token
 use Rattle.flt_lang.specs.inside.Values.{Takes, prefix_of}

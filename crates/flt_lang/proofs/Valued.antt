@@ -1,11 +1,12 @@
 -- A value, with what stands before it or with nothing, as tokens and as the machine reads it. A
 -- number alone waits, since it may be arithmetic.
-use Rattle.flt_lang.proofs.Common.{◌≡◌, ℕ, suc, zero, ◌+◌, ◌-◌, ◌<◌, ◌≤◌, List, [], ◌∷◌, length, drop, refl, sym, ap, ◌∙◌, arith, is_some, ◌||◌, Option, Some,
-    None, Bool, true, false, drop-drop, Protocol, Divide, Side, Source, Destination, ValueType, TokenKind, Direction, Qualifiers, NetMask, Value, Node, Frame,
-    Operand, ReadsProtocol, no_protocol, protocol, ReadsDirection, no_direction, one_side, source_first, destination_first, ReadsType, no_type, of_type,
-    ReadsQualifiers, qualifiers, is_written, ReadsMask, no_mask, prefix, dotted_mask, ReadsValue, number, dotted, ip6, ip6_prefix, mac, range, starts_value,
-    protocol_of, direction_of, type_of, qualifiers_of, mask_of, value_of, ◌>>=◌, next_precedence, State, begin, run, valued_of, valued_or, primitive,
-    with_frames, bare_of}
+use Rattle.flt_lang.proofs.Common.{◌≡◌, ℕ, suc, zero, ◌+◌, ◌-◌, ◌<◌, ◌≤◌, List, [], ◌∷◌, length, drop, refl, sym, ap, ◌∙◌, arith, is_some, ◌||◌, Option, Some}
+use Rattle.flt_lang.proofs.Common.{None, Bool, true, false, drop-drop, Protocol, Divide, Side, Source, Destination, ValueType, TokenKind, Direction, Qualifiers}
+use Rattle.flt_lang.proofs.Common.{NetMask, Value, Node, Frame, Operand, ReadsProtocol, no_protocol, protocol, ReadsDirection, no_direction, one_side}
+use Rattle.flt_lang.proofs.Common.{source_first, destination_first, ReadsType, no_type, of_type, ReadsQualifiers, qualifiers, is_written, ReadsMask, no_mask}
+use Rattle.flt_lang.proofs.Common.{prefix, dotted_mask, ReadsValue, number, dotted, ip6, ip6_prefix, mac, range, starts_value, protocol_of, direction_of}
+use Rattle.flt_lang.proofs.Common.{type_of, qualifiers_of, mask_of, value_of, ◌>>=◌, next_precedence, State, begin, run, valued_of, valued_or, primitive}
+use Rattle.flt_lang.proofs.Common.{with_frames, bare_of}
 use Rattle.flt_lang.proofs.ValuesBack.{carried, type_back, direction_back, qualifiers_back, ends_protocol, value_back}
 use Rattle.flt_words.specs.declared.token.TokenKind.TheVariants as token
 use Rattle.flt_ast.specs.declared.value.Value.TheVariants as value
@@ -113,9 +114,9 @@ valued_runs {ts = ts} {mid = mid} {rest = rest} {q = q} {v = v} qs w vs fs d h =
     let value_is = value_back vs h in
     let qualifiers_are = qualifiers_back qs value_is.1 in
     let found : valued_of ts ≡ Some (q, v, length ts - length rest - 1) = ap (λ r. value_of r.1 >>= λ x. Some (r.0, x.0, length ts - length x.1 - 1))
-        qualifiers_are ∙ ap (λ o. o >>= λ x. Some (q, x.0, length ts - length x.1 - 1)) value_is.0 in
+    qualifiers_are ∙ ap (λ o. o >>= λ x. Some (q, x.0, length ts - length x.1 - 1)) value_is.0 in
     let begun : begin ts fs d ≡ Some (length ts - length rest - 1, (fs, Some operand.Truth, node.Valued q v ∷ d)) =
-        begin_front ts fs d (front qs w value_is.1) ∙ ap (λ o. with_frames fs (valued_or o ts d)) found in
+    begin_front ts fs d (front qs w value_is.1) ∙ ap (λ o. with_frames fs (valued_or o ts d)) found in
     runs_past (whole_suffix qs vs) (whole_some qs vs) fs d _ _ begun
 
 protocol_sound : (ts : List TokenKind) → ReadsProtocol ts (protocol_of ts).0 (protocol_of ts).1
@@ -190,9 +191,9 @@ pub value_runs : {ts rest : List TokenKind} {v : Value} → ReadsValue ts v rest
     → 6 ≤ next_precedence rest → run ts 0 fs None d ≡ run rest 0 fs (Some operand.Truth) (node.Bare v ∷ d)
 value_runs {ts = ts} {rest = rest} {v = v} vs is fs d h =
     let found : bare_of ts d ≡ Some (length ts - length rest - 1, Some operand.Truth, node.Bare v ∷ d) =
-        ap (λ o. o >>= λ r. Some (length ts - length r.1 - 1, Some operand.Truth, node.Bare r.0 ∷ d)) (value_back vs h).0 in
+    ap (λ o. o >>= λ r. Some (length ts - length r.1 - 1, Some operand.Truth, node.Bare r.0 ∷ d)) (value_back vs h).0 in
     let begun : begin ts fs d ≡ Some (length ts - length rest - 1, (fs, Some operand.Truth, node.Bare v ∷ d)) = begin_value ts fs d is
-        ∙ ap (λ o. with_frames fs o) found in
+    ∙ ap (λ o. with_frames fs o) found in
     runs_past (value_suffix vs) (value_some vs) fs d _ _ begun
 
 -- no mask stands here

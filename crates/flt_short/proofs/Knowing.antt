@@ -1,9 +1,11 @@
 -- What is known holds of the packet and of the registers.
-use Rattle.flt_short.proofs.Common.{◌≡◌, ℕ, zero, suc, ◌+◌, ◌≤◌, List, [], ◌∷◌, length, true, false, Option, Some, None, sym, ap, ◌∙◌, subst, arith, ◌⊎◌, inl,
-    inr, ◌==◌, if◌then◌else◌, slice_set, nat_tests, State, Operation, Insn, Next, Goes, does, goes_on_or_rejects, compute, LoadIndirect, Field, Held,
-    IndexValue, Known, same_optional, same_index, same_load, same_field, claims_nothing, allows, Implies, JoinsClaims, same_held, common_index, holds_field,
-    known_after, masked_held, held_at, and_parts, field_at, index_number, loaded, loaded_at, masked, value_of, IsThere, is_said, Says, HeldHolds, IndexHolds,
-    Holds, HoldsAt, LearnsEqual, Learns, Test, JumpIf, Constant, operand_value, test_holds, bit_and, not, Bool, refl, JoinsBy, JoinsFact, JoinsFacts, Arrives}
+use Rattle.flt_short.proofs.Common.{◌≡◌, ℕ, zero, suc, ◌+◌, ◌≤◌, List, [], ◌∷◌, length, true, false, Option, Some, None, sym, ap, ◌∙◌, subst, arith, ◌⊎◌, inl}
+use Rattle.flt_short.proofs.Common.{inr, ◌==◌, if◌then◌else◌, slice_set, nat_tests, State, Operation, Insn, Next, Goes, does, goes_on_or_rejects, compute}
+use Rattle.flt_short.proofs.Common.{LoadIndirect, Field, Held, IndexValue, Known, same_optional, same_index, same_load, same_field, claims_nothing, allows}
+use Rattle.flt_short.proofs.Common.{Implies, JoinsClaims, same_held, common_index, holds_field, known_after, masked_held, held_at, and_parts, field_at}
+use Rattle.flt_short.proofs.Common.{index_number, loaded, loaded_at, masked, value_of, IsThere, is_said, Says, HeldHolds, IndexHolds, Holds, HoldsAt}
+use Rattle.flt_short.proofs.Common.{LearnsEqual, Learns, Test, JumpIf, Constant, operand_value, test_holds, bit_and, not, Bool, refl, JoinsBy, JoinsFact}
+use Rattle.flt_short.proofs.Common.{JoinsFacts, Arrives}
 use Rattle.std.proofs.Common.{◌<◌, ◌&&◌, ◌%◌, ◌^◌, All, get_or, take}
 use Rattle.std.proofs.Math.Bool.{not-not}
 use Rattle.std.proofs.lemmas.List.{take_more_set, take_all}
@@ -32,7 +34,7 @@ same_loaded p n f g e =
     let q = and_parts (f.code == g.code && f.k == g.k) (same_index f.index g.index) e in
     let r = and_parts (f.code == g.code) (f.k == g.k) q.0 in
     ap (λ c. loaded (operation_of c) p n f.index f.k) (numbers f.code g.code r.0) ∙ ap (λ x. loaded (operation_of g.code) p n x f.k)
-        (same_indexes f.index g.index q.1) ∙ ap (loaded (operation_of g.code) p n g.index) (numbers f.k g.k r.1)
+    (same_indexes f.index g.index q.1) ∙ ap (loaded (operation_of g.code) p n g.index) (numbers f.k g.k r.1)
 
 pub same_value : (p : List ℕ) (n : ℕ) (f g : Field) → same_field f g ≡ true → value_of p n f ≡ value_of p n g
 same_value p n f g e =
@@ -176,8 +178,8 @@ learns_equal k i f outcome new o is learned p n s test operand e t h =
     let constant : operand ≡ Constant = cc in
     let holds : value_of p n f ≡ Some s.accumulator = subst (λ z. HeldHolds p n z s) is h.a in
     learned p n s.accumulator s holds
-        (sym (ap (λ u. test_holds u s.accumulator (operand_value operand i.k s.index)) equal
-        ∙ ap (λ u. test_holds Test.Equal s.accumulator (operand_value u i.k s.index)) constant) ∙ t) h
+    (sym (ap (λ u. test_holds u s.accumulator (operand_value operand i.k s.index)) equal
+    ∙ ap (λ u. test_holds Test.Equal s.accumulator (operand_value u i.k s.index)) constant) ∙ t) h
 
 pub learns_bits : (k : Known) (i : Insn) (f : Field) (outcome : Bool) (new : Known) → operation_of i.code ≡ Some (JumpIf Test.AnyBit Constant)
     → masked_held k.held i.k ≡ held.Field f → LearnsEqual k f 0 (not outcome) new → Learns k i outcome new
@@ -188,5 +190,5 @@ learns_bits k i f outcome new o is learned p n s test operand e t h =
     let bits = bit_and s.accumulator i.k in
     let holds : value_of p n f ≡ Some bits = subst (λ z. HeldHolds p n z (record s { accumulator = bits })) is (masks p n k.held i.k bits s h.a refl) in
     let shown : not (bits == 0) ≡ outcome = sym (ap (λ u. test_holds u s.accumulator (operand_value operand i.k s.index)) any
-        ∙ ap (λ u. test_holds Test.AnyBit s.accumulator (operand_value u i.k s.index)) constant) ∙ t in
+    ∙ ap (λ u. test_holds Test.AnyBit s.accumulator (operand_value u i.k s.index)) constant) ∙ t in
     learned p n bits s holds (sym (not-not (bits == 0)) ∙ ap not shown) h

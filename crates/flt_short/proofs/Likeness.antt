@@ -1,11 +1,12 @@
 -- Code that is alike has the answers of the old code, and a run of it meets no more instructions.
-use Rattle.flt_short.proofs.Common.{◌≡◌, inl, inr, ℕ, zero, suc, ◌+◌, ◌-◌, ◌<◌, ◌≤◌, List, [], ◌∷◌, length, drop, length-drop, Bool, true, false, Option, Some,
-    None, refl, sym, ap, ◌∙◌, subst, arith, ◌≢◌, All, count_by, ◌==◌, ◌&&◌, ◌||◌, not, if◌then◌else◌, slice_get, bit_and, and_parts, or_cases, nat_tests,
-    slice_get_within, get_or_from_slice_get, Insn, State, Operation, Load, Compute, Negate, Jump, JumpIf, ReturnConstant, ReturnAccumulator, CopyToIndex,
-    CopyToAccumulator, Accumulator, Index, Immediate, Length, Constant, IndexRegister, code_of, Next, Goes, Ends, Lost, does, does_if_known, operand_value,
-    test_holds, Answered, run_from, progress_after, step_if_there, machine, start, IsValidUnlessLong, JUMP, is_branch, goes_on, rejects, is_sure,
-    goes_on_or_rejects, goes_on_alike, are_copies, lands_at_if, lands_at, code_from, stands_at, stands, are_alike, answer_of, answer_after, get_or, parts,
-    known_step, plain_both}
+use Rattle.flt_short.proofs.Common.{◌≡◌, inl, inr, ℕ, zero, suc, ◌+◌, ◌-◌, ◌<◌, ◌≤◌, List, [], ◌∷◌, length, drop, length-drop, Bool, true, false, Option, Some}
+use Rattle.flt_short.proofs.Common.{None, refl, sym, ap, ◌∙◌, subst, arith, ◌≢◌, All, count_by, ◌==◌, ◌&&◌, ◌||◌, not, if◌then◌else◌, slice_get, bit_and}
+use Rattle.flt_short.proofs.Common.{and_parts, or_cases, nat_tests, slice_get_within, get_or_from_slice_get, Insn, State, Operation, Load, Compute, Negate}
+use Rattle.flt_short.proofs.Common.{Jump, JumpIf, ReturnConstant, ReturnAccumulator, CopyToIndex, CopyToAccumulator, Accumulator, Index, Immediate, Length}
+use Rattle.flt_short.proofs.Common.{Constant, IndexRegister, code_of, Next, Goes, Ends, Lost, does, does_if_known, operand_value, test_holds, Answered}
+use Rattle.flt_short.proofs.Common.{run_from, progress_after, step_if_there, machine, start, IsValidUnlessLong, JUMP, is_branch, goes_on, rejects, is_sure}
+use Rattle.flt_short.proofs.Common.{goes_on_or_rejects, goes_on_alike, are_copies, lands_at_if, lands_at, code_from, stands_at, stands, are_alike, answer_of}
+use Rattle.flt_short.proofs.Common.{answer_after, get_or, parts, known_step, plain_both}
 use Rattle.std.proofs.{Math.Seq.drop-nil, Math.Seq.drop-cons, lemmas.List.drop-drop}
 use Rattle.flt_bpf.specs.{Instructions.operation_of, Machine.step}
 use Rattle.flt_bpf.specs.Registers.{reads_accumulator, reads_index, sets_accumulator, sets_index}
@@ -164,7 +165,7 @@ module _ (p : List ℕ) (n : ℕ) where
       let one_is : drop far is ≡ drop (suc x + far) c = ap (drop far) is_at ∙ drop-drop far (suc x) c in
       let two_is : drop near js ≡ drop (suc y + near) c = ap (drop near) js_at ∙ drop-drop near (suc y) c in
       one_is ∙ same_tails c (suc x + far) (suc y + near) (ap length (sym one_is) ∙ length-drop far is ∙ same ∙ sym (length-drop near js)
-          ∙ ap length two_is) ∙ sym two_is) in
+      ∙ ap length two_is) ∙ sym two_is) in
       both js is j i s s _ _ (known_step p n j op s (ap operation_of (sym q.0))) (known_step p n i op s refl)
       (subst (λ m. Follows js is p n (does_if_known op (record j { k = m }) p n s) (does_if_known op i p n s)) q.1
       (alike op (λ h t. copies_good c is js (suc x) (suc y) is_at js_at h t) targets q.2))
@@ -193,7 +194,7 @@ module _ (p : List ℕ) (n : ℕ) where
       by None e f = cc
       by (Some m) e f =
           let q : (0 < m.place) × ((not m.accumulator || a) ≡ true) × ((not m.index || x) ≡ true)
-              × ((m.place == place || are_copies (code_from c m.place) (code_from c place)) ≡ true) = grind (arith, nat_tests) in
+          × ((m.place == place || are_copies (code_from c m.place) (code_from c place)) ≡ true) = grind (arith, nat_tests) in
           let good = all k m e q.0 s u v (implied_same m.accumulator a u s.accumulator q.1 h) (implied_same m.index x v s.index q.2 g) in
           elim (or_cases (m.place == place) (are_copies (code_from c m.place) (code_from c place)) q.3) [
             | inl z ↦ let same : m.place ≡ place = grind (arith, nat_tests) in subst (λ z. AsGood (code_from c z) is p n 0 k (other s u v) s) same good
@@ -215,10 +216,10 @@ module _ (p : List ℕ) (n : ℕ) where
         let good = landed c is ls all k (l.place - (1 + far)) a x f s u v h g in
         let start = length c - (l.place - 1) in
         let there : drop far following ≡ code_from c (l.place - (1 + far)) = drop-drop far start c ∙ same_tails c (start + far)
-            (length c - (l.place - (1 + far))) (omega (arith, length-drop (start + far) c, length-drop (length c - (l.place - (1 + far))) c)) in
+        (length c - (l.place - (1 + far))) (omega (arith, length-drop (start + far) c, length-drop (length c - (l.place - (1 + far))) c)) in
         let upper_bound = good.1 in
         let steps : steps_of following p n far (other s u v) ≡ steps_of (code_from c (l.place - (1 + far))) p n 0 (other s u v) =
-            sym (steps_drop following p n far (other s u v)) ∙ ap (λ z. steps_of z p n 0 (other s u v)) there in
+        sym (steps_drop following p n far (other s u v)) ∙ ap (λ z. steps_of z p n 0 (other s u v)) there in
         (λ b eb. sym (answer_drop following p n far (other s u v)) ∙ ap (λ z. answer_of z p n 0 (other s u v)) there ∙ good.0 b eb, omega arith)
 
     -- one instruction, with the same A and X where they are read
@@ -243,7 +244,7 @@ module _ (p : List ℕ) (n : ℕ) where
         let to = fit 0 0 (sets_accumulator op || l.accumulator) (sets_index op || l.index) f in
         does_both (Follows following is p n) op j i s a x e (ends following is) (lost following is)
         (λ q v. to (record s { accumulator = v }) v _ (λ z. refl) (same_x q)) (λ q v. to (record s { index = v }) _ v (same_a q) (λ z. refl))
-            (λ q r m. to (record s { memory = m }) _ _ (same_a q) (same_x r))
+        (λ q r m. to (record s { memory = m }) _ _ (same_a q) (same_x r))
 
     does_good : (op : Operation) (j i : Insn) → goes_on c op j l i ls ≡ true → (s : State) (a x : ℕ) → Same l.accumulator a s.accumulator
         → Same l.index x s.index → Follows following is p n
@@ -265,15 +266,15 @@ module _ (p : List ℕ) (n : ℕ) where
   same_good c is ls l all low j i (Some op) e f s a x ha hx =
       let d = code_from c (l.place - 1) in
       let q : (i.code ≡ j.code) × (i.k ≡ j.k) × ((not (reads_accumulator op) || l.accumulator) ≡ true) × ((not (reads_index op) || l.index) ≡ true)
-          × (goes_on c op j l i ls ≡ true) = grind (arith, nat_tests) in
+      × (goes_on c op j l i ls ≡ true) = grind (arith, nat_tests) in
       let a_is = read_is (reads_accumulator op) a s.accumulator (implied_same (reads_accumulator op) l.accumulator a s.accumulator q.2 ha) in
       let x_is = read_is (reads_index op) x s.index (implied_same (reads_index op) l.index x s.index q.3 hx) in
       both (code_from c (l.place - 1)) is j i (other s a x) s _ _ (known_step p n j (Some op) (other s a x) (ap operation_of (sym q.0) ∙ e))
-          (known_step p n i (Some op) s e)
+      (known_step p n i (Some op) s e)
       (subst (λ m. Follows (code_from c (l.place - 1)) is p n (does op (record j { k = m }) p n (other s a x)) (does op i p n s)) q.1
       (subst (λ (v : ℕ). Follows (code_from c (l.place - 1)) is p n (does op (record j { k = i.k }) p n (other s v x)) (does op i p n s)) (sym a_is)
       (subst (λ (v : ℕ). Follows (code_from c (l.place - 1)) is p n
-          (does op (record j { k = i.k }) p n (other s (read (reads_accumulator op) a s.accumulator) v)) (does op i p n s)) (sym x_is)
+      (does op (record j { k = i.k }) p n (other s (read (reads_accumulator op) a s.accumulator) v)) (does op i p n s)) (sym x_is)
       (does_good c is ls l all low op j i q.4 s a x ha hx))))
 
   coded_step : (o : Operation) (j : Insn) (s : State) → j.code ≡ code_of o → step j p n s ≡ does o j p n s
@@ -287,8 +288,8 @@ module _ (p : List ℕ) (n : ℕ) where
   one_good c [] ls l all low j i f s a x ha hx = cc
   one_good c (u ∷ is) ls l all low j i f s a x ha hx =
       let q : (i.code ≡ 84) × (u.code ≡ 21) × (u.k ≡ 0) × (j.code ≡ 69) × (i.k ≡ j.k) × (l.accumulator ≡ true)
-          × (lands_at c ls (1 + u.jt) (l.place - (1 + j.jf)) false l.index ≡ true)
-          × (lands_at c ls (1 + u.jf) (l.place - (1 + j.jt)) false l.index ≡ true) = grind (arith, nat_tests) in
+      × (lands_at c ls (1 + u.jt) (l.place - (1 + j.jf)) false l.index ≡ true)
+      × (lands_at c ls (1 + u.jf) (l.place - (1 + j.jt)) false l.index ≡ true) = grind (arith, nat_tests) in
       let s' : State = record s { accumulator = bit_and s.accumulator i.k } in
       let z = bit_and s.accumulator i.k == 0 in
       let second = coded_step (JumpIf Test.Equal Constant) u s' q.1 ∙ ap (λ m. Goes (if bit_and s.accumulator i.k == m then u.jt else u.jf) s') q.2 in
@@ -304,11 +305,11 @@ module _ (p : List ℕ) (n : ℕ) where
       ways f g true =
           let one : 1 + u.jt ≡ suc u.jt = omega arith in
           subst (λ m. AsGood (code_from c (l.place - 1)) (u ∷ is) p n j.jf m (other s a x) (record s { accumulator = bit_and s.accumulator i.k })) one
-              (fit c (u ∷ is) ls l all low (1 + u.jt) j.jf false l.index f (record s { accumulator = bit_and s.accumulator i.k }) a x (λ q. cc) hx)
+          (fit c (u ∷ is) ls l all low (1 + u.jt) j.jf false l.index f (record s { accumulator = bit_and s.accumulator i.k }) a x (λ q. cc) hx)
       ways f g false =
           let one : 1 + u.jf ≡ suc u.jf = omega arith in
           subst (λ m. AsGood (code_from c (l.place - 1)) (u ∷ is) p n j.jt m (other s a x) (record s { accumulator = bit_and s.accumulator i.k })) one
-              (fit c (u ∷ is) ls l all low (1 + u.jf) j.jt false l.index g (record s { accumulator = bit_and s.accumulator i.k }) a x (λ q. cc) hx)
+          (fit c (u ∷ is) ls l all low (1 + u.jf) j.jt false l.index g (record s { accumulator = bit_and s.accumulator i.k }) a x (λ q. cc) hx)
 
   -- an instruction that is left out
   rejected : (j : Insn) (js : List Insn) (s : State) → rejects j ≡ true → (answer_of (j ∷ js) p n 0 s ≡ Some 0) × (steps_of (j ∷ js) p n 0 s ≡ 1)
@@ -332,7 +333,7 @@ module _ (p : List ℕ) (n : ℕ) where
     set_left op v w o e keeps_a keeps_x f =
         old_alone (code_from c l.place) is i 0 (other s a x) s (other s v w) (known_step p n i (Some op) s o ∙ e)
         (landed c is ls all 0 l.place (l.accumulator && not (sets_accumulator op)) (l.index && not (sets_index op)) f (other s v w) a x
-            (kept l.accumulator (not (sets_accumulator op)) a s.accumulator v ha keeps_a) (kept l.index (not (sets_index op)) x s.index w hx keeps_x))
+        (kept l.accumulator (not (sets_accumulator op)) a s.accumulator v ha keeps_a) (kept l.index (not (sets_index op)) x s.index w hx keeps_x))
 
     sure_left : (op : Operation) → operation_of i.code ≡ Some op → is_sure op ≡ true → lands_at c ls 0 l.place
         (l.accumulator && not (sets_accumulator op)) (l.index && not (sets_index op)) ≡ true → Left
@@ -352,7 +353,7 @@ module _ (p : List ℕ) (n : ℕ) where
         → goes_on_or_rejects op ≡ true → lands_at c ls 0 l.place (l.accumulator && not (sets_accumulator op)) (l.index && not (sets_index op)) ≡ true → Left
     rejected_left op j js d o r e f =
         let only : (b : ℕ) → answer_after (answer_of is p n) (does op i p n s) ≡ Some b → Some 0 ≡ Some b =
-            plain_both p n (λ u v. (b : ℕ) → answer_after (answer_of is p n) v ≡ Some b → Some 0 ≡ Some b) (λ b eb. eb) (λ b eb. cc) op i i s e
+        plain_both p n (λ u v. (b : ℕ) → answer_after (answer_of is p n) v ≡ Some b → Some 0 ≡ Some b) (λ b eb. eb) (λ b eb. cc) op i i s e
         (λ t b eb. sym (there t).0 ∙ (landed c is ls all 0 l.place _ _ f t t.accumulator t.index (λ z. refl) (λ z. refl)).0 b eb) in
         let steps = (there (other s a x)).1 in
         (λ b eb. (there (other s a x)).0 ∙ only b (sym (ap (answer_after (answer_of is p n)) (known_step p n i (Some op) s o)) ∙ eb), omega arith)
@@ -367,7 +368,7 @@ module _ (p : List ℕ) (n : ℕ) where
     left_good (Some (JumpIf t v)) j js d o f =
         let q = and_parts (lands_at c ls i.jt l.place l.accumulator l.index) (lands_at c ls i.jf l.place l.accumulator l.index) f in
         old_alone (code_from c l.place) is i _ (other s a x) s s (known_step p n i (Some (JumpIf t v)) s o)
-            (way (test_holds t s.accumulator (operand_value v i.k s.index)) q.0 q.1)
+        (way (test_holds t s.accumulator (operand_value v i.k s.index)) q.0 q.1)
       where
         way : (b : Bool) → lands_at c ls i.jt l.place l.accumulator l.index ≡ true → lands_at c ls i.jf l.place l.accumulator l.index ≡ true
             → AsGood (code_from c l.place) is p n 0 (if b then i.jt else i.jf) (other s a x) s
@@ -375,7 +376,7 @@ module _ (p : List ℕ) (n : ℕ) where
         way false f g = landed c is ls all i.jf l.place l.accumulator l.index g s a x ha hx
     left_good (Some op) j js d o f =
         let q = and_parts (is_sure op || (rejects j && goes_on_or_rejects op)) (lands_at c ls 0 l.place (l.accumulator && not (sets_accumulator op))
-            (l.index && not (sets_index op))) f in
+        (l.index && not (sets_index op))) f in
         elim (or_cases (is_sure op) (rejects j && goes_on_or_rejects op) q.0) [
           | inl e ↦ sure_left op o e q.1
           | inr e ↦ let r = and_parts (rejects j) (goes_on_or_rejects op) e in rejected_left op j js d o r.0 r.1 q.1
@@ -428,8 +429,11 @@ module _ (p : List ℕ) (n : ℕ) where
       let same : b ≡ a = cc in
       let more : count + 1 ≡ m = cc in
       let here = steps_at prog p n place i s g ∙ ap (λ o. suc (steps_after (λ far w. steps_of prog p n (place + 1 + far) w) o)) st in
-      record { answer = at_step prog p n place i s g ∙ ap (answer_after (λ far w. answer_of prog p n (place + 1 + far) w)) st ∙ ap Some same; steps =
-          omega arith }
+      record {
+        answer = at_step prog p n place i s g ∙ ap (answer_after (λ far w. answer_of prog p n (place + 1 + far) w)) st ∙ ap Some same;
+        steps =
+            omega arith;
+      }
   met_next prog left place count s a m later i Lost g st f = cc
 
   met_there : (prog : List Insn) (left place count : ℕ) (s : State) (a m : ℕ)
@@ -478,8 +482,10 @@ replaced new old ls d short same any some top e few free valid =
       fewer = few;
       valid = λ v. valid_if_short new valid (omega (arith, short, (parts old v).short));
       runs = λ p n answer count m. shortened p n new old ls d answer count same any some top e m;
-      needed = λ h. record { each = λ place jump g j. absurd
-          (free place jump (slice_get_within new place jump g) (ap (λ i. i.code) (get_or_from_slice_get new place jump jump g) ∙ j)) };
+      needed = λ h. record {
+        each = λ place jump g j. absurd
+            (free place jump (slice_get_within new place jump g) (ap (λ i. i.code) (get_or_from_slice_get new place jump jump g) ∙ j));
+      };
       no_jump = λ h. free;
     }
 

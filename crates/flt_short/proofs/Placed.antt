@@ -1,12 +1,13 @@
 -- Wide code that is laid out: how many instructions it becomes, and that a jump stands only for a
 -- target that is too far for its test; that it gives the answers of the wide code; and that code
 -- without a fault stays so.
-use Rattle.flt_short.proofs.Common.{◌≡◌, ℕ, ◌+◌, ◌-◌, ◌*◌, ◌<◌, ◌≤◌, List, [], ◌∷◌, length, true, cond, Option, Some, refl, sym, arith, ◌≢◌, nat_le, count_by,
-    nat_tests, All-cons, All-head, All-tail, Insn, Operation, Jump, JumpIf, is_branch, JUMP, MOST_OFFSET, HasNoJump, IsShort, back_of_code, PlacedCode,
-    with_offsets, with_test_by, with_insn, placed_code, laid_out, zero, suc, Bool, false, ap, ◌∙◌, inl, inr, ◌⊎◌, slice_get, if◌then◌else◌, IsNeeded,
-    JumpsAreNeeded, with_jump, is_near, with_way, way, place_at, subst, ◌==◌, ◌&&◌, nat_lt, All, All-take, All-replicate, State, answer_of, emitted,
-    with_noted_jump, jump_near, None, ReturnConstant, ReturnAccumulator, Test, Operand, does_if_known, test_holds, operand_value, answer_after, ends_in_return,
-    Load, Compute, Memory, unless, fault_if_known, is_return, IsFaultless, IsValidUnlessLong, Constant, plain_both, known_step, length-drop}
+use Rattle.flt_short.proofs.Common.{◌≡◌, ℕ, ◌+◌, ◌-◌, ◌*◌, ◌<◌, ◌≤◌, List, [], ◌∷◌, length, true, cond, Option, Some, refl, sym, arith, ◌≢◌, nat_le, count_by}
+use Rattle.flt_short.proofs.Common.{nat_tests, All-cons, All-head, All-tail, Insn, Operation, Jump, JumpIf, is_branch, JUMP, MOST_OFFSET, HasNoJump, IsShort}
+use Rattle.flt_short.proofs.Common.{back_of_code, PlacedCode, with_offsets, with_test_by, with_insn, placed_code, laid_out, zero, suc, Bool, false, ap, ◌∙◌}
+use Rattle.flt_short.proofs.Common.{inl, inr, ◌⊎◌, slice_get, if◌then◌else◌, IsNeeded, JumpsAreNeeded, with_jump, is_near, with_way, way, place_at, subst, ◌==◌}
+use Rattle.flt_short.proofs.Common.{◌&&◌, nat_lt, All, All-take, All-replicate, State, answer_of, emitted, with_noted_jump, jump_near, None, ReturnConstant}
+use Rattle.flt_short.proofs.Common.{ReturnAccumulator, Test, Operand, does_if_known, test_holds, operand_value, answer_after, ends_in_return, Load, Compute}
+use Rattle.flt_short.proofs.Common.{Memory, unless, fault_if_known, is_return, IsFaultless, IsValidUnlessLong, Constant, plain_both, known_step, length-drop}
 use Rattle.std.proofs.lemmas.List.Sums.{count_by-le-length, sum_by-cons}
 use Rattle.std.specs.Prelude.{slice_index}
 use Rattle.flt_bpf.proofs.{Jumps.jump_later, Jumps.needed_put}
@@ -39,7 +40,7 @@ at_most [] = omega arith
 at_most (i ∷ is) =
     let g = emitted_grows (operation_of i.code) i (placed_code is) in
     let more : count_by (λ j. is_branch (operation_of j.code)) (i ∷ is) ≡ cond (is_branch (operation_of i.code)) 1 0 + count_by
-        (λ j. is_branch (operation_of j.code)) is = sum_by-cons (λ j. cond (is_branch (operation_of j.code)) 1 0) i is in
+    (λ j. is_branch (operation_of j.code)) is = sum_by-cons (λ j. cond (is_branch (operation_of j.code)) 1 0) i is in
     omega (arith, g.few, at_most is)
 
 -- three for each at most
@@ -66,7 +67,7 @@ short_stays [] none short = record { no_jump = none; short = omega arith }
 short_stays (i ∷ is) none short =
     let before = short_stays is (All-tail (λ j. j.code ≢ JUMP) i is none) (omega arith) in
     let now = emitted_plain (operation_of i.code) i (placed_code is) refl (All-head (λ j. j.code ≢ JUMP) i is none) before.no_jump
-        (omega (arith, before.short)) in
+    (omega (arith, before.short)) in
     record { no_jump = now.no_jump; short = omega (arith, now.short, before.short) }
 
 -- a jump at which the test in front goes on
@@ -176,8 +177,13 @@ one_more i l noted = record { more = omega arith; places = refl; same = λ to p 
     by (j ∷ c) some = refl
 
 both_more : {l m o : PlacedCode} → Extends l m → Extends m o → Extends l o
-both_more h g = record { more = omega (arith, h.more, g.more); places = g.places ∙ h.places; same = λ to p n s b. g.same to p n s
-    (omega (arith, b, h.more)) ∙ h.same to p n s b; ends = λ some. g.ends (omega (arith, some, h.more)) ∙ h.ends some }
+both_more h g = record {
+  more = omega (arith, h.more, g.more);
+  places = g.places ∙ h.places;
+  same = λ to p n s b. g.same to p n s
+      (omega (arith, b, h.more)) ∙ h.same to p n s b;
+  ends = λ some. g.ends (omega (arith, some, h.more)) ∙ h.ends some;
+}
 
 pub way_more : (near : Bool) (to : ℕ) (l : PlacedCode) → Extends l (with_way near to l)
 way_more true to l = record { more = omega arith; places = refl; same = λ to p n s b. refl; ends = λ some. refl }
@@ -333,7 +339,7 @@ emitted_same (Some ReturnConstant) i l is p n s e h = plain _ i 0 0 l.code p n s
 emitted_same (Some ReturnAccumulator) i l is p n s e h = plain _ i 0 0 l.code p n s e
 emitted_same (Some op) i l is p n s e h =
     plain _ i 0 0 l.code p n s e ∙ plain_both p n (λ u v. answer_after (answer_of l.code p n) u ≡ answer_after (answer_of is p n) v) refl refl op
-        (with_offsets i 0 0) i s refl (λ t. h.next p n t)
+    (with_offsets i 0 0) i s refl (λ t. h.next p n t)
 
 lays_put : (i : Insn) (l : PlacedCode) (is : List Insn) → Lays l is → Lays (put i l) (i ∷ is)
 unfolding step
@@ -367,8 +373,13 @@ lays_put i l is h = record { leads = all_emitted op i l h.inside h.leads; inside
     arrives p n (suc k) s = ap (λ to. answer_of m.code p n (length m.code - to) s) (kept k) ∙ more.same _ p n s (h.inside k) ∙ h.arrives p n k s
 
 pub lays : (wide : List Insn) → Lays (placed_code wide) wide
-lays [] = record { leads = All-replicate (Leads []) 4 _ (record { goes = stays [] 0 (omega arith); inside = omega arith }); inside = λ k. omega arith;
-    some = λ k b. absurd (omega arith); next = λ p n s. refl; arrives = λ p n k s. refl }
+lays [] = record {
+  leads = All-replicate (Leads []) 4 _ (record { goes = stays [] 0 (omega arith); inside = omega arith });
+  inside = λ k. omega arith;
+  some = λ k b. absurd (omega arith);
+  next = λ p n s. refl;
+  arrives = λ p n k s. refl;
+}
 lays (i ∷ is) = lays_put i (placed_code is) is (lays is)
 
 pub same_answers : (wide : List Insn) (p : List ℕ) (n : ℕ) (s : State) → answer_of (laid_out wide) p n 0 s ≡ answer_of wide p n 0 s

@@ -1,11 +1,12 @@
 -- A run may go on where a walk ends instead of where it began; so threaded code returns the same, and keeps its
 -- length, its tests and what breaks no rule.
-use Rattle.flt_short.proofs.Common.{◌≡◌, ℕ, zero, suc, ◌+◌, ◌<◌, List, [], ◌∷◌, length, drop, Bool, true, false, Option, Some, None, refl, sym, ap, ◌∙◌, subst,
-    arith, if◌then◌else◌, slice_get, slice_set, bit_and, nat_tests, map, Insn, State, Operation, LoadAbsolute, LoadIndirect, Load, LoadHeaderLength, Compute,
-    Jump, JumpIf, Accumulator, Index, Immediate, Length, Constant, Next, Goes, does_if_known, into, answer_of, answer_after, operand_value, test_holds,
-    is_branch, not, Field, Held, IndexValue, Known, same_held, same_index, IsOutcome, masked_held, load_of, held_after, is_free_by, is_free, known_step,
-    count_by, get_or, cond, start, does, goes_on_or_rejects, ends_in_return, known_after, loaded, loaded_at, IsThere, HeldHolds, IndexHolds, Holds, HoldsAt,
-    IsClaimAbout, Learns, Arrives, with_a, IsDecided, Passes, LeadsTo, GoesOn, Moves, Alike, IsThreaded, AreThreaded}
+use Rattle.flt_short.proofs.Common.{◌≡◌, ℕ, zero, suc, ◌+◌, ◌<◌, List, [], ◌∷◌, length, drop, Bool, true, false, Option, Some, None, refl, sym, ap, ◌∙◌, subst}
+use Rattle.flt_short.proofs.Common.{arith, if◌then◌else◌, slice_get, slice_set, bit_and, nat_tests, map, Insn, State, Operation, LoadAbsolute, LoadIndirect}
+use Rattle.flt_short.proofs.Common.{Load, LoadHeaderLength, Compute, Jump, JumpIf, Accumulator, Index, Immediate, Length, Constant, Next, Goes, does_if_known}
+use Rattle.flt_short.proofs.Common.{into, answer_of, answer_after, operand_value, test_holds, is_branch, not, Field, Held, IndexValue, Known, same_held}
+use Rattle.flt_short.proofs.Common.{same_index, IsOutcome, masked_held, load_of, held_after, is_free_by, is_free, known_step, count_by, get_or, cond, start}
+use Rattle.flt_short.proofs.Common.{does, goes_on_or_rejects, ends_in_return, known_after, loaded, loaded_at, IsThere, HeldHolds, IndexHolds, Holds, HoldsAt}
+use Rattle.flt_short.proofs.Common.{IsClaimAbout, Learns, Arrives, with_a, IsDecided, Passes, LeadsTo, GoesOn, Moves, Alike, IsThreaded, AreThreaded}
 use Rattle.flt_short.proofs.Knowing.{same_indexes, same_value, same_holds, loaded_by, loads_at, After, after, masks}
 use Rattle.flt_short.proofs.Likeness.{at_step}
 use Rattle.std.proofs.Common.{◌≤◌, ◌++◌, take, append_assoc}
@@ -35,7 +36,7 @@ module _ (p : List ℕ) (n : ℕ) where
   free_same (i ∷ is) e s a =
       ap (answer_after (answer_of is p n)) (known_step p n i (operation_of i.code) (with_a s a) refl)
       ∙ free_both (λ u v. answer_after (answer_of is p n) u ≡ answer_after (answer_of is p n) v) i s a (operation_of i.code) (is_free is) (λ u. refl)
-          (λ f x m. free_same is f (record { accumulator = s.accumulator; index = x; memory = m }) a) e
+      (λ f x m. free_same is f (record { accumulator = s.accumulator; index = x; memory = m }) a) e
       ∙ sym (ap (answer_after (answer_of is p n)) (known_step p n i (operation_of i.code) s refl))
 
 -- what a walk passes
@@ -45,23 +46,29 @@ decides k h f c number b is about outcome p n s a holds x = outcome a (about p n
 
 pub passes_test : (k : Known) (i : Insn) (h : Held) (b : Bool) (far : ℕ) → operation_of i.code ≡ Some (JumpIf Test.Equal Constant)
     → IsDecided k h i.k b → (if b then i.jt else i.jf) ≡ far → Passes k i h far
-passes_test k i h b far o decided there p n s a holds x =
-    (a, known_step p n i (Some (JumpIf Test.Equal Constant)) (with_a s a) o ∙ ap (λ z. Goes (if z then i.jt else i.jf) (with_a s a))
-        (decided p n s a holds x) ∙ ap (λ m. Goes m (with_a s a)) there)
+passes_test k i h b far o decided there p n s a holds x = (
+  a,
+  known_step p n i (Some (JumpIf Test.Equal Constant)) (with_a s a) o ∙ ap (λ z. Goes (if z then i.jt else i.jf) (with_a s a))
+      (decided p n s a holds x) ∙ ap (λ m. Goes m (with_a s a)) there,
+)
 
 pub passes_bits : (k : Known) (i : Insn) (h : Held) (b : Bool) (far : ℕ) → operation_of i.code ≡ Some (JumpIf Test.AnyBit Constant)
     → IsDecided k (masked_held h i.k) 0 b → (if not b then i.jt else i.jf) ≡ far → Passes k i h far
 passes_bits k i h b far o decided there p n s a holds x =
-    let bits = decided p n s (bit_and a i.k) holds (masks p n h i.k (bit_and a i.k) (with_a s a) x refl) in
-    (a, known_step p n i (Some (JumpIf Test.AnyBit Constant)) (with_a s a) o ∙ ap (λ z. Goes (if not z then i.jt else i.jf) (with_a s a)) bits
-        ∙ ap (λ m. Goes m (with_a s a)) there)
+    let bits = decided p n s (bit_and a i.k) holds (masks p n h i.k (bit_and a i.k) (with_a s a) x refl) in (
+      a,
+      known_step p n i (Some (JumpIf Test.AnyBit Constant)) (with_a s a) o ∙ ap (λ z. Goes (if not z then i.jt else i.jf) (with_a s a)) bits
+          ∙ ap (λ m. Goes m (with_a s a)) there,
+    )
 
 pub passes_load : (k : Known) (i : Insn) (h : Held) (w : Width) → operation_of i.code ≡ Some (LoadAbsolute w)
     → ((p : List ℕ) (n : ℕ) (s : State) → Holds p n k s → IsThere p n (load_of i IndexValue.Unknown)) → Passes k i h 0
 passes_load k i h w o there p n s a holds x =
-    let t = there p n s holds in
-    (t.0, known_step p n i (Some (LoadAbsolute w)) (with_a s a) o ∙ ap (λ z. into Accumulator z (with_a s a))
-        (ap (λ z. loaded z p n IndexValue.Unknown i.k) (sym o) ∙ t.1))
+    let t = there p n s holds in (
+      t.0,
+      known_step p n i (Some (LoadAbsolute w)) (with_a s a) o ∙ ap (λ z. into Accumulator z (with_a s a))
+          (ap (λ z. loaded z p n IndexValue.Unknown i.k) (sym o) ∙ t.1),
+    )
 
 pub passes_known_at : (k : Known) (i : Insn) (h : Held) (w : Width) → operation_of i.code ≡ Some (LoadIndirect w)
     → ((p : List ℕ) (n : ℕ) (s : State) → Holds p n k s → IsThere p n (load_of i k.index)) → Passes k i h 0
@@ -72,15 +79,17 @@ passes_known_at k i h w o there p n s a holds x =
 
 pub passes_load_at : (k : Known) (i : Insn) (h : Held) (w : Width) → operation_of i.code ≡ Some (LoadIndirect w) → same_held (held.AtIndex i.code i.k)
     k.held ≡ true → Passes k i h 0
-passes_load_at k i h w o e p n s a holds x =
-    (s.accumulator, known_step p n i (Some (LoadIndirect w)) (with_a s a) o ∙ ap (λ z. into Accumulator z (with_a s a))
-        (ap (λ z. loaded_at z p s.index i.k) (sym o) ∙ same_holds p n (held.AtIndex i.code i.k) k.held s e holds.a))
+passes_load_at k i h w o e p n s a holds x = (
+  s.accumulator,
+  known_step p n i (Some (LoadIndirect w)) (with_a s a) o ∙ ap (λ z. into Accumulator z (with_a s a))
+      (ap (λ z. loaded_at z p s.index i.k) (sym o) ∙ same_holds p n (held.AtIndex i.code i.k) k.held s e holds.a),
+)
 
 pub passes_header : (k : Known) (i : Insn) (h : Held) → operation_of i.code ≡ Some LoadHeaderLength
     → same_index k.index (IndexValue.HeaderLength i.k) ≡ true → Passes k i h 0
 passes_header k i h o e p n s a holds x =
     let is : IndexHolds p (IndexValue.HeaderLength i.k) s.index = subst (λ z. IndexHolds p z s.index)
-        (same_indexes k.index (IndexValue.HeaderLength i.k) e) holds.x in
+    (same_indexes k.index (IndexValue.HeaderLength i.k) e) holds.x in
     (a, known_step p n i (Some LoadHeaderLength) (with_a s a) o ∙ ap (λ z. into Index z (with_a s a)) is)
 
 pub passes_number : (k : Known) (i : Insn) (h : Held) → operation_of i.code ≡ Some (Load Index Immediate)
@@ -115,7 +124,7 @@ walks_on k c spot best here far found i g near passes later p n s a holds x e =
     let r = passes p n s a holds x in
     let so_far = near p n s a holds x e in
     let next = held_next p n k s holds (operation_of i.code) i spot.held a r.0 far refl x
-        (sym (known_step p n i (operation_of i.code) (with_a s a) refl) ∙ r.1) in
+    (sym (known_step p n i (operation_of i.code) (with_a s a) refl) ∙ r.1) in
     later p n s r.0 holds next (sym (stepped c spot i p n a r.0 far s g r.1) ∙ e ∙ sym so_far) ∙ so_far
 
 -- or after both outcomes of a test
@@ -172,7 +181,7 @@ module _ (from : ℕ) (k : Known) (i : Insn) (is : List Insn) where
     keeps = keeps;
     runs = λ d alike p n s holds.
         ap (answer_after (answer_of d p n)) (known_step p n i op s o) ∙ runs d alike p n s holds
-            ∙ sym (ap (answer_after (answer_of is p n)) (known_step p n i op s o));
+        ∙ sym (ap (answer_after (answer_of is p n)) (known_step p n i op s o));
   }
 
   pub jump_threaded : (old seen : List Known) → operation_of i.code ≡ Some Jump → Arrives k (from + i.k) old seen → IsThreaded from k i is i old seen
@@ -207,8 +216,8 @@ module _ (from : ℕ) (k : Known) (i : Insn) (is : List Insn) where
     keeps = λ p n q s x. second.keeps p n q s (first.keeps p n q s x);
     runs = λ d alike p n s holds.
         ap (answer_after (answer_of d p n)) (known_step p n (record i { jt = a; jf = b }) (Some (JumpIf t o)) s e) ∙ way d alike p n s holds
-            (test_holds t s.accumulator (operand_value o i.k s.index)) refl
-            ∙ sym (ap (answer_after (answer_of is p n)) (known_step p n i (Some (JumpIf t o)) s e));
+        (test_holds t s.accumulator (operand_value o i.k s.index)) refl
+        ∙ sym (ap (answer_after (answer_of is p n)) (known_step p n i (Some (JumpIf t o)) s e));
   }
     where
       way : (d : List Insn) → Alike from seen d is → (p : List ℕ) (n : ℕ) (s : State) → Holds p n k s → (z : Bool) → test_holds t s.accumulator
@@ -253,7 +262,7 @@ threaded_more begin old before seen k xs at e j l so_far there one d rest =
     let next : suc at ≡ at + 1 = omega arith in
     let here : drop at xs ≡ get_or xs at e ∷ drop (at + 1) xs = drop-cons xs at e l ∙ ap (λ m. get_or xs at e ∷ drop m xs) next in
     let whole = so_far (j ∷ d) (subst (AreThreaded at before (j ∷ d)) (sym here) (threaded_front at k (get_or xs at e) j (drop (at + 1) xs) d before
-        seen there one left)) in
+    seen there one left)) in
     subst (λ new. AreThreaded 0 begin new old) (sym (ap (λ front. front ++ d) (take_more_set xs at j l) ∙ append_assoc (take at xs) (j ∷ []) d)) whole
 
 pub threaded_all : (begin : List Known) (old : List Insn) (seen : List Known) (xs : List Insn) (at : ℕ) → length xs ≤ at → ThreadedSoFar begin old
@@ -261,7 +270,7 @@ pub threaded_all : (begin : List Known) (old : List Insn) (seen : List Known) (x
 threaded_all begin old seen xs at l so_far =
     let none : AreThreaded at seen [] [] = record { codes = refl; sound = λ f. tt; runs = λ p n m s x. refl } in
     subst (λ new. AreThreaded 0 begin new old) (append-nil (take at xs) ∙ take_all at xs l)
-        (so_far [] (subst (AreThreaded at seen []) (sym (drop_all at xs l)) none))
+    (so_far [] (subst (AreThreaded at seen []) (sym (drop_all at xs l)) none))
 
 -- what the codes of instructions decide
 count_codes : (is : List Insn) → count_by (λ i. is_branch (operation_of i.code)) is ≡ count_by (λ (c : ℕ). is_branch (operation_of c)) (codes_of is)

@@ -1,8 +1,9 @@
 -- A run that asks each instruction whether it breaks a rule: its steps, and that it is the
 -- machine's run where none does.
-use Rattle.flt_trace.proofs.Common.{◌≡◌, ℕ, zero, suc, ◌+◌, ◌-◌, ◌<◌, ◌≤◌, List, length, true, Option, Some, None, refl, sym, ap, ◌∙◌, subst, arith, slice_get,
-    IsSomeAnd, slice_get_within, slice_get_past, Insn, State, Next, Goes, Ends, Lost, Progress, Stands, Answered, Stuck, step, step_if_there, progress_after,
-    run_from, start, machine, step_unless, step_by_rules, by_rules_from, run_end, run_by_rules, BreaksRuleAt, MeetsNoBrokenRule, OperationBreaks, IsValid}
+use Rattle.flt_trace.proofs.Common.{◌≡◌, ℕ, zero, suc, ◌+◌, ◌-◌, ◌<◌, ◌≤◌, List, length, true, Option, Some, None, refl, sym, ap, ◌∙◌, subst, arith, slice_get}
+use Rattle.flt_trace.proofs.Common.{IsSomeAnd, slice_get_within, slice_get_past, Insn, State, Next, Goes, Ends, Lost, Progress, Stands, Answered, Stuck, step}
+use Rattle.flt_trace.proofs.Common.{step_if_there, progress_after, run_from, start, machine, step_unless, step_by_rules, by_rules_from, run_end, run_by_rules}
+use Rattle.flt_trace.proofs.Common.{BreaksRuleAt, MeetsNoBrokenRule, OperationBreaks, IsValid}
 use Rattle.std.proofs.Common.{◌⊎◌, inl, inr}
 use Rattle.std.specs.Option.{is_some}
 use Rattle.flt_bpf.specs.{Check.fault_of, Instructions.operation_of, declared.fault.CheckFault.CheckFault}
@@ -65,8 +66,16 @@ same_or_broken prog p n (suc t) place count s = found (λ k s'. same_or_broken p
         → SameOrBroken prog p n t (place + 1 + k) (count + 1) s' → SameOrBroken prog p n (suc t) place count s
     led i k s' g f e (inl same) = inl (rw (g, f, e) same)
     led i k s' g f e (inr b) =
-        inr (record { met = suc b.met; at = b.at; state = b.state; fault = b.fault; stands = rw (g, e) b.stands; breaks = b.breaks; stuck =
-            rw (g, f, e) b.stuck })
+        inr (record {
+          met = suc b.met;
+          at = b.at;
+          state = b.state;
+          fault = b.fault;
+          stands = rw (g, e) b.stands;
+          breaks = b.breaks;
+          stuck =
+              rw (g, f, e) b.stuck;
+        })
 
     judged : Later → (i : Insn) (o : Option CheckFault) (m : Next) → slice_get prog place ≡ Some i → fault_of i (length prog - (place + 1)) ≡ o
         → step i p n s ≡ m → SameOrBroken prog p n (suc t) place count s
@@ -74,8 +83,16 @@ same_or_broken prog p n (suc t) place count s = found (λ k s'. same_or_broken p
     judged later i None (Ends a) g f e = inl (rw (g, f, e))
     judged later i None Lost g f e = inl (rw (g, f, e))
     judged later i (Some fault) m g f e =
-        inr (record { met = 0; at = place; state = s; fault = fault; stands = refl; breaks =
-            rw g (found_breaks i place (length prog) fault (slice_get_within prog place i g) f); stuck = rw (g, f) })
+        inr (record {
+          met = 0;
+          at = place;
+          state = s;
+          fault = fault;
+          stands = refl;
+          breaks =
+              rw g (found_breaks i place (length prog) fault (slice_get_within prog place i g) f);
+          stuck = rw (g, f);
+        })
 
     found : Later → (o : Option Insn) → slice_get prog place ≡ o → SameOrBroken prog p n (suc t) place count s
     found later None g = inl (rw g)

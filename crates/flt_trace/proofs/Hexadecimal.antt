@@ -1,6 +1,6 @@
 -- Digits in base 16, from the last to the first.
-use Rattle.flt_trace.proofs.Common.{◌≡◌, ℕ, zero, suc, ◌+◌, ◌-◌, ◌/◌, ◌%◌, ◌^◌, ◌<◌, ◌≤◌, List, ◌∷◌, false, sym, ap, ◌∙◌, arith, tests, drop, length, slice_set,
-    drop-set, digit_glyph, digits_onto}
+use Rattle.flt_trace.proofs.Common.{◌≡◌, ℕ, zero, suc, ◌+◌, ◌-◌, ◌/◌, ◌%◌, ◌^◌, ◌<◌, ◌≤◌, List, ◌∷◌, false, sym, ap, ◌∙◌, arith, tests, drop, length, slice_set}
+use Rattle.flt_trace.proofs.Common.{drop-set, digit_glyph, digits_onto}
 use Rattle.std.proofs.lemmas.Grind.{pow_more}
 
 -- one more digit of a number that has others

@@ -1,7 +1,7 @@
 -- A run is where the trace says, and what is written of it stays.
-use Rattle.flt_trace.proofs.Common.{◌≡◌, ◌≢◌, ℕ, zero, suc, ◌+◌, ◌-◌, ◌<◌, ◌≤◌, List, length, Some, refl, sym, ap, ◌∙◌, subst, arith, length-set, below_more,
-    slice_get, slice_set, IsSomeAnd, Insn, State, Next, Goes, Ends, Lost, Stands, step, step_if_there, progress_after, run_from, start, machine, IsValid, parts,
-    goes_inside, run_ends, run_goes}
+use Rattle.flt_trace.proofs.Common.{◌≡◌, ◌≢◌, ℕ, zero, suc, ◌+◌, ◌-◌, ◌<◌, ◌≤◌, List, length, Some, refl, sym, ap, ◌∙◌, subst, arith, length-set, below_more}
+use Rattle.flt_trace.proofs.Common.{slice_get, slice_set, IsSomeAnd, Insn, State, Next, Goes, Ends, Lost, Stands, step, step_if_there, progress_after, run_from}
+use Rattle.flt_trace.proofs.Common.{start, machine, IsValid, parts, goes_inside, run_ends, run_goes}
 use Rattle.std.proofs.lemmas.{Grind.common_steps, Option.gets}
 use Rattle.flt_trace.specs.{Trace.IsAfter, Trace.Traces, declared.walk.Step.Step, inside.Trace.step_at}
 

@@ -1,11 +1,12 @@
 -- Groups of digits, the parts of a text between separators, and the numbers of addresses. A text is
 -- one list of groups at most.
-use Rattle.flt_words.proofs.Common.{◌≡◌, ℕ, ◌^◌, ◌<◌, ◌≤◌, List, [], ◌∷◌, ◌++◌, length, refl, sym, ap, ◌∙◌, arith, false, ◌==◌, Result, Ok, Err, lit<, lit≤,
-    MatchOption, pow-le-pow_right, nat_tests, digits_value-lt, AllByRecursion, join_with_byte, slice_split, AllDigits, IsNumeral, digits_value, Group,
-    WordFault, AreGroups, IsGroup, group_value, separator_of, base_of, WritesNumber, is_word_sized, FindsMeaning, has, suc, zero, ◌+◌, ◌*◌, get_or, subst,
-    add-one, map, pow-add, pow-suc, add_assoc, mul-le-mul_right, mul-lt-mul_of_pos_right, mul_assoc, pow-zero, number_push, Bor, number_from_digits,
-    group_values, ◌-◌, ◌%◌, length-append, replicate, Some, number_after_append, number_lt, length-map, AllBelowBase, number_from_digits_after, AreIp6Ends,
-    IsDotted, IsWholeAddress, ReadsGroups, or_parts, mul-mod_left}
+use Rattle.flt_words.proofs.Common.{◌≡◌, ℕ, ◌^◌, ◌<◌, ◌≤◌, List, [], ◌∷◌, ◌++◌, length, refl, sym, ap, ◌∙◌, arith, false, ◌==◌, Result, Ok, Err, lit<, lit≤}
+use Rattle.flt_words.proofs.Common.{MatchOption, pow-le-pow_right, nat_tests, digits_value-lt, AllByRecursion, join_with_byte, slice_split, AllDigits}
+use Rattle.flt_words.proofs.Common.{IsNumeral, digits_value, Group, WordFault, AreGroups, IsGroup, group_value, separator_of, base_of, WritesNumber}
+use Rattle.flt_words.proofs.Common.{is_word_sized, FindsMeaning, has, suc, zero, ◌+◌, ◌*◌, get_or, subst, add-one, map, pow-add, pow-suc, add_assoc}
+use Rattle.flt_words.proofs.Common.{mul-le-mul_right, mul-lt-mul_of_pos_right, mul_assoc, pow-zero, number_push, Bor, number_from_digits, group_values, ◌-◌}
+use Rattle.flt_words.proofs.Common.{◌%◌, length-append, replicate, Some, number_after_append, number_lt, length-map, AllBelowBase, number_from_digits_after}
+use Rattle.flt_words.proofs.Common.{AreIp6Ends, IsDotted, IsWholeAddress, ReadsGroups, or_parts, mul-mod_left}
 use Rattle.flt_words.proofs.Numbers.{digits_lack, same}
 use Rattle.std.specs.Result.{result_ok}
 use Rattle.std.proofs.lemmas.List.Splits.{join_with_byte-slice_split}
@@ -68,7 +69,7 @@ groups_are_parts {form} {text} {groups} are some = parts_are form text groups ar
 pub small_answer : (digits : List ℕ) (most : ℕ) (r : Result ℕ WordFault) → most ≤ 4 → length digits ≤ most → FindsMeaning (WritesNumber 16 digits)
     is_word_sized r
     → MatchOption (result_ok r) (IsNumeral 16 digits × (length digits ≤ most) → ⊥) (λ n. IsNumeral 16 digits × (length digits ≤ most)
-        × (n ≡ digits_value 16 digits))
+    × (n ≡ digits_value 16 digits))
 small_answer digits most (Ok n) low upper_bound h = (h.0.numeral, upper_bound, sym h.0.value)
 small_answer digits most (Err fault.TooLarge) low upper_bound h =
     let below = small_hexadecimal digits most h.1.numeral.1 upper_bound in
@@ -262,14 +263,14 @@ pub ends_below : {front back : List ℕ} {a : ℕ} → AreIp6Ends front back a �
 ends_below e =
     rw (e.value ∙ sym (ends_value group.Quad e.first e.last e.at_most_seven))
     (ends_fit _ (length e.first) _ (length e.last) (groups_below group.Quad e.first e.are_first.each) (groups_below group.Quad e.last e.are_last.each)
-        e.at_most_seven)
+    e.at_most_seven)
 
 -- two to four parts are 32 bits, the last of them 0 if they are missing
 pub dotted_below : {word : List ℕ} {a parts : ℕ} → IsDotted word a parts → (a < 2 ^ 32) × (a % 256 ^ (4 - parts) ≡ 0)
 dotted_below {word} {a} {parts} d =
     let front = number_from_digits 256 (group_values group.Octet d.groups) in
     let is : a ≡ front * 256 ^ (4 - parts) = d.value ∙ number_zeros 256 (4 - length d.groups) (group_values group.Octet d.groups)
-        ∙ ap (λ n. front * 256 ^ (4 - n)) (sym d.count) in
+    ∙ ap (λ n. front * 256 ^ (4 - n)) (sym d.count) in
     let below : front < 256 ^ parts = rw d.count (groups_below group.Octet d.groups d.are.each) in
     let four : parts + (4 - parts) ≡ 4 = omega (arith, d.count, d.at_most_four) in
     (rw is (rw four at (shifted_small group.Octet front parts (4 - parts) below)), rw is (mul-mod_left front (256 ^ (4 - parts))))

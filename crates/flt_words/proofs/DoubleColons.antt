@@ -1,8 +1,8 @@
 -- Where two colons stand in an IPv6 address.
-use Rattle.flt_words.proofs.Common.{◌≡◌, ◌≢◌, ℕ, suc, zero, ◌+◌, ◌<◌, List, [], ◌∷◌, ◌++◌, length, get_or, take, drop, refl, sym, ap, ◌∙◌, subst, arith, false,
-    ◌==◌, Option, Some, None, MatchOption, add-one, length-append, drop-cons, drop-append-add, get_or-append_seam, take-append_seam, nat_tests,
-    get_or-append-add, get_or_append_left, take-append-drop, AllByRecursion, join_with_byte, AreGroups, AreIp6Ends, IsGroup, IsIp6, IsWholeIp6, IsDoubleColon,
-    shortened, whole, has, or_parts, Group}
+use Rattle.flt_words.proofs.Common.{◌≡◌, ◌≢◌, ℕ, suc, zero, ◌+◌, ◌<◌, List, [], ◌∷◌, ◌++◌, length, get_or, take, drop, refl, sym, ap, ◌∙◌, subst, arith, false}
+use Rattle.flt_words.proofs.Common.{◌==◌, Option, Some, None, MatchOption, add-one, length-append, drop-cons, drop-append-add, get_or-append_seam}
+use Rattle.flt_words.proofs.Common.{take-append_seam, nat_tests, get_or-append-add, get_or_append_left, take-append-drop, AllByRecursion, join_with_byte}
+use Rattle.flt_words.proofs.Common.{AreGroups, AreIp6Ends, IsGroup, IsIp6, IsWholeIp6, IsDoubleColon, shortened, whole, has, or_parts, Group}
 use Rattle.flt_words.proofs.AddressValues.{group_lacks, group_some}
 
 -- each colon stands before another byte
@@ -79,7 +79,7 @@ cut_at_two word i inside double =
     let next : suc i < length word = omega arith in
     let first : drop i word ≡ 58 ∷ drop (suc i) word = drop-cons word i 0 below ∙ ap (λ b. b ∷ drop (suc i) word) double.0 in
     let second : drop (suc i) word ≡ 58 ∷ drop (suc (suc i)) word = drop-cons word (suc i) 0 next ∙ ap (λ b. b ∷ drop (suc (suc i)) word)
-        (rw add-one at double.1) in
+    (rw add-one at double.1) in
     let two : suc (suc i) ≡ i + 2 = omega arith in
     sym (take-append-drop i word) ∙ ap (λ rest. take i word ++ rest) (first ∙ ap (λ rest. 58 ∷ rest) (second ∙ ap (λ k. 58 ∷ drop k word) two))
 

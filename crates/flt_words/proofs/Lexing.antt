@@ -1,7 +1,8 @@
 -- The steps of cutting a text into tokens.
-use Rattle.flt_words.proofs.Common.{◌≡◌, ℕ, ◌+◌, ◌<◌, ◌≤◌, List, [], ◌∷◌, ◌++◌, length, get_or, take, drop, refl, sym, ap, ◌∙◌, subst, arith, Bool, true, false,
-    ◌==◌, ◌-◌, cond, count_by, nat_lt, Result, Ok, Err, take-add, nat_tests, length-take, take_rest, count_by-le-length, count_by_more_no, sum_by-append,
-    ExprFault, Token, TokenKind, is_blank, is_inside, IsRefused, IsToken, TokensFrom, before, at_end, blank, refused, token}
+use Rattle.flt_words.proofs.Common.{◌≡◌, ℕ, ◌+◌, ◌<◌, ◌≤◌, List, [], ◌∷◌, ◌++◌, length, get_or, take, drop, refl, sym, ap, ◌∙◌, subst, arith, Bool, true, false}
+use Rattle.flt_words.proofs.Common.{◌==◌, ◌-◌, cond, count_by, nat_lt, Result, Ok, Err, take-add, nat_tests, length-take, take_rest, count_by-le-length}
+use Rattle.flt_words.proofs.Common.{count_by_more_no, sum_by-append, ExprFault, Token, TokenKind, is_blank, is_inside, IsRefused, IsToken, TokensFrom, before}
+use Rattle.flt_words.proofs.Common.{at_end, blank, refused, token}
 
 -- an answer after tokens
 abbrev pub after : List Token → Result (List Token) ExprFault → Result (List Token) ExprFault

@@ -1,8 +1,8 @@
 -- Numbers in words, and ranges; where a byte cuts a word.
-use Rattle.flt_words.proofs.Common.{◌≡◌, ◌≢◌, ℕ, ◌+◌, ◌<◌, ◌≤◌, List, [], ◌∷◌, ◌++◌, length, get_or, take, drop, refl, arith, Bool, true, false, ◌==◌, cond,
-    nat_lt, Option, Some, None, subst, nat_tests, passes_at_first, split_at_first, digit_value, position, position_or_len, AllDigits, has, ◌^◌, digits_value,
-    are_digits, WritesNumber, is_word_sized, ◌⊎◌, ⊎_elim, ◌||◌, sym, lit≤, IsNumber, WritesDecimal, decimal, octal, hexadecimal, capital_hexadecimal,
-    take-append_seam, drop-append-add, IsRange, joined, ◌∙◌}
+use Rattle.flt_words.proofs.Common.{◌≡◌, ◌≢◌, ℕ, ◌+◌, ◌<◌, ◌≤◌, List, [], ◌∷◌, ◌++◌, length, get_or, take, drop, refl, arith, Bool, true, false, ◌==◌, cond}
+use Rattle.flt_words.proofs.Common.{nat_lt, Option, Some, None, subst, nat_tests, passes_at_first, split_at_first, digit_value, position, position_or_len}
+use Rattle.flt_words.proofs.Common.{AllDigits, has, ◌^◌, digits_value, are_digits, WritesNumber, is_word_sized, ◌⊎◌, ⊎_elim, ◌||◌, sym, lit≤, IsNumber}
+use Rattle.flt_words.proofs.Common.{WritesDecimal, decimal, octal, hexadecimal, capital_hexadecimal, take-append_seam, drop-append-add, IsRange, joined, ◌∙◌}
 use Rattle.std.proofs.lemmas.{Bool.or_parts, List.length-append}
 use Rattle.cap_octet.proofs.Numerals.{digits_from_test, digits_pass}
 
@@ -32,7 +32,7 @@ ltb_is m n h = grind (arith, nat_tests)
 pub cut_at : (c : ℕ) (front back : List ℕ) → has c front ≡ false → position (λ b. b == c) (front ++ c ∷ back) ≡ Some (length front)
 cut_at c front back lacks =
     let within : nat_lt (length front) (length (front ++ c ∷ back)) ≡ true = ltb_is (length front) (length (front ++ c ∷ back))
-        (simp length-append (omega arith)) in
+    (simp length-append (omega arith)) in
     rw (first_after c front back lacks, within) refl
 
 found_within : (m n i : ℕ) (b : Bool) → nat_lt m n ≡ b → ◌≡◌ {A = Option ℕ} (cond b (Some m) None) (Some i) → (m < n) × (m ≡ i)

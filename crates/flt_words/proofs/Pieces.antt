@@ -1,7 +1,7 @@
 -- The longest piece at the front of a text.
-use Rattle.flt_words.proofs.Common.{◌≡◌, ℕ, ◌+◌, ◌-◌, ◌<◌, ◌≤◌, ◌≢◌, suc, zero, List, [], ◌∷◌, below_more, length, get_or, take, refl, sym, ap, ◌∙◌, arith,
-    Bool, true, false, length-take-le, Some, None, lit<, lit≤, subst, ⊎_elim, cases_lt, false≢true, get_or-take, TokenKind, starts_word, within_word, symbol_of,
-    IsLongest, IsPiece, IsWordPiece, symbol, word}
+use Rattle.flt_words.proofs.Common.{◌≡◌, ℕ, ◌+◌, ◌-◌, ◌<◌, ◌≤◌, ◌≢◌, suc, zero, List, [], ◌∷◌, below_more, length, get_or, take, refl, sym, ap, ◌∙◌, arith}
+use Rattle.flt_words.proofs.Common.{Bool, true, false, length-take-le, Some, None, lit<, lit≤, subst, ⊎_elim, cases_lt, false≢true, get_or-take, TokenKind}
+use Rattle.flt_words.proofs.Common.{starts_word, within_word, symbol_of, IsLongest, IsPiece, IsWordPiece, symbol, word}
 use Rattle.flt_words.proofs.Tables.{symbol_piece}
 
 -- what the loop over a word's bytes finds out, up to where it stops
@@ -64,7 +64,7 @@ last_starts : (inside : Bool) (rest : List ℕ) (m : ℕ) → 0 < m → m ≤ le
 last_starts inside rest m some within w =
     let long : length (take m rest) ≡ m = length-take-le m rest within in
     let same : get_or (take m rest) (length (take m rest) - 1) 0 ≡ get_or rest (m - 1) 0 = ap (λ k. get_or (take m rest) (k - 1) 0) long
-        ∙ taken rest m (m - 1) (omega arith) in
+    ∙ taken rest m (m - 1) (omega arith) in
     sym (ap (starts_word inside) same) ∙ w.ends
 
 module _ (inside : Bool) (rest : List ℕ) (len stop : ℕ) (scanned : IsScanned inside rest len stop) (in_range : stop ≤ length rest)

@@ -1,9 +1,10 @@
 -- What holds of each entry of a table holds of what is looked up; and brackets stand in the tokens
 -- of brackets alone.
-use Rattle.flt_words.proofs.Common.{◌≡◌, ℕ, List, [], ◌∷◌, refl, subst, Bool, true, false, ◌&&◌, not, ◌==◌, eqb-true, cond, Option, Some, get_or, nat_lt,
-    bytes_eq-Decides, list_all, bytes_eq, TokenKind, has, Spellings, keyword_of, look_up, fits, ◌<◌, ◌≤◌, count_by, length, codes, arith, lit≤,
-    is_ascii_alphanumeric, is_blank, starts_word, symbol_of, suc, take, sym, ap, ◌∙◌, Ok, false≢true, within_word, IsToken, IsWordPiece, PieceMeans,
-    symbol_meaning, word_meaning, Spells, keyword, known, and_parts, not-true, or_parts, ltb-true}
+use Rattle.flt_words.proofs.Common.{◌≡◌, ℕ, List, [], ◌∷◌, refl, subst, Bool, true, false, ◌&&◌, not, ◌==◌, eqb-true, cond, Option, Some, get_or, nat_lt}
+use Rattle.flt_words.proofs.Common.{bytes_eq-Decides, list_all, bytes_eq, TokenKind, has, Spellings, keyword_of, look_up, fits, ◌<◌, ◌≤◌, count_by, length}
+use Rattle.flt_words.proofs.Common.{codes, arith, lit≤, is_ascii_alphanumeric, is_blank, starts_word, symbol_of, suc, take, sym, ap, ◌∙◌, Ok, false≢true}
+use Rattle.flt_words.proofs.Common.{within_word, IsToken, IsWordPiece, PieceMeans, symbol_meaning, word_meaning, Spells, keyword, known, and_parts, not-true}
+use Rattle.flt_words.proofs.Common.{or_parts, ltb-true}
 use Rattle.flt_words.specs.Spellings.{keywords, symbols}
 use Rattle.flt_words.specs.declared.token.TokenKind.TheVariants as token
 
@@ -121,8 +122,14 @@ symbol_passes P colon table inside piece kind found = step inside (bytes_eq piec
     step false same e is = table false piece kind is
 
 pub symbol_piece : (inside : Bool) (piece : List ℕ) (kind : TokenKind) → symbol_of inside piece ≡ Some kind → IsSymbolPiece inside piece kind
-symbol_piece = symbol_passes IsSymbolPiece (record { starts_none = refl; no_blank = refl; some = lit≤ tt; upper_bound = lit≤ tt; brackets =
-    record { opened = refl; closed = refl } }) in_table
+symbol_piece = symbol_passes IsSymbolPiece (record {
+  starts_none = refl;
+  no_blank = refl;
+  some = lit≤ tt;
+  upper_bound = lit≤ tt;
+  brackets =
+      record { opened = refl; closed = refl };
+}) in_table
 
 pub opens_none : (kind : TokenKind) → (kind ≡ token.OpenBracket → ⊥) → openings kind ≡ 0
 opens_none token.OpenBracket other = absurd (other refl)

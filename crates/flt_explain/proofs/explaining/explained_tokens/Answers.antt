@@ -13,4 +13,4 @@ loop-at-preserved g c = record {
 pub returns : goal.returns
 returns g c =
     all_written c.args.expr.now c.nodes-nodes.result.now c.loop-at.writer c.into_tokens.result.items c.loop-at.at c.loop-at-test.false
-        c.nodes-nodes.ensures c.loop-at.invariant.writer c.into_tokens.ensures
+    c.nodes-nodes.ensures c.loop-at.invariant.writer c.into_tokens.ensures

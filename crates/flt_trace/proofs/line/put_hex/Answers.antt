@@ -33,4 +33,4 @@ pub returns-clause-value : goal.returns-clause-value
 returns-clause-value c =
     let inv = c.loop-rest.invariant in
     put_last c.loop-rest.start c.loop-rest.rest _ c.loop-rest.digits (omega (arith, inv.inside, inv.eight)) c.loop-rest-test.false
-        c.hex_digit-2.ensures ∙ inv.value
+    c.hex_digit-2.ensures ∙ inv.value

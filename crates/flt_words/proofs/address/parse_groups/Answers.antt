@@ -15,8 +15,8 @@ next_part : (c : In-Some) → (length c.loop-digits.yielded < length (parts_of c
 next_part c =
     let callee = ap split_callee c.into_iter-digits-iterator.ensures.into_iter_gives ∙ c.split-digits-items.ensures.closure in
     rw (← c.separator-separator.ensures)
-        (YieldsList-turn (YieldsList-from_slice_split _ (λ b. b == c.separator-separator.result) c.args.text.now (cc) (cc) callee
-        (λ x b q k. search rules)) c.loop-digits.yielded _ c.loop-digits.yielded_by _ _ c.in-Some.digits c.in-Some.is c.next.ensures.steps)
+    (YieldsList-turn (YieldsList-from_slice_split _ (λ b. b == c.separator-separator.result) c.args.text.now (cc) (cc) callee
+    (λ x b q k. search rules)) c.loop-digits.yielded _ c.loop-digits.yielded_by _ _ c.in-Some.digits c.in-Some.is c.next.ensures.steps)
 
 pub returns-in_err-digit : goal.returns-in_err-digit
 returns-in_err-digit c =
@@ -31,13 +31,13 @@ returns-then-count-eq8 c =
 pub overflow_mul-value : goal.overflow_mul-value
 overflow_mul-value c =
     let fits = step_fits c.args.form c.in-Some.digits.now c.loop-digits.value c.loop-digits.count c.in_ok-digit.digit c.from.result
-        (c.from.ensures ∙ c.base.ensures) c.in_ok-digit.ensures c.loop-digits.invariant.small (omega arith) in
+    (c.from.ensures ∙ c.base.ensures) c.in_ok-digit.ensures c.loop-digits.invariant.small (omega arith) in
     omega arith
 
 pub overflow_add-value : goal.overflow_add-value
 overflow_add-value c =
     let fits = step_fits c.args.form c.in-Some.digits.now c.loop-digits.value c.loop-digits.count c.in_ok-digit.digit c.from.result
-        (c.from.ensures ∙ c.base.ensures) c.in_ok-digit.ensures c.loop-digits.invariant.small (omega arith) in
+    (c.from.ensures ∙ c.base.ensures) c.in_ok-digit.ensures c.loop-digits.invariant.small (omega arith) in
     omega (arith, c.from-in-loop-digits.ensures)
 
 pub loop-digits-preserved : goal.loop-digits-preserved
@@ -46,9 +46,9 @@ loop-digits-preserved c =
     let seen = map (λ (x : Bor (List ℕ)). x.now) c.loop-digits.yielded in
     let each = each_pushed (IsGroup c.args.form) seen c.in-Some.digits.now c.loop-digits.invariant.each c.in_ok-digit.ensures.0 in
     let value = step_value c.args.form seen c.in-Some.digits.now c.loop-digits.value c.in_ok-digit.digit c.from.result base c.in_ok-digit.ensures
-        c.loop-digits.invariant.value in
+    c.loop-digits.invariant.value in
     let small = step_small c.args.form c.in-Some.digits.now c.loop-digits.value c.loop-digits.count c.in_ok-digit.digit c.from.result base
-        c.in_ok-digit.ensures c.loop-digits.invariant.small in
+    c.in_ok-digit.ensures c.loop-digits.invariant.small in
     record {
       can_next = search of_calls;
       is_finite = tt;
@@ -63,7 +63,7 @@ pub returns : goal.returns
 returns c =
     let callee = ap split_callee c.into_iter-digits-iterator.ensures.into_iter_gives ∙ c.split-digits-items.ensures.closure in
     let ended = YieldsList-end (YieldsList-from_slice_split _ (λ b. b == c.separator-separator.result) c.args.text.now (cc) (cc) callee
-        (λ x b q k. search rules)) c.loop-digits.yielded _ c.loop-digits.yielded_by _ _ c.in-None.is c.next.ensures.steps in
+    (λ x b q k. search rules)) c.loop-digits.yielded _ c.loop-digits.yielded_by _ _ c.in-None.is c.next.ensures.steps in
     let all : map (λ (x : Bor (List ℕ)). x.now) c.loop-digits.yielded ≡ parts_of c.args.form c.args.text.now = rw (← c.separator-separator.ensures) ended.0 in
     let long = length-map c.loop-digits.yielded (λ (x : Bor (List ℕ)). x.now) in
     (map (λ x. x.now) c.loop-digits.yielded, all_read _ c.loop-digits.invariant.each all, omega arith, omega arith, c.loop-digits.invariant.value)

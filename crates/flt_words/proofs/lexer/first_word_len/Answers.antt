@@ -21,7 +21,7 @@ loop-i-preserved c =
 pub returns-after-loop-i : goal.returns-after-loop-i
 returns-after-loop-i c =
     longest_word c.args.inside c.args.rest.now c.loop-i.len c.loop-i.i c.loop-i.invariant
-        (omega (arith, begins_some c.args.inside c.args.rest.now c.requires)) c.requires (λ h. absurd (omega arith))
+    (omega (arith, begins_some c.args.inside c.args.rest.now c.requires)) c.requires (λ h. absurd (omega arith))
 
 pub returns-then-not-within_word : goal.returns-then-not-within_word
 returns-then-not-within_word c = longest_word c.args.inside c.args.rest.now c.loop-i.len c.loop-i.i c.loop-i.invariant (omega arith) c.requires

@@ -1,6 +1,6 @@
 -- A word that no reader takes means nothing.
-use Rattle.flt_words.proofs.Common.{◌≡◌, ℕ, List, None, sym, ◌∙◌, TokenKind, IsDotted, IsIp6, IsMac, IsNumber, IsRange, Spells, keyword, number, dotted, range,
-    mac, ip6, keyword_of, known, too_large, unknown}
+use Rattle.flt_words.proofs.Common.{◌≡◌, ℕ, List, None, sym, ◌∙◌, TokenKind, IsDotted, IsIp6, IsMac, IsNumber, IsRange, Spells, keyword, number, dotted, range}
+use Rattle.flt_words.proofs.Common.{mac, ip6, keyword_of, known, too_large, unknown}
 use Rattle.flt_words.proofs.Tables.{keyword_is_plain}
 use Rattle.flt_words.proofs.word.word_kind_at.Goals as goal
 
@@ -29,5 +29,5 @@ returns-in-Err-TooLarge-parse_range c =
 pub returns-in-Err-Unknown-parse_range : goal.returns-in-Err-Unknown-parse_range
 returns-in-Err-Unknown-parse_range c =
     unknown (nothing (rw c.in-Err-Unknown.field-0-is at c.in-Err-Unknown.ensures) c.in_default.ensures
-        (sym c.keyword_of.ensures ∙ c.in_default-keyword_of.is) c.in_default-parse_mac.ensures c.in_default-parse_ip6.ensures
-        (rw c.in-Err-Unknown-parse_range.field-0-is at c.in-Err-Unknown-parse_range.ensures))
+    (sym c.keyword_of.ensures ∙ c.in_default-keyword_of.is) c.in_default-parse_mac.ensures c.in_default-parse_ip6.ensures
+    (rw c.in-Err-Unknown-parse_range.field-0-is at c.in-Err-Unknown-parse_range.ensures))

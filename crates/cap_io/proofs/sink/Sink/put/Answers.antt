@@ -17,8 +17,15 @@ returns-in-Err-clause-answer g c =
     puts-tell old.state old p (Err c.in-Err.fault) _ (λ f e. c.in_default.not-Broken f (ap (λ (s : SinkView). s.state) c.self.view_is ∙ e))
     (record {
       adds = adds-broken old p c.in-Err.fault _ _ c.in-Err.ensures.answer
-          (ap (λ (s : SinkView). record { format = s.format; state = Broken c.in-Err.fault; interfaces = s.interfaces; written = s.written; failures =
-              s.failures; room = s.room }) c.self-2.view_is);
+          (ap (λ (s : SinkView). record {
+            format = s.format;
+            state = Broken c.in-Err.fault;
+            interfaces = s.interfaces;
+            written = s.written;
+            failures =
+                s.failures;
+            room = s.room;
+          }) c.self-2.view_is);
       broken = refl;
     })
 

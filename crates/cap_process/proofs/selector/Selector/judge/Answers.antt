@@ -1,8 +1,8 @@
-use Rattle.cap_process.proofs.Common.{◌≡◌, ℕ, Bool, true, false, Option, Ok, refl, ap, sym, ◌∙◌, subst, arith, Captured, captured, TooManyPackets, Judgement,
-    SelectorState, is_last, judge_by, refuses, judge, SelectorView, policy_of, programs_in, spent_by_verdict, window_of, is_count, marks_in, state_of,
-    GrowsByOne, HasFewMarks, ReturnsVerdict, IsVerdict, count_limit, verdict_if, verdict_of}
-use Rattle.cap_process.proofs.Selectors.{counted-spends, judged-spends, refused-spends, upper_bound, too-many, tells-count, tells-none, tells-passed,
-    window-few}
+use Rattle.cap_process.proofs.Common.{◌≡◌, ℕ, Bool, true, false, Option, Ok, refl, ap, sym, ◌∙◌, subst, arith, Captured, captured, TooManyPackets, Judgement}
+use Rattle.cap_process.proofs.Common.{SelectorState, is_last, judge_by, refuses, judge, SelectorView, policy_of, programs_in, spent_by_verdict, window_of}
+use Rattle.cap_process.proofs.Common.{is_count, marks_in, state_of, GrowsByOne, HasFewMarks, ReturnsVerdict, IsVerdict, count_limit, verdict_if, verdict_of}
+use Rattle.cap_process.proofs.Selectors.{counted-spends, judged-spends, refused-spends, upper_bound, too-many, tells-count, tells-none, tells-passed}
+use Rattle.cap_process.proofs.Selectors.{window-few}
 use Rattle.cap_process.proofs.selector.Selector.judge.Goals.{then-passed-number, else-passed-number}
 use Rattle.cap_process.specs.{declared.selector.Verdict.Verdict, inside.Selector.FitsTally}
 use Rattle.cap_process.proofs.selector.Selector.judge.Goals as goal
@@ -10,10 +10,10 @@ use Rattle.cap_process.proofs.selector.Selector.judge.Goals as goal
 pub returns-then-is_count-clause-exact : goal.returns-then-is_count-clause-exact
 returns-then-is_count-clause-exact g c = λ within counted.
     let P : SelectorView → Type 0 = λ v. FitsTally v.state.tally → IsVerdict (judge v.policy v.state c.args.number (captured c.args.packet.now))
-        (Ok Verdict.Skip) (captured c.args.packet.now) (state_of c.self.inside.passed (marks_in c.self.inside.window) c.counted-self-inside.result) in
+    (Ok Verdict.Skip) (captured c.args.packet.now) (state_of c.self.inside.passed (marks_in c.self.inside.window) c.counted-self-inside.result) in
     subst P c.self.view_is
     (λ upper_bound. tells-count (policy_of c.self.inside.policy) c.self.inside.passed (marks_in c.self.inside.window) c.self.inside.tally
-        c.counted-self-inside.result c.args.number (captured c.args.packet.now) Verdict.Skip
+    c.counted-self-inside.result c.args.number (captured c.args.packet.now) Verdict.Skip
     (sym c.is_count.ensures ∙ c.if-is_count.true) refl (c.counted-self-inside.ensures.counted upper_bound))
     counted
 
@@ -28,7 +28,7 @@ pub returns-then-is_count-clause-spends : goal.returns-then-is_count-clause-spen
 returns-then-is_count-clause-spends g c =
     let P : SelectorView → Type 0 = λ v. programs_in c.self.inside.policy ≡ spent_by_verdict v.policy c.args.number (captured c.args.packet.now) v.programs in
     subst P c.self.view_is (counted-spends (policy_of c.self.inside.policy) c.args.number (captured c.args.packet.now)
-        (programs_in c.self.inside.policy) (sym c.is_count.ensures ∙ c.if-is_count.true))
+    (programs_in c.self.inside.policy) (sym c.is_count.ensures ∙ c.if-is_count.true))
 
 pub returns-then-is_count-clause-upper_bound : goal.returns-then-is_count-clause-upper_bound
 returns-then-is_count-clause-upper_bound g c = window-few (window_of (policy_of c.self.inside.policy)) c.self.inside.window c.self.invariant
@@ -43,7 +43,7 @@ pub returns-then-number-ge-NUMBER_END-clause-spends : goal.returns-then-number-g
 returns-then-number-ge-NUMBER_END-clause-spends g c =
     let P : SelectorView → Type 0 = λ v. v.programs ≡ spent_by_verdict v.policy c.args.number (captured c.args.packet.now) v.programs in
     subst P c.self.view_is (refused-spends (policy_of c.self.inside.policy) c.args.number (captured c.args.packet.now)
-        (programs_in c.self.inside.policy) (sym c.is_count.ensures ∙ c.if-is_count.false) c.if-number-ge-NUMBER_END.true)
+    (programs_in c.self.inside.policy) (sym c.is_count.ensures ∙ c.if-is_count.false) c.if-number-ge-NUMBER_END.true)
 
 pub returns-then-number-ge-NUMBER_END-clause-upper_bound : goal.returns-then-number-ge-NUMBER_END-clause-upper_bound
 returns-then-number-ge-NUMBER_END-clause-upper_bound g c =
@@ -54,7 +54,7 @@ pub returns-in_err-keeps-clause-spends : goal.returns-in_err-keeps-clause-spends
 returns-in_err-keeps-clause-spends g c =
     let P : SelectorView → Type 0 = λ v. programs_in c.keeps.new.self ≡ spent_by_verdict v.policy c.args.number (captured c.args.packet.now) v.programs in
     subst P c.self.view_is (c.keeps.ensures.spends ∙ judged-spends (policy_of c.self.inside.policy) c.args.number (captured c.args.packet.now)
-        (programs_in c.self.inside.policy) (sym c.is_count.ensures ∙ c.if-is_count.false) c.if-number-ge-NUMBER_END.false)
+    (programs_in c.self.inside.policy) (sym c.is_count.ensures ∙ c.if-is_count.false) c.if-number-ge-NUMBER_END.false)
 
 pub returns-in_err-keeps-clause-upper_bound : goal.returns-in_err-keeps-clause-upper_bound
 returns-in_err-keeps-clause-upper_bound g c = rw c.keeps.ensures.policy (window-few (window_of (policy_of c.self.inside.policy)) c.keeps.new.window
@@ -78,7 +78,7 @@ pub returns-then-not-branch-clause-spends : goal.returns-then-not-branch-clause-
 returns-then-not-branch-clause-spends g c =
     let P : SelectorView → Type 0 = λ v. programs_in c.keeps.new.self ≡ spent_by_verdict v.policy c.args.number (captured c.args.packet.now) v.programs in
     subst P c.self.view_is (c.keeps.ensures.spends ∙ judged-spends (policy_of c.self.inside.policy) c.args.number (captured c.args.packet.now)
-        (programs_in c.self.inside.policy) (sym c.is_count.ensures ∙ c.if-is_count.false) c.if-number-ge-NUMBER_END.false)
+    (programs_in c.self.inside.policy) (sym c.is_count.ensures ∙ c.if-is_count.false) c.if-number-ge-NUMBER_END.false)
 
 pub returns-then-not-branch-clause-upper_bound : goal.returns-then-not-branch-clause-upper_bound
 returns-then-not-branch-clause-upper_bound g c = rw c.keeps.ensures.policy (window-few (window_of (policy_of c.self.inside.policy)) c.keeps.new.window
@@ -95,7 +95,7 @@ returns g c =
     let K : Bool → Type 0 = λ b. ReturnsVerdict (count_limit (policy_of w.policy)) (judge_by (policy_of w.policy) state c.args.number p) (Ok b) q after in
     let keeps : K true = subst K c.if-not-branch.false (c.in_ok-keeps.ensures.exact w.passed w.tally judges) in
     let is : verdict_of c.pass_verdict.result q ≡ verdict_if q (is_last (count_limit (policy_of c.if-passed-number.self-inside.policy))
-        c.if-passed-number.self-inside.passed) =
+    c.if-passed-number.self-inside.passed) =
     c.pass_verdict.ensures q ∙ ap (λ (n : Option ℕ). verdict_if q (is_last n c.if-passed-number.self-inside.passed)) c.count_limit.ensures in
     elim c.if-passed-number.branch [
       | then-passed-number b ↦

@@ -7,11 +7,22 @@ returns-in-Some g c = after-end g.I.Input.tells g.O.Output.tells g.E.Output.tell
     c.in-Some.is c.requires
 
 pub count_step-requires : goal.count_step-requires
-count_step-requires g c = record { prepared = c.do_next-end.ensures.preparing ∙ c.requires; upper_bound = may-count _ _ c.args.self.now _ _
-    (record { step = c.do_next-end.ensures; prepared = c.requires; undone = (ap (λ (v : JobView). v.done) (sym c.self.view_is) ∙ c.in_default.is);
-    sound = subst IsSound c.self.view_is c.self.invariant }) }
+count_step-requires g c = record {
+  prepared = c.do_next-end.ensures.preparing ∙ c.requires;
+  upper_bound = may-count _ _ c.args.self.now _ _
+      (record {
+        step = c.do_next-end.ensures;
+        prepared = c.requires;
+        undone = (ap (λ (v : JobView). v.done) (sym c.self.view_is) ∙ c.in_default.is);
+        sound = subst IsSound c.self.view_is c.self.invariant;
+      });
+}
 
 pub returns : goal.returns
 returns g c = c.count_step.ensures c.args.self.now
-    (record { step = c.do_next-end.ensures; prepared = c.requires; undone = (ap (λ (v : JobView). v.done) (sym c.self.view_is) ∙ c.in_default.is);
-    sound = subst IsSound c.self.view_is c.self.invariant })
+    (record {
+      step = c.do_next-end.ensures;
+      prepared = c.requires;
+      undone = (ap (λ (v : JobView). v.done) (sym c.self.view_is) ∙ c.in_default.is);
+      sound = subst IsSound c.self.view_is c.self.invariant;
+    })

@@ -28,7 +28,7 @@ returns c =
     let same = c.append_interface.ensures.same in
     let there = c.requires.there in
     let added : first_interfaces (most_known c.args.reader.now (length t)) t ++ i ∷ [] ≡ following = ap (λ n. first_interfaces n t ++ i ∷ [])
-        (sym counted.value) ∙ sym c.append_interface.ensures.put in
+    (sym counted.value) ∙ sym c.append_interface.ensures.put in
     let order = c.args.order in
     let r' = c.new_at.result in
     let new = c.new_at.ensures in
@@ -39,4 +39,4 @@ returns c =
     ∙ ap (λ link. PcapngFile link (section_of order following)) (sym (c.first_link_type-link.ensures order))
     ∙ declared_after (form.Pcapng order c.first_link_type-link.result) r' t' (count + 1) new.form new.interfaces inside most)
     (is_after c.args.capture.now c.args.frame.now.length c.args.reader.now r' t' (form.Pcapng order c.first_link_type-link.result) (count + 1)
-        new.offset there c.requires.some new.form new.link new.interfaces inside most) same
+    new.offset there c.requires.some new.form new.link new.interfaces inside most) same

@@ -16,6 +16,6 @@ returns c =
     ] in
     unrefused _ _ _ _ _ c.put_parts.result refl
     (interface_joined c.args.packet.now.link c.args.packet.now.snap c.padding_after-padding.result name c.interface_header-head.result option
-        c.interface_end-end.result
+    c.interface_end-end.result
     padding.short name_is c.interface_header-head.ensures c.interface_end-end.ensures)
     c.put_parts.ensures

@@ -9,5 +9,5 @@ returns-in-EitherIp6 g c =
     let a = c.args in
     let r = c.emit_either_ip6 in
     subst (λ (x : Case). EmitsFormula a.link (sides_decision a.link a.direction a.key x a.cases.now (reverse a.entries.now)) a.to a.self.now r.result
-        r.new.self)
+    r.new.self)
     (sym c.in-EitherIp6.is) r.ensures
