@@ -600,6 +600,7 @@ def check_long(page):
     listing = "\n".join([str(2 * pairs + 2), *rows, "48 0 0 12", "6 0 0 262144", ""])
     page.fill("listing", name="kind")
     page.fill(listing)
+    page.driver.wait("document.getElementById('count-0').textContent.startsWith('1,000 instructions')")
     page.packets("all")
     day = files.Capture((SAMPLES / "day.pcap").read_bytes())
     for number in (1, 20):
