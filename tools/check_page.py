@@ -308,6 +308,10 @@ def check_listing(page):
     page.equal("in words", [row[3] for row in page.value(ROWS, "#rows-0")],
                ["A is the length of the packet on the wire", "A = A & 0x1", "return A: keep the packet unless it is 0"])
     page.same_file(SAMPLES / "day.pcap", "", "--code", write(page, "odd", odd))
+    for name in ("two-sections.pcapng", "any.pcap"):
+        page.load(SAMPLES / name, len(files.Capture((SAMPLES / name).read_bytes()).packets))
+        page.same_file(SAMPLES / name, "", "--code", page.folder / "odd")
+    page.sample("day.pcap")
     for text, message, part in LISTINGS:
         page.fill(text)
         told = page.text("#message-0")

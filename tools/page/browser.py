@@ -20,7 +20,7 @@ import time
 import urllib.request
 
 ELEMENT = "element-6066-11e4-a52e-4f735466cecf"
-SECONDS = 40
+SECONDS = 120
 # Of a machine without a display, and of root, whose processes Chromium doesn't put into a sandbox.
 OPTIONS = ["--headless=new", "--no-sandbox", "--disable-gpu", "--disable-background-networking", "--hide-scrollbars", "--force-color-profile=srgb"]
 KEYS = {"Tab": "\ue004", "Enter": "\ue007", "Space": " ", "PageUp": "\ue00e", "PageDown": "\ue00f", "End": "\ue010", "Home": "\ue011",
