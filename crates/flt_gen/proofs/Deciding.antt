@@ -12,7 +12,7 @@ use Rattle.std.specs.{List.list_all, List.insert, Prelude.slice_get}
 use Rattle.flt_gen.specs.Formula.{choose, Split}
 use Rattle.flt_gen.specs.declared.cases.Bound.{Bound, TheVariants.Below, TheVariants.From, TheVariants.Exactly}
 use Rattle.flt_gen.specs.declared.cases.Case.{Case}
-use Rattle.flt_gen.specs.declared.cases.Case.TheVariants.{Mac, Ip6, EitherIp6, IpProto, Ip6Proto}
+use Rattle.flt_gen.specs.declared.cases.Case.TheVariants.{Mac, Ip6, IpProto, Ip6Proto}
 use Rattle.flt_gen.specs.declared.{elementary.FieldTest.FieldTest, relation.Relation.Relation}
 use Rattle.flt_gen.specs.inside.{Emitted.equals, Code.accessor_offset}
 use Rattle.flt_gen.specs.Numbers.{accessor_tests, width_of}
@@ -47,9 +47,6 @@ Shapes fs (r ∷ rs) = Shape fs r × Shapes fs rs
 abbrev pub fields_of : Link → Direction → Case → List (Offset × Width)
 fields_of link d (Mac a) = (Fixed (mac_place d), Word) ∷ (Fixed (mac_place d + 4), HalfWord) ∷ []
 fields_of link d (Ip6 n a) =
-    let at = network_offset link + ip6_place d in
-    (Fixed (at + 4 * 0), Word) ∷ (Fixed (at + 4 * 1), Word) ∷ (Fixed (at + 4 * 2), Word) ∷ (Fixed (at + 4 * 3), Word) ∷ []
-fields_of link d (EitherIp6 a) =
     let at = network_offset link + ip6_place d in
     (Fixed (at + 4 * 0), Word) ∷ (Fixed (at + 4 * 1), Word) ∷ (Fixed (at + 4 * 2), Word) ∷ (Fixed (at + 4 * 3), Word) ∷ []
 fields_of link d (IpProto n) = (Fixed (network_offset link + 9), Byte) ∷ []
@@ -88,14 +85,7 @@ shape_of link d (Ip6 n a) =
         ),
       ),
     )
-shape_of link d (EitherIp6 a) =
-    (refl, refl, refl, tt, (refl, refl, refl, tt, (refl, refl, refl, tt, (refl, refl, refl, tt, tt))))
 shape_of link d _ = (refl, refl, refl, tt, tt)
-
--- how many tests a host of either side has
-abbrev pub both_tests : Case → ℕ
-both_tests (EitherIp6 a) = 9
-both_tests _ = 0
 
 pub some_fields : (link : Link) (d : Direction) (c : Case) → 0 < length (fields_of link d c)
 some_fields link d (Mac a) = omega arith
@@ -117,18 +107,16 @@ some_front link (Case.Relation r) = by r.protocol
 some_front link _ = omega arith
 
 pub alike : (link : Link) (d : Direction) (a b : Case) → same_words a b ≡ true → (fields_of link d b ≡ fields_of link d a)
-    × (case_front link b ≡ case_front link a) × (both_tests b ≡ both_tests a)
+    × (case_front link b ≡ case_front link a)
 alike link d (Case.Relation a) (Case.Relation b) e =
     let h = relations_are a b e in (
       ap₂ (λ o w. (o, w) ∷ []) (ap₂ (accessor_offset link) (sym h.0) (sym h.2)) (ap width_of (sym h.1)),
       ap (accessor_tests link) (sym h.0),
-      refl,
     )
-alike link d (Mac a) (Mac b) e = (refl, refl, refl)
-alike link d (Ip6 m a) (Ip6 n b) e = (refl, refl, refl)
-alike link d (EitherIp6 a) (EitherIp6 b) e = (refl, refl, refl)
-alike link d (IpProto a) (IpProto b) e = (refl, refl, refl)
-alike link d (Ip6Proto a) (Ip6Proto b) e = (refl, refl, refl)
+alike link d (Mac a) (Mac b) e = (refl, refl)
+alike link d (Ip6 m a) (Ip6 n b) e = (refl, refl)
+alike link d (IpProto a) (IpProto b) e = (refl, refl)
+alike link d (Ip6Proto a) (Ip6Proto b) e = (refl, refl)
 alike link d _ _ e = cc
 
 -- ---- what is read of words
@@ -562,13 +550,11 @@ alike_alike (Case.Relation a) (Case.Relation b) (Case.Relation c) e f =
     ∙ ap₂ (λ s i. equals b.protocol c.protocol && (s == c.size && i == c.index)) h.1 h.2 ∙ f
 alike_alike (Mac a) (Mac b) (Mac c) e f = refl
 alike_alike (Ip6 m a) (Ip6 n b) (Ip6 l c) e f = refl
-alike_alike (EitherIp6 a) (EitherIp6 b) (EitherIp6 c) e f = grind (arith, nat_tests)
 alike_alike (IpProto a) (IpProto b) (IpProto c) e f = refl
 alike_alike (Ip6Proto a) (Ip6Proto b) (Ip6Proto c) e f = refl
 alike_alike _ _ _ e f = cc
 
 pub self_alike : (a : Case) → same_words a a ≡ true
-self_alike (EitherIp6 a) = grind (arith, nat_tests)
 self_alike (Case.Relation r) = ap₂ (λ b c. b && c) (self_equal r.protocol) (let t : (r.size == r.size && r.index == r.index) ≡ true =
     grind (arith, nat_tests) in t)
   where

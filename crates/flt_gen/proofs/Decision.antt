@@ -5,18 +5,16 @@ use Rattle.std.proofs.lemmas.Bool.Decides.{nat_tests}
 use Rattle.std.specs.Prelude.{slice_get, is_none, if◌then◌else◌, Result}
 use Rattle.std.specs.declared.alloc.AllocError.{AllocError}
 use Rattle.flt_gen.specs.Formula.{Formula, Single, Both, Split, all_of, guarded_formula}
-use Rattle.flt_gen.specs.{Primitives.ip6_tests, declared.cases.Bound.TheVariants.Exactly, declared.cases.Case.Case, declared.group.Entry.Entry}
+use Rattle.flt_gen.specs.{declared.cases.Bound.TheVariants.Exactly, declared.cases.Case.Case}
 use Rattle.flt_gen.specs.declared.elementary.Elementary.{Elementary}
-use Rattle.flt_gen.specs.inside.Cases.{case_front, case_tests, cases_formula, sides_decision, either_ip6, asked, share_third, MOST_DECISIONS, chain, decided}
-use Rattle.flt_gen.specs.inside.Cases.{decision, all_keep, is_parted, middle, test_at, lowest, from_test, same_word, FEW_HOSTS}
+use Rattle.flt_gen.specs.inside.Cases.{case_front, case_tests, cases_formula, few_of, MOST_DECISIONS, chain, decided, decision, all_keep, is_parted, middle}
+use Rattle.flt_gen.specs.inside.Cases.{test_at, lowest, from_test, same_word}
 use Rattle.flt_gen.specs.inside.Emitted.{needed_tests, last_test, is_idle}
 use Rattle.flt_gen.specs.inside.{Code.Block, Code.emit_all, Code.emit_elementary, Code.emit_formula, Emits.Emits}
 use Rattle.flt_gen.proofs.Ascending.{if_case}
 use Rattle.flt_bpf.specs.declared.insn.Insn.{Insn}
 use Rattle.flt_ast.specs.declared.qualifiers.Direction.{Direction}
-use Rattle.flt_ast.specs.declared.qualifiers.Direction.TheVariants as direction
-use Rattle.flt_words.specs.declared.token.Side.TheVariants.{Source, Destination}
-use Rattle.cap_octet.specs.{Link.network_offset, declared.link.Link.Link}
+use Rattle.cap_octet.specs.declared.link.Link.{Link}
 
 decision_put : (few k : ℕ) (tests : Case → List Elementary) (word : ℕ) (cs : List Case) → 0 < k → decision few k tests word cs ≡ decided few
     (decision few (k - 1) tests) tests word cs
@@ -63,36 +61,10 @@ turn_emitted r new link tests word cs other hit miss c e l is done =
     (sym (chain_emitted link tests word cs other hit miss c l ∙ ap (λ (f : Block). emit_all (needed_tests (drop word (tests (get_or cs 0 other)))) hit
     f.entry f.code) is)) done
 
-pub cases_put : (link : Link) (d : Direction) (key : ℕ) (cs : List Case) (es : List Entry) (other : Case) → 1 ≤ length cs → cases_formula link d key
-    cs es ≡ guarded_formula (case_front link (get_or cs 0 other)) (sides_decision link d key (get_or cs 0 other) cs es)
-cases_put link d key [] es other l = absurd (omega arith)
-cases_put link d key (c ∷ cs) es other l = refl
-
--- the code of hosts of either side, by its parts
-pub either_emitted : (link : Link) (a : ℕ) (cs : List Case) (es : List Entry) (hit miss : ℕ) (c : List Insn) (found other asks first whole : Block)
-    → let s = ip6_tests None a (network_offset link + 8) in let d = ip6_tests None a (network_offset link + 24) in
-    emit_formula link (decision FEW_HOSTS MOST_DECISIONS (case_tests link (direction.One Destination)) 2 cs) hit miss c ≡ found
-    → emit_all (take 2 d) found.entry miss found.code ≡ other → emit_formula link (asked link a (share_third link cs) es) hit other.entry other.code ≡
-    asks → emit_all (drop 2 s) hit asks.entry asks.code ≡ first
-    → emit_formula link (decision FEW_HOSTS MOST_DECISIONS (case_tests link (direction.One Source)) 2 cs) first.entry other.entry first.code ≡ whole
-    → emit_formula link (either_ip6 link a cs es) hit miss c ≡ emit_all (take 2 s) whole.entry other.entry whole.code
-either_emitted link a cs es hit miss c found other asks first whole h i j k l = ap by_found h ∙ ap by_other i ∙ ap (by_asked other) j
-    ∙ ap (by_first other) k ∙ ap (by_whole other) l
-  where
-    by_whole : Block → Block → Block
-    by_whole o e = emit_all (take 2 (ip6_tests None a (network_offset link + 8))) e.entry o.entry e.code
-
-    by_first : Block → Block → Block
-    by_first o e = by_whole o (emit_formula link (decision FEW_HOSTS MOST_DECISIONS (case_tests link (direction.One Source)) 2 cs) e.entry o.entry e.code)
-
-    by_asked : Block → Block → Block
-    by_asked o e = by_first o (emit_all (drop 2 (ip6_tests None a (network_offset link + 8))) hit e.entry e.code)
-
-    by_other : Block → Block
-    by_other o = by_asked o (emit_formula link (asked link a (share_third link cs) es) hit o.entry o.code)
-
-    by_found : Block → Block
-    by_found e = by_other (emit_all (take 2 (ip6_tests None a (network_offset link + 24))) e.entry miss e.code)
+pub cases_put : (link : Link) (d : Direction) (cs : List Case) (other : Case) → 1 ≤ length cs → cases_formula link d cs
+    ≡ guarded_formula (case_front link (get_or cs 0 other)) (decision (few_of (get_or cs 0 other) (length cs)) MOST_DECISIONS (case_tests link d) 0 cs)
+cases_put link d [] other l = absurd (omega arith)
+cases_put link d (c ∷ cs) other l = refl
 
 pub tests_from : (ts : List Elementary) (word : ℕ) (t : Elementary) → slice_get ts word ≡ Some t → drop word ts ≡ t ∷ drop (word + 1) ts
 tests_from [] zero t e = cc

@@ -7,17 +7,16 @@ use Rattle.flt_gen.proofs.Common.{subst, arith, ◌==◌, ◌||◌, ◌&&◌, na
 use Rattle.flt_gen.proofs.Common.{Udp, Source, Destination, And, Or, ValueType, Host, Net, Port, PortRange, Direction, CompleteQualifiers, Value, Interval}
 use Rattle.flt_gen.proofs.Common.{Sides, FrameKind, network_offset, not, map, and-false, inl, inr, Sought, sought_tests, is_address, joined_all, left_out}
 use Rattle.flt_gen.proofs.Common.{high_mask, cut, address_places, port_places, ip_transport, ip6_transport, sought, Entry, TruthTree, check, cast, sized, bare}
-use Rattle.flt_gen.proofs.Common.{valued, qualified, compared, denied, joined, is_unfilled, any_primitive, Link, MatchResult, Several, Formula, Both, Either}
-use Rattle.flt_gen.proofs.Common.{Except, is_in, is_within, both, either, negation, Numbers, reads, check_formula, cast_formula, sized_formula, hosts_formula}
-use Rattle.flt_gen.proofs.Common.{port_test, port_formula, relation_formula, qualified_needed, formula, first_ends, Group, no_group, entry, with_member}
-use Rattle.flt_gen.proofs.Common.{same_type, same_protocol, same_direction, goes_with, member_of, group_and, larger_group, is_searched, numbers_of}
-use Rattle.flt_gen.proofs.Common.{several_formula, all_of, accessor_tests, accessor_test_count, guarded_formula, Elementary, with, Tcp, value_formula, Proto}
-use Rattle.flt_gen.proofs.Common.{rows_formula, group_formula, or_any, or_group, choice, grouped_formula, MOST_TOGETHER, FEWEST_RANGES, suc}
+use Rattle.flt_gen.proofs.Common.{valued, qualified, compared, denied, joined, is_unfilled, any_primitive, Link, Several, Formula, Both, Either, Except, is_in}
+use Rattle.flt_gen.proofs.Common.{is_within, both, either, negation, Numbers, reads, check_formula, cast_formula, sized_formula, hosts_formula, port_test}
+use Rattle.flt_gen.proofs.Common.{port_formula, relation_formula, qualified_needed, formula, first_ends, Group, no_group, entry, with_member, same_type}
+use Rattle.flt_gen.proofs.Common.{same_protocol, same_direction, goes_with, member_of, group_and, larger_group, is_searched, numbers_of, several_formula}
+use Rattle.flt_gen.proofs.Common.{all_of, accessor_tests, accessor_test_count, guarded_formula, Elementary, with, Tcp, value_formula, Proto, rows_formula}
+use Rattle.flt_gen.proofs.Common.{group_formula, or_any, or_group, choice, grouped_formula, MOST_TOGETHER, FEWEST_RANGES}
 use Rattle.flt_gen.proofs.Counted.{Sized, Bare, bare_within, bare_some, bare_both, bare_either, bare_else, bare_after, bare_sought, bare_check, bare_cast}
 use Rattle.flt_gen.proofs.Counted.{of_kinds, bare_hosts, bare_ports}
-use Rattle.flt_gen.proofs.Deciding.{fields_of, some_fields, some_front, shapes_of, both_tests, rows, read_all, sizes, decision_good, Likes, likes_put}
-use Rattle.flt_gen.proofs.Deciding.{sizes_put, length_put, read_put, alike, alike_alike, self_alike}
-use Rattle.flt_gen.proofs.EitherSide.{Paired, IsFirst, host_read, hosts_read, either_read, either_bare}
+use Rattle.flt_gen.proofs.Deciding.{fields_of, some_fields, some_front, shapes_of, rows, read_all, sizes, decision_good, Likes, likes_put, sizes_put}
+use Rattle.flt_gen.proofs.Deciding.{length_put, read_put, alike, alike_alike, self_alike}
 use Rattle.flt_gen.proofs.{Exclusive.or_no, Exclusive.both_either, Exclusive.either_assoc, IdleBits.uncut}
 use Rattle.flt_gen.proofs.{Needed.bare_needed, Needed.value_same, Once.relation_sizes, Once.relation_same, Once.all_read, Once.guarded_read}
 use Rattle.flt_gen.proofs.Relations.{entry_tests, entry_bare, IsEntry, entry_is}
@@ -26,8 +25,8 @@ use Rattle.flt_gen.proofs.Together.{Fitting, fitting_small, unmasked_fitting, ad
 use Rattle.flt_gen.proofs.Together.{IsMember, member_tests, several_are, member_is}
 use Rattle.std.specs.Prelude.{◌⊎◌, count_by}
 use Rattle.flt_words.specs.declared.token.Protocol.TheVariants as protocol
-use Rattle.flt_gen.specs.declared.{address.Hosts.Hosts, cases.Case.Case, cases.Case.TheVariants.EitherIp6, cases.Case.TheVariants.Ip6}
-use Rattle.flt_gen.specs.inside.Cases.{case_of, same_words, key_of, insert_case, case_front, case_tests, sides_decision, MOST_DECISIONS}
+use Rattle.flt_gen.specs.declared.{address.Hosts.Hosts, cases.Case.Case}
+use Rattle.flt_gen.specs.inside.Cases.{case_of, same_words, key_of, case_front, case_tests, MOST_DECISIONS}
 use Rattle.flt_gen.specs.inside.Group.{with_case, has_none, shares_words, case_goes_with, larger_with, together_formula, entry_formula, entry_of, leaf_formula}
 use Rattle.flt_gen.specs.inside.Group.{fewest}
 use Rattle.std.proofs.lemmas.List.{length-map}
@@ -60,41 +59,15 @@ pub record Held (group : Group) (ms : List Interval) : Type 0 where
   pub rows : (link : Link) (p : List ℕ) (n : ℕ) → reads link (rows_formula link group.entries) p n ≡ members_read link p n group.qualifiers.value_type
       group.qualifiers.protocol group.qualifiers.direction group.first ms
 
--- a case, after the tests in front of it, and how it reads
-abbrev case_formula : Link → Direction → Case → Formula
-case_formula link d (EitherIp6 a) =
-    Either (all_of (case_tests link (direction.One Source) (EitherIp6 a))) (all_of (case_tests link (direction.One Destination) (EitherIp6 a)))
-case_formula link d c = all_of (case_tests link d c)
-
-abbrev case_read : Link → List ℕ → ℕ → Direction → Case → MatchResult
-case_read link p n d c = reads link (case_formula link d c) p n
-
--- how cases with the words of one read, or the entries that they are
-abbrev cases_read : Link → List ℕ → ℕ → Direction → Case → List Case → List Entry → MatchResult
-cases_read link p n d (EitherIp6 b) cs es = hosts_read link p n es
-cases_read link p n d _ cs es = read_all link p n (rows (case_tests link d) 0 cs)
-
--- hosts on either side are entries
-abbrev IsHosts : Case → List Case → List Entry → Type 0
-IsHosts (EitherIp6 b) cs es = Paired b es cs
-IsHosts _ cs es = Unit {0}
-
-abbrev BeginsWith : Case → ℕ → List Entry → Type 0
-BeginsWith (EitherIp6 b) a es = IsFirst a es
-BeginsWith _ a es = Unit {0}
-
 -- a group of cases of this direction, which have the words of one
 pub record Listed (d : Direction) (group : Group) : Type 0 where
   pub kind : Case
   pub like : Likes kind group.cases
   pub some : 0 < length group.cases
   pub all_count : length group.cases ≡ length group.entries
-  pub hosts : IsHosts kind group.cases group.entries
-  pub begins : BeginsWith kind group.first_key group.entries
   pub counted : (link : Link) → length (case_front link kind) + sizes (rows (case_tests link d) 0 group.cases) + length group.cases ≤ 1 + group_tests group
-  pub counted_both : (link : Link) → length (case_front link kind) + length group.cases * both_tests kind ≤ 1 + group_tests group
-  pub rows_are : (link : Link) (p : List ℕ) (n : ℕ) → reads link (rows_formula link group.entries) p n ≡ both
-      (all_read link p n (case_front link kind)) (cases_read link p n d kind group.cases group.entries)
+  pub rows_are : (link : Link) (p : List ℕ) (n : ℕ) → reads link (rows_formula link group.entries) p n
+      ≡ both (all_read link p n (case_front link kind)) (read_all link p n (rows (case_tests link d) 0 group.cases))
 
 -- a group that waits: it has no members, or numbers or cases
 pub data Kept (group : Group) : Type 0 where
@@ -260,30 +233,6 @@ front_bare : {f : Formula} {n : ℕ} (ts : List Elementary) → Bare f n → Bar
 front_bare [] h = bare_within _ (omega arith) h
 front_bare (t ∷ ts) h = bare_within _ (omega arith) (bare_after (front_bare ts h))
 
--- the tests of cases with the words of one: how they read, and how many they are
-sides_good : (link : Link) (d : Direction) (a m : ℕ) (kind c : Case) (cs : List Case) (es : List Entry) → Likes kind (c ∷ cs)
-    → IsHosts kind (c ∷ cs) es → BeginsWith kind a es → length (c ∷ cs) ≡ length es → 6 ≤ length es → sizes (rows (case_tests link d) 0 (c ∷ cs)) +
-    length (c ∷ cs) ≤ m → length (c ∷ cs) * both_tests kind ≤ m
-    → ((p : List ℕ) (n : ℕ) → reads link (sides_decision link d a c (c ∷ cs) es) p n ≡ cases_read link p n d kind (c ∷ cs) es)
-    × Bare (sides_decision link d a c (c ∷ cs) es) (m - 1)
-sides_good link d a m (EitherIp6 b) (EitherIp6 x) cs es like hosts first same l few both = (
-  λ p n. either_read link p n a b es (EitherIp6 x ∷ cs) hosts first like (omega arith),
-  bare_within _ (omega arith)
-      (either_bare link a b (EitherIp6 x ∷ cs) es like (sym same) (omega arith)),
-)
-sides_good link d a m (EitherIp6 b) _ cs es like hosts first same l few both = (let no = like.0 in cc)
-sides_good link d a m _ (EitherIp6 x) cs es like hosts first same l few both = (let no = like.0 in cc)
-sides_good link d a m kind c cs es like hosts first same l few both =
-    let by = case_tests link d in
-    let good = decision_good link by _ MOST_DECISIONS 0 (fields_of link d kind) (c ∷ cs) (shapes_of link d kind (c ∷ cs) like) in
-    let long = length-map cs by in
-    (good.0, bare_within _ (omega arith) (good.1 (some_fields link d kind) (omega arith)))
-
-many : (cs : List Case) (plain : Bool) (n : ℕ) → 0 < length cs → nat_le (fewest cs plain) n ≡ true → 6 ≤ n
-many [] plain n l e = absurd (omega arith)
-many (Ip6 m a ∷ cs) plain n l e = grind (arith, nat_tests)
-many (c ∷ cs) plain n l e = grind (arith, nat_tests)
-
 -- a group of cases has few tests, and reads as one after the other
 listed_is : (link : Link) (group : Group) → Listed group.qualifiers.direction group → is_searched group ≡ true → (cs : List Case) → cs ≡ group.cases
     → Bare (together_formula link group cs) (group_tests group) × ((p : List ℕ) (n : ℕ) → reads link (together_formula link group cs) p n ≡ reads link
@@ -291,22 +240,18 @@ listed_is : (link : Link) (group : Group) → Listed group.qualifiers.direction 
 listed_is link group h searched [] e = absurd (let some = h.some in let z = ap length e in omega arith)
 listed_is link group h searched (c ∷ cs) e =
     let d = group.qualifiers.direction in
-    let like = subst (Likes h.kind) (sym e) h.like in
-    let long = ap length e in
-    let count = h.all_count in
-    let lots = many group.cases group.is_plain (length group.entries) h.some searched in
+    let by = case_tests link d in
     let few = h.counted link in
-    let few_both = h.counted_both link in
-    let front : case_front link c ≡ case_front link h.kind = (alike link d h.kind c like.0).1 in
+    let front : case_front link c ≡ case_front link h.kind = (alike link d h.kind c (subst (Likes h.kind) (sym e) h.like).0).1 in
     let fronts = ap (λ (ts : List Elementary). length ts) front in
-    let room = 1 + group_tests group - length (case_front link h.kind) in
-    let good = sides_good link d group.first_key room h.kind c cs group.entries like (subst (λ ds. IsHosts h.kind ds group.entries) (sym e) h.hosts)
-    h.begins (omega arith) lots
-    (subst (λ ds. sizes (rows (case_tests link d) 0 ds) + length ds ≤ room) (sym e) (omega arith))
-    (subst (λ ds. length ds * both_tests h.kind ≤ room) (sym e) (omega arith)) in (
-      bare_within _ (omega arith) (front_bare (case_front link c) good.1),
+    let rest : sizes (rows by 0 (c ∷ cs)) + length (c ∷ cs) ≡ sizes (rows by 0 group.cases) + length group.cases =
+    ap (λ ds. sizes (rows by 0 ds) + length ds) e in
+    let long = length-map cs by in
+    let good = decision_good link by _ MOST_DECISIONS 0 (fields_of link d h.kind) (c ∷ cs)
+    (shapes_of link d h.kind (c ∷ cs) (subst (Likes h.kind) (sym e) h.like)) in (
+      bare_within _ (omega arith) (front_bare (case_front link c) (good.1 (some_fields link d h.kind) (omega arith))),
       λ p n. guarded_read link p n (case_front link c) _
-          ∙ ap₂ (λ ts r. both (all_read link p n ts) r) front (good.0 p n ∙ ap (λ ds. cases_read link p n d h.kind ds group.entries) e)
+          ∙ ap₂ (λ ts r. both (all_read link p n ts) r) front (good.0 p n ∙ ap (λ ds. read_all link p n (rows by 0 ds)) e)
           ∙ sym (h.rows_are link p n),
     )
 
@@ -368,6 +313,8 @@ or_stands link f a group k s same = record { counts = sizes group.entries (λ l.
 protocols_are : (a b : Option Protocol) → same_protocol a b ≡ true → b ≡ a
 protocols_are None None e = refl
 protocols_are (Some Ip) (Some Ip) e = refl
+protocols_are (Some protocol.Arp) (Some protocol.Arp) e = refl
+protocols_are (Some protocol.Rarp) (Some protocol.Rarp) e = refl
 protocols_are (Some Tcp) (Some Tcp) e = refl
 protocols_are (Some Udp) (Some Udp) e = refl
 protocols_are _ _ e = cc
@@ -474,29 +421,22 @@ kept_with q v m group (listed l h) g w = absurd (no_cases group.cases (fits_in q
 
 -- what has so many tests and this formula is a case
 abbrev Cased : Link → Direction → Case → ℕ → Formula → Type 0
-Cased link d c tests f = (length (case_front link c) + length (case_tests link d c) ≤ tests) × (length (case_front link c) + both_tests c ≤ 1 + tests)
-    × ((p : List ℕ) (n : ℕ) → reads link f p n ≡ reads link (guarded_formula (case_front link c) (case_formula link d c)) p n)
-
--- the entry that is a host on either side
-abbrev IsEntryOf : Case → Entry → Type 0
-IsEntryOf (EitherIp6 a) (Entry.Value q (value.Ip6 x m)) = a ≡ x
-IsEntryOf (EitherIp6 a) _ = ⊥
-IsEntryOf _ e = Unit {0}
+Cased link d c tests f = (length (case_front link c) + length (case_tests link d c) ≤ tests)
+    × ((p : List ℕ) (n : ℕ) → reads link f p n ≡ reads link (guarded_formula (case_front link c) (all_of (case_tests link d c))) p n)
 
 -- a value that is a case
 abbrev IsCase : Link → ValueType → Option Protocol → Direction → Value → Case → Type 0
-IsCase link k o d v c = Cased link d c (count.typed_tests k o d v) (value_formula link k o d v) × ((q : CompleteQualifiers) → IsEntryOf c (entry q v))
+IsCase link k o d v c = Cased link d c (count.typed_tests k o d v) (value_formula link k o d v)
 
 case_is : (link : Link) (k : ValueType) (o : Option Protocol) (d : Direction) (v : Value) → Each (case_of k o d v) (IsCase link k o d v)
-case_is link Host o (direction.One Source) (value.Mac a) = ((omega arith, omega arith, λ p n. refl), λ q. tt)
-case_is link Host o (direction.One Destination) (value.Mac a) = ((omega arith, omega arith, λ p n. refl), λ q. tt)
-case_is link Host o (direction.One Source) (value.Ip6 a m) = ((omega arith, omega arith, λ p n. refl), λ q. tt)
-case_is link Host o (direction.One Destination) (value.Ip6 a m) = ((omega arith, omega arith, λ p n. refl), λ q. tt)
-case_is link Host o (direction.Both Or) (value.Ip6 a m) = ((omega arith, omega arith, λ p n. refl), λ q. refl)
-case_is link Net o (direction.One Source) (value.Ip6 a m) = ((omega arith, omega arith, λ p n. refl), λ q. tt)
-case_is link Net o (direction.One Destination) (value.Ip6 a m) = ((omega arith, omega arith, λ p n. refl), λ q. tt)
-case_is link Proto (Some Ip) d (value.Number x m) = ((omega arith, omega arith, λ p n. refl), λ q. tt)
-case_is link Proto (Some protocol.Ip6) d (value.Number x m) = ((omega arith, omega arith, λ p n. refl), λ q. tt)
+case_is link Host o (direction.One Source) (value.Mac a) = (omega arith, λ p n. refl)
+case_is link Host o (direction.One Destination) (value.Mac a) = (omega arith, λ p n. refl)
+case_is link Host o (direction.One Source) (value.Ip6 a m) = (omega arith, λ p n. refl)
+case_is link Host o (direction.One Destination) (value.Ip6 a m) = (omega arith, λ p n. refl)
+case_is link Net o (direction.One Source) (value.Ip6 a m) = (omega arith, λ p n. refl)
+case_is link Net o (direction.One Destination) (value.Ip6 a m) = (omega arith, λ p n. refl)
+case_is link Proto (Some Ip) d (value.Number x m) = (omega arith, λ p n. refl)
+case_is link Proto (Some protocol.Ip6) d (value.Number x m) = (omega arith, λ p n. refl)
 case_is link _ o d _ = tt
 
 fronts_few : (link : Link) (p : Protocol) → length (accessor_tests link p) + 1 ≤ accessor_test_count p + 1
@@ -507,51 +447,19 @@ fronts_few link _ = omega arith
 abbrev place : Case → List Case → ℕ
 place c cs = count_by (λ d. nat_lt (key_of d) (key_of c)) cs
 
--- a host on either side, and how a case reads, by itself and in front of others
-hosts_put : (kind c : Case) (cs : List Case) (e : Entry) (es : List Entry) → IsEntryOf c e → same_words kind c ≡ true → Likes kind cs
-    → IsHosts kind cs es → IsHosts kind (insert_case c cs) (e ∷ es) × BeginsWith kind (key_of c) (e ∷ es)
-hosts_put (EitherIp6 b) (EitherIp6 a) cs (Entry.Value q (value.Ip6 x m)) es is e h old =
-    subst (λ y. IsHosts (EitherIp6 b) (insert_case (EitherIp6 a) cs) (Entry.Value q (value.Ip6 y m) ∷ es) × (a ≡ y)) is ((cs, refl, e, h, old), refl)
-hosts_put (EitherIp6 b) (EitherIp6 a) cs _ es is e h old = absurd is
-hosts_put (EitherIp6 b) _ cs x es is e h old = cc
-hosts_put _ c cs x es is e h old = (tt, tt)
-
-host_first : (link : Link) (p : List ℕ) (n a : ℕ) (e : Entry) (es : List Entry) → IsEntryOf (EitherIp6 a) e → either (host_read link p n a)
-    (hosts_read link p n es) ≡ hosts_read link p n (e ∷ es)
-host_first link p n a (Entry.Value q (value.Ip6 x m)) es is = ap (λ y. either (host_read link p n y) (hosts_read link p n es)) is
-host_first link p n a _ es is = absurd is
-
-read_alone : (link : Link) (p : List ℕ) (n : ℕ) (d : Direction) (c : Case) (e : Entry) → IsEntryOf c e → case_read link p n d c ≡ cases_read link p n
-    d c (insert_case c []) (e ∷ [])
-read_alone link p n d (EitherIp6 a) e is = sym (or_no _) ∙ host_first link p n a e [] is
-read_alone link p n d _ e is = sym (or_no _)
-
-read_more : (link : Link) (p : List ℕ) (n : ℕ) (d : Direction) (kind c : Case) (cs : List Case) (e : Entry) (es : List Entry) → IsEntryOf c e
-    → Likes kind cs → same_words kind c ≡ true → either (case_read link p n d c) (cases_read link p n d kind cs es) ≡ cases_read link p n d kind
-    (insert_case c cs) (e ∷ es)
-read_more link p n d (EitherIp6 b) (EitherIp6 a) cs e es is h same = host_first link p n a e es is
-read_more link p n d (EitherIp6 b) _ cs e es is h same = cc
-read_more link p n d _ (EitherIp6 x) cs e es is h same = cc
-read_more link p n d kind c cs e es is h same =
-    sym (read_put link p n 0 (case_tests link d) (fields_of link d kind) c (place c cs) cs (shapes_of link d kind (c ∷ []) (same, tt)).0
-    (shapes_of link d kind cs h))
-
 -- one more case before those of a group without numbers
 listed_put : (q : CompleteQualifiers) (e : Entry) (c kind : Case) (group : Group)
-    → ((link : Link) → Cased link q.direction c (entry_tests e) (entry_formula link e)) → Likes kind group.cases → same_words kind c ≡ true
-    → length group.cases ≡ length group.entries → ((link : Link) → sizes (rows (case_tests link q.direction) 0 group.cases) + length group.cases ≤
-    group_tests group) → length group.cases * both_tests kind ≤ group_tests group → IsEntryOf c e → IsHosts kind group.cases group.entries
-    → ((link : Link) (p : List ℕ) (n : ℕ) → let front = all_read link p n (case_front link kind) in
-    either (both front (case_read link p n q.direction c)) (reads link (rows_formula link group.entries) p n) ≡ both front
-    (cases_read link p n q.direction kind (insert_case c group.cases) (e ∷ group.entries)))
+    → ((link : Link) → Cased link q.direction c (entry_tests e) (entry_formula link e)) → Likes kind group.cases → same_words kind c ≡ true → length group.cases
+    ≡ length group.entries → ((link : Link) → sizes (rows (case_tests link q.direction) 0 group.cases) + length group.cases ≤ group_tests group)
+    → ((link : Link) (p : List ℕ) (n : ℕ) → let front = all_read link p n (case_front link kind) in let by = case_tests link q.direction in
+    either (both front (reads link (all_of (by c)) p n)) (reads link (rows_formula link group.entries) p n)
+    ≡ both front (either (reads link (all_of (by c)) p n) (read_all link p n (rows by 0 group.cases))))
     → Listed q.direction (with_case q e c group)
-listed_put q e c kind group its likes like count few both_few is hosts rows_are = record {
+listed_put q e c kind group its likes like count few rows_are = record {
   kind = kind;
   like = likes_put kind c (place c group.cases) group.cases like likes;
   some = let l = length_put c (place c group.cases) group.cases in omega arith;
   all_count = let l = length_put c (place c group.cases) group.cases in omega arith;
-  hosts = (hosts_put kind c group.cases e group.entries is like likes hosts).0;
-  begins = (hosts_put kind c group.cases e group.entries is like likes hosts).1;
   counted = λ link.
       let l = length_put c (place c group.cases) group.cases in
       let s = sizes_put (case_tests link q.direction) c (place c group.cases) group.cases in
@@ -559,20 +467,15 @@ listed_put q e c kind group its likes like count few both_few is hosts rows_are 
       let old = few link in
       let fronts = ap (λ (ts : List Elementary). length ts) (alike link q.direction kind c like).1 in
       omega arith;
-  counted_both = λ link.
-      let l : length (insert_case c group.cases) ≡ suc (length group.cases) = length_put c (place c group.cases) group.cases ∙ omega arith in
-      let all = ap (λ k. k * both_tests kind) l in
-      let more = suc-mul (length group.cases) (both_tests kind) in
-      let one = (its link).1 in
-      let same = alike link q.direction kind c like in
-      let fronts = ap (λ (ts : List Elementary). length ts) same.1 in
-      let tests = same.2 in
-      omega arith;
   rows_are = λ link p n.
+      let by = case_tests link q.direction in
+      let one = reads link (all_of (by c)) p n in
       rows_put link p n e group.entries
-      ∙ ap (λ r. either r (reads link (rows_formula link group.entries) p n)) ((its link).2 p n ∙ guarded_read link p n (case_front link c)
-      (case_formula link q.direction c) ∙ ap (λ ts. both (all_read link p n ts) (case_read link p n q.direction c)) (alike link q.direction kind c like).1)
-      ∙ rows_are link p n;
+      ∙ ap (λ r. either r (reads link (rows_formula link group.entries) p n)) ((its link).1 p n ∙ guarded_read link p n (case_front link c) (all_of (by c))
+      ∙ ap (λ ts. both (all_read link p n ts) one) (alike link q.direction kind c like).1)
+      ∙ rows_are link p n
+      ∙ ap (both (all_read link p n (case_front link kind))) (sym (read_put link p n 0 by (fields_of link q.direction kind) c (place c group.cases) group.cases
+      (shapes_of link q.direction kind (c ∷ []) (like, tt)).0 (shapes_of link q.direction kind group.cases likes)));
 }
 
 -- what is known where a case goes with members
@@ -587,38 +490,29 @@ shared : (kind c : Case) (cs : List Case) → Likes kind cs → shares_words c c
 shared kind c [] h e = cc
 shared kind c (x ∷ xs) h e = alike_alike kind x c h.0 e
 
-kept_with_case : (q : CompleteQualifiers) (e : Entry) (c : Case) (group : Group) → Kept group → case_goes_with c q.direction group group.entries ≡
-    true → IsEntryOf c e → ((link : Link) → Cased link q.direction c (entry_tests e) (entry_formula link e)) → Kept (with_case q e c group)
-kept_with_case q e c group (nothing none all empty) g is w =
+kept_with_case : (q : CompleteQualifiers) (e : Entry) (c : Case) (group : Group) → Kept group → case_goes_with c q.direction group group.entries ≡ true
+    → ((link : Link) → Cased link q.direction c (entry_tests e) (entry_formula link e)) → Kept (with_case q e c group)
+kept_with_case q e c group (nothing none all empty) g w =
     listed (omega arith)
     (listed_put q e c c group w (subst (Likes c) (sym empty) tt) (self_alike c) (ap length empty ∙ sym (ap length none))
     (λ link. subst (λ cs. sizes (rows (case_tests link q.direction) 0 cs) + length cs ≤ group_tests group) (sym empty) (omega arith))
-    (subst (λ (cs : List Case). length cs * both_tests c ≤ group_tests group) (sym empty) (omega arith)) is
-    (subst (λ cs. IsHosts c cs group.entries) (sym empty) (subst (IsHosts c []) (sym none) (no_hosts c)))
     (λ link p n.
-    let front = all_read link p n (case_front link c) in
-    ap (λ es. either (both front (case_read link p n q.direction c)) (reads link (rows_formula link es) p n)) none ∙ or_no _
-    ∙ ap (both front) (read_alone link p n q.direction c e is ∙ ap₂ (λ cs es. cases_read link p n q.direction c (insert_case c cs) (e ∷ es))
-    (sym empty) (sym none))))
-  where
-    no_hosts : (c : Case) → IsHosts c [] []
-    no_hosts (EitherIp6 a) = refl
-    no_hosts _ = tt
-kept_with_case q e c group (numbered l empty ms h) g is w =
-    absurd (let no = ap (shares_words c) (sym empty) ∙ (case_fits c q.direction group group.entries l g).0 in cc)
-kept_with_case q e c group (listed l h) g is w =
+    let by = case_tests link q.direction in
+    let one = both (all_read link p n (case_front link c)) (reads link (all_of (by c)) p n) in
+    ap (λ es. either one (reads link (rows_formula link es) p n)) none ∙ or_no one
+    ∙ ap (both (all_read link p n (case_front link c))) (sym (or_no _)
+    ∙ ap (λ cs. either (reads link (all_of (by c)) p n) (read_all link p n (rows by 0 cs))) (sym empty))))
+kept_with_case q e c group (numbered l empty ms h) g w = absurd (let no = ap (shares_words c) (sym empty)
+    ∙ (case_fits c q.direction group group.entries l g).0 in cc)
+kept_with_case q e c group (listed l h) g w =
     let fit = case_fits c q.direction group group.entries l g in
     let j = subst (λ d. Listed d group) fit.1 h in
-    let like = shared j.kind c group.cases j.like fit.0 in
     let few : (link : Link) → sizes (rows (case_tests link q.direction) 0 group.cases) + length group.cases ≤ group_tests group =
     λ link. (let all = j.counted link in let some = some_front link j.kind in omega arith) in
-    let few_both : length group.cases * both_tests j.kind ≤ group_tests group = (let all = j.counted_both Ether in let some = some_front Ether j.kind
-    in omega arith) in
-    listed (omega arith)
-    (listed_put q e c j.kind group w j.like like j.all_count few few_both is j.hosts
-    (λ link p n. ap (either (both _ (case_read link p n q.direction c))) (j.rows_are link p n)
-    ∙ sym (both_either _ (case_read link p n q.direction c) _)
-    ∙ ap (both _) (read_more link p n q.direction j.kind c group.cases e group.entries is j.like like)))
+    listed (omega arith) (listed_put q e c j.kind group w j.like (shared j.kind c group.cases j.like fit.0) j.all_count few
+    (λ link p n.
+    let one = reads link (all_of (case_tests link q.direction c)) p n in
+    ap (either (both _ one)) (j.rows_are link p n) ∙ sym (both_either _ one _)))
 
 -- what a member and those after it are, and how they read
 record Taken (link : Link) (e : Entry) (group more : Group) : Type 0 where
@@ -653,8 +547,7 @@ module _ (link : Link) (group more : Group) (k : Kept group) where
   by_case q v None w e = by_member q v (member_of q.value_type v) refl e
   by_case q v (Some c) w e =
       by_test (entry q v) (with_case q (entry q v) c group) (case_goes_with c q.direction group group.entries)
-      (λ g. kept_with_case q (entry q v) c group k g ((its link).1 q)
-      (λ l. (((its l).0).0, ((its l).0).1, λ p n. value_same l p n q.value_type q.protocol q.direction v ∙ ((its l).0).2 p n))) refl e
+      (λ g. kept_with_case q (entry q v) c group k g (λ l. ((its l).0, λ p n. value_same l p n q.value_type q.protocol q.direction v ∙ (its l).1 p n))) refl e
     where
       its : (l : Link) → IsCase l q.value_type q.protocol q.direction v c
       its l = each_is (case_of q.value_type q.protocol q.direction v) (IsCase l q.value_type q.protocol q.direction v) c
@@ -665,8 +558,7 @@ module _ (link : Link) (group more : Group) (k : Kept group) where
   taken (Entry.Relation r) some =
       by_test (Entry.Relation r) (with_case no_group.qualifiers (Entry.Relation r) (Case.Relation r) group)
       (case_goes_with (Case.Relation r) no_group.qualifiers.direction group group.entries)
-      (λ g. kept_with_case no_group.qualifiers (Entry.Relation r) (Case.Relation r) group k g tt
-      (λ l. (let few = fronts_few l r.protocol in (few, omega arith, λ p n. refl)))) refl some
+      (λ g. kept_with_case no_group.qualifiers (Entry.Relation r) (Case.Relation r) group k g (λ l. (fronts_few l r.protocol, λ p n. refl))) refl some
 
 sized_sizes : (s : Size) (n : ℕ) → Sized (sized_formula s n) 2 1 1
 sized_sizes Size.Less n = record { nodes_fit = omega arith; words_fit = omega arith; searches = tt; tests_fit = omega arith }

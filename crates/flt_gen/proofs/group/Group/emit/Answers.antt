@@ -16,8 +16,8 @@ no_cases : (cs : List Case) → nat_eq (length cs) 0 ≡ true → cs ≡ []
 no_cases [] e = refl
 no_cases (c ∷ cs) e = (let none : length (c ∷ cs) ≡ 0 = eqb-true _ _ e in absurd (omega (arith, none)))
 
-some_cases : (link : Link) (group : Group) (cs : List Case) → nat_eq (length cs) 0 ≡ false → together_formula link group cs ≡ cases_formula link
-    group.qualifiers.direction group.first_key cs group.entries
+some_cases : (link : Link) (group : Group) (cs : List Case) → nat_eq (length cs) 0 ≡ false → together_formula link group cs
+    ≡ cases_formula link group.qualifiers.direction cs
 some_cases link group [] e = cc
 some_cases link group (c ∷ cs) e = refl
 
@@ -32,14 +32,14 @@ returns-then-not-is_empty g c =
       first = i.first;
       all = i.all.items;
       cases = i.cases.items;
-      first_key = i.first_key;
-      entries = i.entries;
+      entries =
+          i.entries;
     } in
     let is : group ≡ a.self.now = c.self.view_is in
     let searched : is_searched a.self.now ≡ true = sym c.is_searched.ensures ∙ c.if-not-is_searched.false in
     let some : nat_eq (length i.cases.items) 0 ≡ false = search rules in
     subst (λ (f : Formula). EmitsFormula a.link f a.to a.code.now r.result r.new.self)
-    (ap₂ (cases_formula a.link i.qualifiers.direction i.first_key) c.deref.ensures.value c.entries-entries.ensures
+    (ap (cases_formula a.link i.qualifiers.direction) c.deref.ensures.value
     ∙ sym (ap (group_formula a.link) (sym is) ∙ together_is a.link group i.cases.items (ap is_searched is ∙ searched) refl
     ∙ some_cases a.link group i.cases.items some))
     r.ensures
@@ -55,8 +55,8 @@ returns g c =
       first = i.first;
       all = i.all.items;
       cases = i.cases.items;
-      first_key = i.first_key;
-      entries = i.entries;
+      entries =
+          i.entries;
     } in
     let is : group ≡ a.self.now = c.self.view_is in
     let searched : is_searched a.self.now ≡ true = sym c.is_searched.ensures ∙ c.if-not-is_searched.false in
