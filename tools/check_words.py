@@ -41,7 +41,7 @@ COMMENTS = {
 # Files that are read whole: pages, manual pages and templates.
 TEXTS = {".md", ".1", ".3", ".7", ".html"}
 # Pages that a script makes, and data.
-UNREAD = {"lesson.html", "capkit.html", "expressions.txt", "filter.txt", "surface.txt"}
+UNREAD = {"capkit.html", "expressions.txt", "filter.txt", "surface.txt"}
 # Code between backticks, which may go on in the next line.
 QUOTED = re.compile(r"`(?:[^`\n]|\n(?!\n))*`")
 # A blank of a word also matches the end of a line, and `$` the end of a paragraph.
