@@ -1,7 +1,7 @@
 #!/bin/sh
 # Makes the Debian packages of the library: libcapkit0 (the shared library), libcapkit-dev (the header, the static
-# library, capkit.pc, the manual page and the examples) and python3-capkit (the package for Python, which the lessons
-# of the package capkit need).
+# library, capkit.pc, the manual page and the examples) and python3-capkit (the package for Python, which draw.py of the
+# package capkit needs).
 #
 # usage: packaging/make_library_deb.sh [arm64]
 #
