@@ -1,14 +1,16 @@
 #!/usr/bin/env python3
-"""Proves the crates that a program or a library for C needs, side by side, and builds it.
+"""Proves the crates that a program or a library for C needs, in parallel, and builds it. The launcher, library/Makefile and
+make_page.sh call it.
 
 usage: build.py CRATE PRODUCT [TARGET [TOOLCHAIN]]
 
-TARGET is another than the kit's own: only the last crate is proved again for it. TOOLCHAIN is made for ARM64 (cross_arm64.sh). For a
-browser (wasm64-unknown-unknown) it is the kit's, and the product a module: that has no C code, so without the calls of malloc.
+TARGET is rattle's name for another processor than the kit's own: only the last crate is proved again for it. For ARM64, TOOLCHAIN is
+what cross_arm64.sh makes. For a browser (wasm64-unknown-unknown) it is the kit's, and the product is a module without C code, so
+without the calls that use malloc.
 
-A crate is proved as soon as those that it needs are. Others stand back (`nice`) for the one with the longest chain. Each
-is one call of rattle, the prover of rt's kit, as `rt ci` makes it: a library has its statements only, which halves what
-the program's own check takes. A crate with work of `rt check` (in out/incremental) is proved over that.
+A crate is proved once those that it needs are; the crate with the longest chain of crates above it has priority (`nice`). Each
+proof is one call of rattle, the prover of rt's kit, as `rt ci` makes it. A library keeps only its statements, which halves the
+check of the program. A crate with work of `rt check` (in out/incremental) continues from it.
 """
 import fcntl
 import hashlib
