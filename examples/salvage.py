@@ -39,6 +39,7 @@ import subprocess
 import sys
 import tempfile
 from collections import deque
+from operator import sub
 
 FORMS = {b"\xd4\xc3\xb2\xa1": ("<", 10**6), b"\x4d\x3c\xb2\xa1": ("<", 10**9),
          b"\xa1\xb2\xc3\xd4": (">", 10**6), b"\xa1\xb2\x3c\x4d": (">", 10**9)}
@@ -82,6 +83,9 @@ class Source:
         return self.data, self.base
 
     def get(self, at, size):
+        place = at - self.base
+        if 0 <= place and at + size <= min(self.base + len(self.data), self.size):
+            return self.data[place : place + size]
         return os.pread(self.held.fileno(), size, at)
 
     def may_try(self, at):
@@ -248,16 +252,20 @@ class Records(Reader):
     def end(self, at):
         return at + 16 + self.head(at)[2]
 
+    def heads(self, *places):
+        return {it: self.head(it) for it in sorted(set(places))}
+
     def signs(self, at, around, far=0):
         """How many of two signs a record has, time and lengths; -1 if its lengths are none."""
-        seconds, part, captured, original = self.head(at)
-        others = [self.head(it) for it in around if it != at]
-        times, sizes = [it[0] for it in others], [it[2] for it in others]
-        after = sum(it < at for it in around)
-        is_set = min(times, default=0) > UNSET and all(
-            sum(abs(it - time) <= NEAR for it in times) > 1 for time in times)
+        seconds, part, captured, original = around.get(at) or self.head(at)
+        others = [head for it, head in around.items() if it != at]
+        times, _, sizes, _ = zip(*others) if others else [()] * 4
+        ordered = sorted(times)
+        gaps = [NEAR + 1, *map(sub, ordered[1:], ordered), NEAR + 1]
+        is_set = ordered[:1] > [UNSET] and max(map(min, gaps, gaps[1:])) <= NEAR
         is_near = is_set and (any(abs(it - seconds) <= NEAR for it in times) or far)
         if max(times, default=UNSET) < UNSET:  # no sign, but one against the record
+            after = sum(it < at for it in around)
             close = times[max(0, after - 1) : after + 1]
             is_near = (min(close) - EARLIER <= seconds <= max(close) + 60) - 1
         is_whole = captured == original != part and captured >= min([SHORTEST, *sizes])
@@ -269,7 +277,7 @@ class Records(Reader):
         """A chain from the first record on that has enough signs; None if it gets too short."""
         ends, least = [passes, *map(self.end, self.last)], min(len(bounds), self.source.row + 1)
         while len(bounds) >= least:
-            around = [*self.last, *bounds[:-1][:DOUBTED]]
+            around = self.heads(*self.last, *bounds[:-1][:DOUBTED])
             signs = lambda places: [self.signs(it, around, -1) for it in places]
             read = signs(it for it in self.last if self.end(it) > bounds[0])
             new = signs(it for it in bounds[:UNITS] if it < max(ends))
@@ -318,28 +326,29 @@ class Records(Reader):
     def is_fault(self, data, base, place, odd):
         """Whether this is no record (of any fraction), or reading is off by 4 bytes, or by 1."""
         seconds, part, captured, original = self.unpack(data, place)
-        at, is_pair, last = base + place, 0 < captured <= original <= LONGEST, [*self.last]
+        at, is_pair, last = base + place, 0 < captured <= original <= LONGEST, self.last
         real, end = at + (1 if self.order == "<" else -1), at + 16 + captured
         if is_pair and not captured & 255:
             is_real = self.step(self.end(real), *self.source.load(at))
+            last = self.heads(*last)
             if self.signs(real, last) + bool(is_real) > self.signs(at, last) + (original & 255 > 0):
                 return True
         if part >= self.units or not captured | original:
-            around = sorted([*last, *odd[-DOUBTED:], *[end] * (end < self.source.size)])
+            around = self.heads(*last, *odd[-DOUBTED:], *[end] * (end < self.source.size))
             signs = self.signs(at, around) + bool(self.step(end, data, base))
             return not is_pair or signs < 2
         return 0 < captured == part and seconds < self.units and self.step(end - 4, data, base)
 
     def settle(self, at, place):
         """Drops records in the way of a chain, or puts one right; returns the end of those kept."""
-        last, around = self.last, [*self.last, *(it for it in self.after if it >= place)]
+        last, around = self.last, self.heads(*self.last, *(it for it in self.after if it >= place))
         is_cut = (self.step(at, *self.source.load(at)) or 0) > self.source.size
         goal = at if is_cut and self.signs(at, around) > 0 else place
         is_short = last and last[0] == self.origin and len(last) < self.source.row
         while last and (is_short or (end := self.end(last[-1])) > place
                         or self.signs(last[-1], around) + (end in (place, goal)) < 1):
             at = last.pop()
-            around.remove(at)
+            del around[at]
             self.out.packets -= 1
             self.out.kept = self.out.kept[0], at
         size = place - at - 16
