@@ -10,26 +10,28 @@ written up to the first damage, and from then on by these rules. A unit is a rec
    if they lead to the end of the file or to a file header, or if they are from one second before
    the last packet to a day after it (a minute, if the clock wasn't set), and two of the first three
    records have a sign of rule 4. A file header at the end of the last unit needs no chain.
-3. The first chain wins; if chains meet, the one with most units before. Its start is left out if it
-   is earlier than the last packet and the rest isn't: a lost packet may have carried it.
-4. A record next to damage needs two of four signs: it begins at the end of the last one; it ends at
-   the chain; its time is within a day of one near it, and these agree; its lengths are equal, and
-   no less than 14 or all near it, or it is as long as the longest of them. Times before 1971 aren't
-   a sign, but one against it if they aren't between those next to it. Without two it is dropped:
-   the first records of a chain, and the last eight before damage. Bytes that are read in two ways
-   go to the side with more signs. A chain is dropped if reading it ends within ROW records.
+3. The first chain wins; if chains meet, the one with most units before. Its start, even with a file
+   header, is left out if it is earlier than the last packet and the rest isn't: a lost packet may
+   have carried it.
+4. A record next to damage needs two signs: it begins at the end of the last one; it ends at the
+   chain; its time is within a day of one near it; its lengths are equal, and no less than 14 or all
+   near it, or it is as long as the longest of them. Each sign against it takes one more: lengths of
+   no record; a time far from those near it, if these agree. Times before 1971 aren't a sign, but one
+   against it if they aren't between those next to it. Without these it is dropped: the first records
+   of a chain, and the last eight before damage. Bytes that are read in two ways go to the side with
+   more signs. A chain is dropped if reading it ends within ROW records.
 5. Reading stops, and a chain is refused, 4 bytes off (fractions are captured lengths) or 1 byte off
    (lengths are 256 times too long, and the record 1 byte off has more signs).
-6. Corrected and reported are a fraction of a second or more (0, if a record follows and one sign is
-   present), a damaged length (if the other one leads to the chain), a time out of range (0), the
-   version and link type field, options that capkit refuses, and text mode. Packets whose interface
-   isn't known are dropped. --like takes a lost beginning from another FILE of the same program.
-docs/RELIABILITY.md says what can still be made up. IN isn't changed; it is copied if it is a pipe
-or in text mode. OUT gets its name at the end. The status is 0 if IN was in order, 1 if not or if
-nothing was written, 2 if the command line is wrong. Needs Python 3.10.
+6. Corrected and reported are a fraction of a second or more, a damaged length (if the other one
+   leads to the chain), a time out of range, the version and link type field, options that capkit
+   refuses, and text mode. Packets whose interface isn't known are dropped.
+docs/RELIABILITY.md says more. IN is copied if it is a pipe or in text mode. OUT gets its name at the
+end. The status is 0 if IN was in order, 1 if not or if nothing was written, 2 if the command line
+is wrong. Needs Python 3.10.
 """
 import argparse
 import contextlib
+import functools
 import itertools
 import os
 import re
@@ -213,7 +215,7 @@ class Reader:
         """A chain without what a lost packet may have carried: its start, if it is too early."""
         first = self.source.time - EARLIER
         late = list(itertools.dropwhile(lambda it: self.when(it) < first, bounds[:-1]))
-        is_carried = len(late) > 3 and late[0] - bounds[0] <= INSIDE
+        is_carried = len(late) > 3 and 0 < late[0] - bounds[0] <= INSIDE
         return late + bounds[-1:] if is_carried and all(map(self.is_near, late[:3])) else bounds
 
 
@@ -255,35 +257,34 @@ class Records(Reader):
     def heads(self, *places):
         return {it: self.head(it) for it in sorted(set(places))}
 
-    def signs(self, at, around, far=0):
-        """How many of two signs a record has, time and lengths; -1 if its lengths are none."""
+    def signs(self, at, around):
+        """How many of two signs a record has, time and lengths, less those against it."""
         seconds, part, captured, original = around.get(at) or self.head(at)
         others = [head for it, head in around.items() if it != at]
         times, _, sizes, _ = zip(*others) if others else [()] * 4
         ordered = sorted(times)
         gaps = [NEAR + 1, *map(sub, ordered[1:], ordered), NEAR + 1]
         is_set = ordered[:1] > [UNSET] and max(map(min, gaps, gaps[1:])) <= NEAR
-        is_near = is_set and (any(abs(it - seconds) <= NEAR for it in times) or far)
-        if max(times, default=UNSET) < UNSET:  # no sign, but one against the record
+        is_near = is_set and (any(abs(it - seconds) <= NEAR for it in times) or -1)
+        if max(times, default=UNSET) < UNSET:
             after = sum(it < at for it in around)
             close = times[max(0, after - 1) : after + 1]
             is_near = (min(close) - EARLIER <= seconds <= max(close) + 60) - 1
         is_whole = captured == original != part and captured >= min([SHORTEST, *sizes])
         is_whole |= captured in sizes and captured == max(sizes)
-        are_odd = 2 * sum(0 < it[2] <= it[3] for it in others) < len(others)
-        return is_near + is_whole if 0 < captured <= original or are_odd else -1
+        are_odd = 2 * sum(0 < it[2] <= it[3] <= LONGEST for it in others) < len(others)
+        return is_near + is_whole if 0 < captured <= original <= LONGEST or are_odd else -1
 
     def grounded(self, bounds, passes):
         """A chain from the first record on that has enough signs; None if it gets too short."""
         ends, least = [passes, *map(self.end, self.last)], min(len(bounds), self.source.row + 1)
         while len(bounds) >= least:
             around = self.heads(*self.last, *bounds[:-1][:DOUBTED])
-            signs = lambda places: [self.signs(it, around, -1) for it in places]
-            read = signs(it for it in self.last if self.end(it) > bounds[0])
-            new = signs(it for it in bounds[:UNITS] if it < max(ends))
-            some = [it > 0 for it in signs(bounds[:-1][:3])]
+            weight = lambda places: sum(1 + self.signs(it, around) for it in places)
+            read = weight(it for it in self.last if self.end(it) > bounds[0])
+            some = [self.signs(it, around) > 0 for it in bounds[:-1][:3]]
             is_row = some[0] and (len(bounds) > UNITS or 2 * sum(some) >= len(some))
-            if is_row and sum(new) + len(new) >= sum(read) + len(read):
+            if is_row and weight(it for it in bounds[:UNITS] if it < max(ends)) >= read:
                 return bounds
             bounds = bounds[1:]
         return None
@@ -371,8 +372,8 @@ class Blocks(Reader):
     is_sure, TIMED, grounded = True, 1, lambda self, bounds, _: bounds
     LIKELY = {"<": (re.compile(rb"\0\0\0(?<=[\1-\3\6]\0\0\0)"), 1, b"\0"),
               ">": (re.compile(rb"\0\0\0[\1-\3\6]"), 0, b"\0")}
-    # Of a section's interfaces the times, blocks, first snap length, if one is lost; last options.
-    faces, described, snap, is_torn, options = [], b"", 0, False, None
+    # A section's interfaces: ticks and offsets, blocks, the first snap length, whether one is lost.
+    faces, described, snap, is_torn = [], b"", 0, False
 
     def begin(self, at):
         """A section header, if there is none."""
@@ -389,7 +390,7 @@ class Blocks(Reader):
         kind, _, face, high = self.head(at)
         if kind != ENHANCED or face >= len(self.faces):
             return NO_TIME
-        return (high << 32 | self.head(at + 16)[0]) / self.times(face)[2]
+        return (high << 32 | self.head(at + 16)[0]) / self.faces[face][0]
 
     def step(self, at, data, base):
         """Where a block ends; past the end of the file if it is cut; None if it is none."""
@@ -451,16 +452,16 @@ class Blocks(Reader):
         if not self.faces:
             self.described, self.snap = bytearray(), self.sizes(data, at + 8)[1] or 2**32
         block = data[at : at + size]
-        if (options := block[16:-4]) != self.options:
-            self.options, self.found = options, self.read_options(options)
-        if not self.found[0]:
+        found = self.read_options(block[16:-4])
+        if not found:
             block = block[:4] + SHORT[self.order] + block[8:16] + SHORT[self.order]
-        self.faces.append(self.found)
+        self.faces.append(found or (10**6, 0))
         self.described += block if len(self.described) <= ZONE else b""
-        return SAME if self.found[0] else (block, "an interface, without its options")
+        return SAME if found else (block, "an interface, without its options")
 
+    @functools.lru_cache(1)
     def read_options(self, options):
-        """Whether capkit reads an interface's options, and the ticks of a second and the offset."""
+        """The ticks of a second and the offset, if capkit reads an interface's options."""
         option, found, code, place, end = self.option, {}, 1, 0, len(options)
         while place < end and code:
             code, length = option(options, place)
@@ -472,17 +473,14 @@ class Blocks(Reader):
         if given is not None:
             (offset,) = self.offset(given) if len(given) == 8 else (2**63,)
             is_right = is_right and -offset * second < 2**64 and offset * 10**9 < self.out.most
-        return [True, second, offset] if is_right else [False, 10**6, 0]
+        return (second, offset) if is_right else None
 
-    def times(self, face):
-        """Of an interface the least and greatest ticks, those of a second, the least as written."""
-        found = self.faces[face]
-        if len(found) == 3:
-            _, second, offset = found
-            least, most = max(0, -offset * second), self.out.most - offset * 10**9
-            time = struct.pack(self.order + "II", least >> 32, least % 2**32)
-            found.append((least, -(-most * second // 10**9) - 1, second, time))
-        return found[3]
+    @functools.lru_cache(MOST_INTERFACES)
+    def times(self, second, offset):
+        """The least and greatest ticks of an interface, and the least as written."""
+        least, most = max(0, -offset * second), self.out.most - offset * 10**9
+        time = struct.pack(self.order + "II", least >> 32, least % 2**32)
+        return least, -(-most * second // 10**9) - 1, time
 
     def enhanced(self, data, place, size):
         """A packet, with the least time if its own is out of range."""
@@ -493,8 +491,8 @@ class Blocks(Reader):
             return b"", " (a packet whose interface isn't known)"
         if not captured | self.sizes(data, place + 20)[1]:
             return b"", " (a packet without a length)"
-        least, greatest, second, time = self.times(face)
-        self.source.time = (ticks := high << 32 | low) / second
+        least, greatest, time = self.times(*self.faces[face])
+        self.source.time = (ticks := high << 32 | low) / self.faces[face][0]
         self.out.packets += 1
         if least <= ticks <= greatest:
             return SAME
@@ -563,7 +561,9 @@ def find(source, out, readers, begin, passes):
             source.tried += 8
             is_free = source.may_try(at) or source.header in (b"", source.get(at, 24))
             if at and is_free and (capture := capture_at(source, out, at)):
-                if at == passes or (capture[0].chain(capture[1], True) or [0])[-1] > passes:
+                bounds = capture[0].chain(capture[1], True) or [0]
+                is_carried = capture[0].without_carried(bounds) is not bounds
+                if at == passes or bounds[-1] > passes and not is_carried:
                     return at, *capture
         if reader:
             return place, reader, place
