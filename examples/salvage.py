@@ -10,24 +10,19 @@ written up to the first damage, and from then on by these rules. A unit is a rec
    if they lead to the end of the file or to a file header, or if they are from one second before
    the last packet to a day after it (a minute, if the clock wasn't set), and two of the first three
    records have a sign of rule 4. A file header at the end of the last unit needs no chain.
-3. The first chain wins; if chains meet, the one with most units before. Its start, even with a file
-   header, is left out if it is earlier than the last packet and the rest isn't: a lost packet may
-   have carried it.
+3. The first chain wins; if chains meet, the one with most units before. Its start, and a file header
+   before that, is left out if it is earlier than the last packet and the rest isn't: it was carried.
 4. A record next to damage needs two signs: it begins at the end of the last one; it ends at the
    chain; its time is within a day of one near it; its lengths are equal, and no less than 14 or all
-   near it, or it is as long as the longest of them. Each sign against it takes one more: lengths of
-   no record; a time far from those near it, if these agree. Times before 1971 aren't a sign, but one
-   against it if they aren't between those next to it. Without these it is dropped: the first records
-   of a chain, and the last eight before damage. Bytes that are read in two ways go to the side with
-   more signs. A chain is dropped if reading it ends within ROW records.
+   near it, or it is as long as the longest of them. Lengths of no record take one away, and so does
+   a time that isn't near if these agree, or isn't between them if they are from before 1971. Without
+   two, the first records of a chain and the last eight before damage are dropped, and a chain within
+   ROW records. Bytes that are read in two ways go to the side with more signs.
 5. Reading stops, and a chain is refused, 4 bytes off (fractions are captured lengths) or 1 byte off
    (lengths are 256 times too long, and the record 1 byte off has more signs).
-6. Corrected and reported are a fraction of a second or more, a damaged length (if the other one
-   leads to the chain), a time out of range, the version and link type field, options that capkit
-   refuses, and text mode. Packets whose interface isn't known are dropped.
-docs/RELIABILITY.md says more. IN is copied if it is a pipe or in text mode. OUT gets its name at the
-end. The status is 0 if IN was in order, 1 if not or if nothing was written, 2 if the command line
-is wrong. Needs Python 3.10.
+docs/RELIABILITY.md says what is corrected, and what can still be made up. IN is copied if it is a
+pipe or in text mode. OUT gets its name at the end. The status is 0 if IN was in order, 1 if not or
+if nothing was written, 2 if the command line is wrong. Needs Python 3.10.
 """
 import argparse
 import contextlib
@@ -171,6 +166,9 @@ class Reader:
         shapes = (struct.Struct(order + it).unpack_from for it in ("HH", "II", "III", "IIII", "q"))
         self.option, self.sizes, self.ends, self.unpack, self.offset = shapes
 
+    def steps(self, at):
+        return self.step(at, *self.source.load(at))
+
     def head(self, at):
         return self.unpack(self.source.get(at, 16).ljust(16, b"\0"))
 
@@ -178,17 +176,22 @@ class Reader:
         time = self.source.time
         return -EARLIER <= self.when(at) - time <= (NEAR if time > UNSET else 60 * (time > 0))
 
-    def chain(self, start, is_headed=False):
-        """Where the units in a row from a place on begin, and the last one ends, if believed."""
-        source, bounds, end, step = self.source, [start], start, self.step
-        held = source.load(start)
-        while end and end <= source.size and end - start <= (INSIDE, FAR)[len(bounds) <= UNITS]:
+    def row(self, start, known=()):
+        """Where the units in a row begin and the last one ends, up to a known place; what follows."""
+        bounds, end, step, size = [start], start, self.step, self.source.size
+        held = self.source.load(start)
+        while end and end <= size and end - start <= (INSIDE, FAR)[len(bounds) <= UNITS]:
+            if end in known:
+                break
             end = step(end, *held)
-            bounds += [end] if end and end <= source.size else []
-        source.tried += len(bounds)
-        if end and end <= source.size:
-            return bounds
-        if len(bounds) > 1 and capture_at(source, self.out, bounds[-1]):
+            bounds += [end] if end and end <= size else []
+        self.source.tried += len(bounds)
+        return bounds, end
+
+    def chain(self, start, is_headed=False):
+        """The units in a row from a place on, if they are believed."""
+        source, (bounds, end) = self.source, self.row(start)
+        if end and end <= source.size or bounds[1:] and capture_at(source, self.out, bounds[-1]):
             return bounds
         is_right = bounds[-1] == source.size or is_headed and end or (
             self.is_sure and source.time is NO_TIME or all(map(self.is_near, bounds[: self.TIMED])))
@@ -200,12 +203,11 @@ class Reader:
             best = self.chain(place)
             if not best or place < passes and (place in self.last or best[-1] <= passes):
                 continue
-            known = set(best)
+            known = dict(zip(best, itertools.count()))
             for other in self.source.places(*self.likely, place + 1, min(place + 4096, best[-1])):
-                bounds = self.chain(other) or []
-                meets = min(known.intersection(bounds), default=None)
-                if meets and bounds.index(meets) > best.index(meets):
-                    best, known = bounds, set(bounds)
+                row, meets = self.row(other, known)
+                if len(row) - 1 > known.get(meets, len(row)) and (row := self.chain(other)):
+                    best, known = row, dict(zip(row, itertools.count()))
             if best := self.grounded(best, passes):
                 self.after = best[:-1][:DOUBTED]
                 return self.without_carried(best)
@@ -265,7 +267,7 @@ class Records(Reader):
         ordered = sorted(times)
         gaps = [NEAR + 1, *map(sub, ordered[1:], ordered), NEAR + 1]
         is_set = ordered[:1] > [UNSET] and max(map(min, gaps, gaps[1:])) <= NEAR
-        is_near = is_set and (any(abs(it - seconds) <= NEAR for it in times) or -1)
+        is_near = any(it > UNSET and abs(it - seconds) <= NEAR for it in times) or -is_set
         if max(times, default=UNSET) < UNSET:
             after = sum(it < at for it in around)
             close = times[max(0, after - 1) : after + 1]
@@ -307,7 +309,7 @@ class Records(Reader):
                 is_next = is_pair and part >= units and 0 < after[2] <= after[3] <= LONGEST
                 is_near = abs(seconds - after[0]) < NEAR * (seconds > UNSET)
                 is_next &= is_near or captured in (original, after[2])
-                if not is_next and self.is_fault(data, base, place, odd):
+                if not is_next and self.is_fault(base + place, odd):
                     break
                 (odd if part >= units else self.last).append(base + place)
                 if part >= units:
@@ -324,26 +326,24 @@ class Records(Reader):
         out.packets += packets
         return base + place
 
-    def is_fault(self, data, base, place, odd):
+    def is_fault(self, at, odd):
         """Whether this is no record (of any fraction), or reading is off by 4 bytes, or by 1."""
-        seconds, part, captured, original = self.unpack(data, place)
-        at, is_pair, last = base + place, 0 < captured <= original <= LONGEST, self.last
+        seconds, part, captured, original = self.head(at)
+        is_pair, around = 0 < captured <= original <= LONGEST, self.heads(*self.last)
         real, end = at + (1 if self.order == "<" else -1), at + 16 + captured
         if is_pair and not captured & 255:
-            is_real = self.step(self.end(real), *self.source.load(at))
-            last = self.heads(*last)
-            if self.signs(real, last) + bool(is_real) > self.signs(at, last) + (original & 255 > 0):
+            signs = self.signs(real, around) + bool(self.steps(self.end(real)))
+            if signs > self.signs(at, around) + (original & 255 > 0):
                 return True
         if part >= self.units or not captured | original:
-            around = self.heads(*last, *odd[-DOUBTED:], *[end] * (end < self.source.size))
-            signs = self.signs(at, around) + bool(self.step(end, data, base))
-            return not is_pair or signs < 2
-        return 0 < captured == part and seconds < self.units and self.step(end - 4, data, base)
+            around = self.heads(*around, *odd[-DOUBTED:], *[end] * (end < self.source.size))
+            return not is_pair or self.signs(at, around) + bool(self.steps(end)) < 2
+        return 0 < captured == part and seconds < self.units and self.steps(end - 4)
 
     def settle(self, at, place):
         """Drops records in the way of a chain, or puts one right; returns the end of those kept."""
         last, around = self.last, self.heads(*self.last, *(it for it in self.after if it >= place))
-        is_cut = (self.step(at, *self.source.load(at)) or 0) > self.source.size
+        is_cut = (self.steps(at) or 0) > self.source.size
         goal = at if is_cut and self.signs(at, around) > 0 else place
         is_short = last and last[0] == self.origin and len(last) < self.source.row
         while last and (is_short or (end := self.end(last[-1])) > place
@@ -590,7 +590,7 @@ def salvage(source, out, guessed):
             fault, at = at, reader.read_held(at, *source.load(at))
         if fault == source.size:
             break
-        last = list(itertools.takewhile(lambda it: reader.step(it, *source.load(it)), reader.last))
+        last = list(itertools.takewhile(reader.steps, reader.last))
         source.time = reader.when(last[-1]) if last else source.time
         passes = [*reader.last, fault][len(last)] if last else fault  # or a damaged record before
         begin = max(reader.last[0] + 1 if reader.last else fault, place + 1)
