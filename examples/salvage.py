@@ -275,7 +275,8 @@ class Records(Reader):
         is_whole = captured == original != part and captured >= min([SHORTEST, *sizes])
         is_whole |= captured in sizes and captured == max(sizes)
         are_odd = 2 * sum(0 < it[2] <= it[3] <= LONGEST for it in others) < len(others)
-        return is_near + is_whole if 0 < captured <= original <= LONGEST or are_odd else -1
+        is_pair = 0 < captured <= original <= LONGEST or are_odd
+        return is_near + (is_whole if is_pair else -1)
 
     def grounded(self, bounds, passes):
         """A chain from the first record on that has enough signs; None if it gets too short."""
@@ -338,7 +339,8 @@ class Records(Reader):
         if part >= self.units or not captured | original:
             around = self.heads(*around, *odd[-DOUBTED:], *[end] * (end < self.source.size))
             return not is_pair or self.signs(at, around) + bool(self.steps(end)) < 2
-        return 0 < captured == part and seconds < self.units and self.steps(end - 4)
+        is_off = 0 < captured == part and seconds < self.units and self.steps(end - 4)
+        return is_off or self.signs(at, around) < -1
 
     def settle(self, at, place):
         """Drops records in the way of a chain, or puts one right; returns the end of those kept."""
@@ -544,6 +546,7 @@ def like(name, source, out):
         reader, at = capture_at(other := Source(held, name, 1), Output(other, out.form, ""), 0)
         reader.read_held(at, *other.load(0))
     reader.source, reader.out = source, out
+    reader.last.clear()
     return reader
 
 
