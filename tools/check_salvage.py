@@ -13,7 +13,7 @@ time, original length and bytes (where the damage is of times, by the last two):
   true     packets of the capture, each once, also  again    the same packet once more
            with another time, if its own bytes were damaged
   changed  packets that aren't true, but have one of these in common with one whose own bytes were
-           damaged: a time that no other packet has, or a time and the captured length; the second and
+           damaged: a time that no other packet has, or a time and one of the lengths; the second and
            both lengths; all bytes; both lengths and the first or last 12 bytes; the first 24 bytes
   false    all others: they were made up            missed   undamaged packets that weren't read
 
@@ -412,6 +412,7 @@ def marks(packet, times):
     when, original, data = packet
     size = len(data)
     yield "time", when, size if times[when] > 1 else None
+    yield "original", when, original
     yield "lengths", when // 10**9, size, original
     if size:
         yield "data", data
