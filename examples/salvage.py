@@ -4,25 +4,9 @@
 usage: salvage.py [-F FORMAT] [-n ROW] [--like FILE] IN OUT    (- is standard input or output)
 
 A file that capkit reads to its end is written as `capkit edit` does. In another one the packets are
-written up to the first damage, and from then on by these rules. A unit is a record or a block.
-1. A chain is a row of units with consistent lengths, each of which begins at the end of the last.
-2. It is believed if no packet can carry it (64 KiB and 32 units, or 2 MiB). ROW (3) units suffice
-   if they lead to the end of the file or to a file header, or if they are from one second before
-   the last packet to a day after it (a minute, if the clock wasn't set), and two of the first three
-   records have a sign of rule 4. A file header at the end of the last unit needs no chain.
-3. The first chain wins; if chains meet, the one with most units before. Its start, and a file header
-   before that, is left out if it is earlier than the last packet and the rest isn't: it was carried.
-4. A record next to damage needs two signs: it begins at the end of the last one; it ends at the
-   chain; its time is within a day of one near it; its lengths are equal, and no less than 14 or all
-   near it, or it is as long as the longest of them. Lengths of no record take one away, and so does
-   a time that isn't near if these agree, or isn't between them if they are from before 1971. Without
-   two, the first records of a chain and the last eight before damage are dropped, and a chain within
-   ROW records. Bytes that are read in two ways go to the side with more signs.
-5. Reading stops, and a chain is refused, 4 bytes off (fractions are captured lengths) or 1 byte off
-   (lengths are 256 times too long, and the record 1 byte off has more signs).
-docs/RELIABILITY.md says what is corrected, and what can still be made up. IN is copied if it is a
-pipe or in text mode. OUT gets its name at the end. The status is 0 if IN was in order, 1 if not or
-if nothing was written, 2 if the command line is wrong. Needs Python 3.10.
+written up to the first damage, and from then on by the rules in docs/RELIABILITY.md. IN is copied if
+it is a pipe or in text mode. OUT gets its name at the end. The status is 0 if IN was in order, 1 if
+not or if nothing was written, 2 if the command line is wrong. Needs Python 3.10.
 """
 import argparse
 import contextlib
@@ -36,11 +20,9 @@ import subprocess
 import sys
 import tempfile
 from collections import deque
-from operator import sub
 
-FORMS = {b"\xd4\xc3\xb2\xa1": ("<", 10**6), b"\x4d\x3c\xb2\xa1": ("<", 10**9),
-         b"\xa1\xb2\xc3\xd4": (">", 10**6), b"\xa1\xb2\x3c\x4d": (">", 10**9)}
-MAGICS = {form: magic for magic, form in FORMS.items()}
+MAGICS = {(it, units): struct.pack(it + "I", magic) for it in "<>" for units, magic in ((10**6, 0xA1B2C3D4), (10**9, 0xA1B23C4D))}
+FORMS = {magic: form for form, magic in MAGICS.items()}
 SECTION, INTERFACE, OBSOLETE, SIMPLE, ENHANCED = 0x0A0D0D0A, 1, 2, 3, 6
 LEAST = {SECTION: 28, INTERFACE: 20, OBSOLETE: 12, SIMPLE: 16, ENHANCED: 32}
 SECTION_TYPE, ORDER_MAGIC = b"\n\r\r\n", 0x1A2B3C4D
@@ -135,12 +117,11 @@ class Output:
     def put(self, data):
         """Writes to capkit. A capture of pcap becomes pcapng by a capkit of its own before."""
         self.settle()
-        pipe = subprocess.PIPE
-        self.final = self.final or subprocess.Popen(self.words, stdin=pipe, bufsize=ZONE)
+        self.final = self.final or subprocess.Popen(self.words, stdin=subprocess.PIPE, bufsize=ZONE)
         if self.header and not self.piece:
             self.final.stdin.flush()
-            words = ["capkit", "edit", "-F", "pcapng", "-", "-"]
-            self.piece = subprocess.Popen(words, stdin=pipe, stdout=self.final.stdin, bufsize=ZONE)
+            words, out = [*self.words[:3], "pcapng", "-", "-"], self.final.stdin
+            self.piece = subprocess.Popen(words, stdin=subprocess.PIPE, stdout=out, bufsize=ZONE)
             self.piece.stdin.write(self.header)
         (self.piece or self.final).stdin.write(data)
 
@@ -154,8 +135,7 @@ class Output:
         self.places += 1
         self.left_out += size
         if self.places <= NOTES:
-            text = f"{size} bytes left out{text}" if size else text
-            report(f"{self.source.name}: offset {at}: {text}")
+            report(f"{self.source.name}: offset {at}: {f'{size} bytes left out' if size else ''}{text}")
 
 
 class Reader:
@@ -180,9 +160,7 @@ class Reader:
         """Where the units in a row begin and the last one ends, up to a known place; what follows."""
         bounds, end, step, size = [start], start, self.step, self.source.size
         held = self.source.load(start)
-        while end and end <= size and end - start <= (INSIDE, FAR)[len(bounds) <= UNITS]:
-            if end in known:
-                break
+        while end and end <= size and end not in known and end - start <= (INSIDE, FAR)[len(bounds) <= UNITS]:
             end = step(end, *held)
             bounds += [end] if end and end <= size else []
         self.source.tried += len(bounds)
@@ -193,8 +171,8 @@ class Reader:
         source, (bounds, end) = self.source, self.row(start)
         if end and end <= source.size or bounds[1:] and capture_at(source, self.out, bounds[-1]):
             return bounds
-        is_right = bounds[-1] == source.size or is_headed and end or (
-            self.is_sure and source.time is NO_TIME or all(map(self.is_near, bounds[: self.TIMED])))
+        is_timely = self.is_sure and source.time is NO_TIME or all(map(self.is_near, bounds[: self.TIMED]))
+        is_right = bounds[-1] == source.size or is_headed and end or is_timely
         return bounds if len(bounds) > source.row and is_right else None
 
     def first(self, begin, end, passes):
@@ -215,8 +193,7 @@ class Reader:
 
     def without_carried(self, bounds):
         """A chain without what a lost packet may have carried: its start, if it is too early."""
-        first = self.source.time - EARLIER
-        late = list(itertools.dropwhile(lambda it: self.when(it) < first, bounds[:-1]))
+        late = [*itertools.dropwhile(lambda it: self.when(it) < self.source.time - EARLIER, bounds[:-1])]
         is_carried = len(late) > 3 and 0 < late[0] - bounds[0] <= INSIDE
         return late + bounds[-1:] if is_carried and all(map(self.is_near, late[:3])) else bounds
 
@@ -233,8 +210,7 @@ class Records(Reader):
         if self.units is None:
             self.units = 10**9 if max(self.head(it)[1] for it in self.after) >= 10**6 else 10**6
             self.out.note(at, f"no file header: read as pcap of link type {self.link}")
-        header = struct.pack(self.order + "HHIIII", 2, 4, 0, 0, LONGEST, self.link)
-        self.out.begin(MAGICS[self.order, self.units] + header)
+        self.out.begin(MAGICS[self.order, self.units] + struct.pack(self.order + "HHIIII", 2, 4, 0, 0, LONGEST, self.link))
 
     def when(self, at):
         return self.head(at)[0]
@@ -264,19 +240,15 @@ class Records(Reader):
         seconds, part, captured, original = around.get(at) or self.head(at)
         others = [head for it, head in around.items() if it != at]
         times, _, sizes, _ = zip(*others) if others else [()] * 4
-        ordered = sorted(times)
-        gaps = [NEAR + 1, *map(sub, ordered[1:], ordered), NEAR + 1]
-        is_set = ordered[:1] > [UNSET] and max(map(min, gaps, gaps[1:])) <= NEAR
-        is_near = any(it > UNSET and abs(it - seconds) <= NEAR for it in times) or -is_set
+        count = lambda time: sum(it > UNSET and abs(it - time) <= NEAR for it in times)
+        is_near = count(seconds) > 0 or -(times != () and all(count(it) > 1 for it in times))
         if max(times, default=UNSET) < UNSET:
             after = sum(it < at for it in around)
             close = times[max(0, after - 1) : after + 1]
             is_near = (min(close) - EARLIER <= seconds <= max(close) + 60) - 1
-        is_whole = captured == original != part and captured >= min([SHORTEST, *sizes])
-        is_whole |= captured in sizes and captured == max(sizes)
+        is_whole = captured >= min([SHORTEST, *sizes]) and captured == original != part or captured == max([0, *sizes])
         are_odd = 2 * sum(0 < it[2] <= it[3] <= LONGEST for it in others) < len(others)
-        is_pair = 0 < captured <= original <= LONGEST or are_odd
-        return is_near + (is_whole if is_pair else -1)
+        return is_near + (is_whole if 0 < captured <= original <= LONGEST or are_odd else -1)
 
     def grounded(self, bounds, passes):
         """A chain from the first record on that has enough signs; None if it gets too short."""
@@ -302,14 +274,12 @@ class Records(Reader):
         while place <= stop and (end := place + 16 + after[2]) <= size and after[2] <= LONGEST:
             (seconds, part, captured, original), after = after, unpack(data, end)
             is_pair = captured & 255 and captured <= original <= LONGEST
-            is_off = part == captured and seconds < units and (
-                0 < after[1] <= after[2] or end + 12 > size)
+            is_off = part == captured and seconds < units and (0 < after[1] <= after[2] or end + 12 > size)
             if part < units and (is_pair and not is_off or not captured and original):
                 append(base + place)
             else:
                 is_next = is_pair and part >= units and 0 < after[2] <= after[3] <= LONGEST
-                is_near = abs(seconds - after[0]) < NEAR * (seconds > UNSET)
-                is_next &= is_near or captured in (original, after[2])
+                is_next &= captured in (original, after[2]) or abs(seconds - after[0]) < NEAR * (seconds > UNSET)
                 if not is_next and self.is_fault(base + place, odd):
                     break
                 (odd if part >= units else self.last).append(base + place)
@@ -321,8 +291,7 @@ class Records(Reader):
             out.note(it, "a fraction of a second or more, written as 0")
         if odd:
             out.put(made)
-            later, self.is_odd = [it for it in self.last if it > odd[-1]], True
-            self.last = deque(later, DOUBTED)
+            self.last, self.is_odd = deque((it for it in self.last if it > odd[-1]), DOUBTED), True
         out.keep(base + done, base + place)
         out.packets += packets
         return base + place
@@ -345,11 +314,10 @@ class Records(Reader):
     def settle(self, at, place):
         """Drops records in the way of a chain, or puts one right; returns the end of those kept."""
         last, around = self.last, self.heads(*self.last, *(it for it in self.after if it >= place))
-        is_cut = (self.steps(at) or 0) > self.source.size
-        goal = at if is_cut and self.signs(at, around) > 0 else place
+        goal = at if (self.steps(at) or 0) > self.source.size and self.signs(at, around) > 0 else place
         is_short = last and last[0] == self.origin and len(last) < self.source.row
-        while last and (is_short or (end := self.end(last[-1])) > place
-                        or self.signs(last[-1], around) + (end in (place, goal)) < 1):
+        weight = lambda it: -1 if self.end(it) > place else self.signs(it, around) + (self.end(it) in (place, goal))
+        while last and (is_short or weight(last[-1]) < 1):
             at = last.pop()
             del around[at]
             self.out.packets -= 1
@@ -362,8 +330,7 @@ class Records(Reader):
             self.out.note(at, why if size != was else f"a fraction of {part}, written as 0")
             if part >= self.units:
                 self.is_odd, part = True, 0
-            header = struct.pack(self.order + "IIII", seconds, part, size, original)
-            self.out.put(header + self.source.get(at + 16, size))
+            self.out.put(struct.pack(self.order + "IIII", seconds, part, size, original) + self.source.get(at + 16, size))
             self.out.packets += 1
             return place
         return at
@@ -384,15 +351,14 @@ class Blocks(Reader):
             self.out.note(at, "no section header")
             if len(self.described) > ZONE:
                 self.faces, self.described, self.is_torn = [], b"", True
-            header = (SECTION, 28, ORDER_MAGIC, 1, 0, -1, 28)
-            self.out.put(struct.pack(self.order + "IIIHHqI", *header) + self.described)
+            header = struct.pack(self.order + "IIIHHqI", SECTION, 28, ORDER_MAGIC, 1, 0, -1, 28)
+            self.out.put(header + self.described)
 
     def when(self, at):
         """The time of a packet; no number if it isn't known."""
         kind, _, face, high = self.head(at)
-        if kind != ENHANCED or face >= len(self.faces):
-            return NO_TIME
-        return (high << 32 | self.head(at + 16)[0]) / self.faces[face][0]
+        is_known = kind == ENHANCED and face < len(self.faces)
+        return (high << 32 | self.head(at + 16)[0]) / self.faces[face][0] if is_known else NO_TIME
 
     def step(self, at, data, base):
         """Where a block ends; past the end of the file if it is cut; None if it is none."""
@@ -453,8 +419,7 @@ class Blocks(Reader):
             return b"", " (an interface whose number isn't known)"
         if not self.faces:
             self.described, self.snap = bytearray(), self.sizes(data, at + 8)[1] or 2**32
-        block = data[at : at + size]
-        found = self.read_options(block[16:-4])
+        found = self.read_options((block := data[at : at + size])[16:-4])
         if not found:
             block = block[:4] + SHORT[self.order] + block[8:16] + SHORT[self.order]
         self.faces.append(found or (10**6, 0))
@@ -532,8 +497,7 @@ def capture_at(source, out, at):
         reader.units, reader.link = units, link & 0xFFFF
         is_right = (major, minor, link) == (2, 4, reader.link)
         if not at and not is_right:
-            was = f"version {major}.{minor} and a link type field of {link:#x}"
-            out.note(at, f"{was}, written as 2.4 and {reader.link}")
+            out.note(at, f"version {major}.{minor} and a link type field of {link:#x}, written as 2.4 and {reader.link}")
         return (reader, at + 24) if is_right or not at else None
     return None
 
@@ -545,8 +509,7 @@ def like(name, source, out):
             raise OSError(0, "capkit doesn't read it to its end", name)
         reader, at = capture_at(other := Source(held, name, 1), Output(other, out.form, ""), 0)
         reader.read_held(at, *other.load(0))
-    reader.source, reader.out = source, out
-    reader.last.clear()
+    reader.source, reader.out, reader.last = source, out, deque(maxlen=DOUBTED)
     return reader
 
 
@@ -565,8 +528,7 @@ def find(source, out, readers, begin, passes):
             is_free = source.may_try(at) or source.header in (b"", source.get(at, 24))
             if at and is_free and (capture := capture_at(source, out, at)):
                 bounds = capture[0].chain(capture[1], True) or [0]
-                is_carried = capture[0].without_carried(bounds) is not bounds
-                if at == passes or bounds[-1] > passes and not is_carried:
+                if at == passes or bounds[-1] > passes and capture[0].without_carried(bounds) is bounds:
                     return at, *capture
         if reader:
             return place, reader, place
@@ -597,10 +559,8 @@ def salvage(source, out, guessed):
         source.time = reader.when(last[-1]) if last else source.time
         passes = [*reader.last, fault][len(last)] if last else fault  # or a damaged record before
         begin = max(reader.last[0] + 1 if reader.last else fault, place + 1)
-        readers = list(seen.values())
         source.tried += 40
-        if not source.may_try(fault):
-            readers, begin = [reader], fault + 4096
+        readers, begin = ([*seen.values()], begin) if source.may_try(fault) else ([reader], fault + 4096)
         place, other, at = find(source, out, readers, begin, passes)
         if (end := reader.settle(fault, place)) < place:
             out.note(end, "", place - end)
