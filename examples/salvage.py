@@ -241,12 +241,13 @@ class Records(Reader):
         others = [head for it, head in around.items() if it != at]
         times, _, sizes, _ = zip(*others) if others else [()] * 4
         count = lambda time: sum(it > UNSET and abs(it - time) <= NEAR for it in times)
-        is_near = count(seconds) > 0 or -(times != () and all(count(it) > 1 for it in times))
+        is_near = count(seconds) > 0 or -(sum(count(it) > 1 for it in times) > max(1, len(times) - 2))
         if max(times, default=UNSET) < UNSET:
             after = sum(it < at for it in around)
             close = times[max(0, after - 1) : after + 1]
             is_near = (min(close) - EARLIER <= seconds <= max(close) + 60) - 1
-        is_whole = captured >= min([SHORTEST, *sizes]) and captured == original != part or captured == max([0, *sizes])
+        is_whole = min([SHORTEST, *sizes]) <= captured == original <= max([INSIDE, *sizes]) and original != part
+        is_whole |= captured == max([0, *sizes])
         are_odd = 2 * sum(0 < it[2] <= it[3] <= LONGEST for it in others) < len(others)
         return is_near + (is_whole if 0 < captured <= original <= LONGEST or are_odd else -1)
 
@@ -256,12 +257,12 @@ class Records(Reader):
         while len(bounds) >= least:
             around = self.heads(*self.last, *bounds[:-1][:DOUBTED])
             weight = lambda places: sum(1 + self.signs(it, around) for it in places)
-            read = weight(it for it in self.last if self.end(it) > bounds[0])
-            some = [self.signs(it, around) > 0 for it in bounds[:-1][:3]]
-            is_row = some[0] and (len(bounds) > UNITS or 2 * sum(some) >= len(some))
-            if is_row and weight(it for it in bounds[:UNITS] if it < max(ends)) >= read:
+            some = (self.signs(it, around) > 0 for it in bounds[:-1][:3])
+            is_row = next(some) and (len(bounds) > UNITS or sum(some) > 0 or len(bounds) < 4)
+            read = (it for it in self.last if self.end(it) > bounds[0])
+            if is_row and weight(it for it in bounds[:UNITS] if it < max(ends)) >= weight(read):
                 return bounds
-            bounds = bounds[1:]
+            bounds, self.source.tried = bounds[1:], self.source.tried + 10
         return None
 
     def read_held(self, at, data, base):
@@ -634,8 +635,7 @@ def main():
         signal.signal(number, lambda *_: sys.exit(1))
     part = path = given.OUT
     if path != "-" and (os.path.isfile(path) or not os.path.exists(path)):
-        path = os.path.realpath(path)
-        part = f"{path}.{os.getpid()}.part"
+        part = f"{(path := os.path.realpath(path))}.{os.getpid()}.part"
     try:
         out = 1 if path == "-" else path
         for name in (0 if given.IN == "-" else given.IN, given.like or given.IN):

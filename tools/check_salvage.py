@@ -14,7 +14,7 @@ time, original length and bytes (where the damage is of times, by the last two):
            with another time, if its own bytes were damaged
   changed  packets that aren't true, but have one of these in common with one whose own bytes were
            damaged: a time that no other packet has, or a time and one of the lengths; the second and
-           both lengths; all bytes; both lengths and the first or last 12 bytes; the first 24 bytes
+           both lengths; all bytes; the captured length and the first or last 12 bytes; the first 24 bytes
   false    all others: they were made up            missed   undamaged packets that weren't read
 
 The status is 1 where salvage.py wrote a false packet, fewer true ones than capkit, tcpdump or editcap,
@@ -416,8 +416,8 @@ def marks(packet, times):
     yield "lengths", when // 10**9, size, original
     if size:
         yield "data", data
-        yield "front", size, original, data[:12]
-        yield "back", size, original, data[-12:]
+        yield "front", size, data[:12]
+        yield "back", size, data[-12:]
     if size >= 24:
         yield "begins", data[:24]
 
