@@ -1,11 +1,12 @@
 #!/usr/bin/env python3
-"""Measures `edit -D 1000` over packets that were chosen so that their digests collide, beside others.
+"""Measures what `edit -D 1000` costs at worst: over packets whose digests were made to collide, and over others. For whoever
+changes the window of duplicates.
 
 usage: collide.py [--packets N] [--capkit PROGRAM]
 
-The window finds a packet by the low ten bits of its MD5 where it has 1,000 packets. Of N packets (10,000) all digests
-agree in these bits; of as many others they don't. Printed are the instructions a packet of both, counted by valgrind's
-callgrind. Choosing takes some 25 seconds.
+A window of 1,000 packets finds a packet by the low ten bits of its MD5. It makes N packets (10,000) whose digests agree in
+these bits, and as many whose digests don't, in about 25 seconds. Then it prints the instructions per packet for both, which
+valgrind's callgrind counts.
 """
 import argparse
 import hashlib

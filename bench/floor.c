@@ -1,12 +1,12 @@
-/* What such jobs cost at least: the work of some of capkit's commands, written by hand for the usual case alone.
+/* A lower bound for bench/run.py: some of capkit's commands, written by hand in C, only for the usual case.
  *
- * usage: floor copy|pcapng OUT IN FIRST LAST    leaves the packets FIRST to LAST out
+ * usage: floor copy|pcapng OUT IN FIRST LAST    all packets except FIRST to LAST
  *        floor merge OUT IN IN                  by time
  *        floor infos IN
  *        floor web OUT IN                       tcp port 80 or 443, over Ethernet
  *
  * It reads pcap in little-endian order with microseconds, through buffers of 64 KiB, and writes through one of 256 KiB,
- * as capkit does. It trusts lengths below its limit and checks little else, so it is a yardstick and no tool.
+ * as capkit does. It trusts lengths below its limit and checks little else, so it is a yardstick, not a tool.
  */
 #include <fcntl.h>
 #include <stdint.h>
@@ -190,7 +190,7 @@ static unsigned half(const unsigned char *at)
     return (unsigned)at[0] << 8 | at[1];
 }
 
-/* Ports after a TCP header's place, where the captured bytes reach. */
+/* Whether a port of the TCP header at this place, if it was captured, is 80 or 443. */
 static int is_web_at(const struct reader *input, size_t place)
 {
     if (input->captured < place + 4)

@@ -1,7 +1,8 @@
 #!/usr/bin/env python3
-"""Writes a pcap file of made-up traffic: TCP, UDP, ICMP, ARP and IPv6 on Ethernet, 60 to 200 bytes a packet.
+"""Writes a pcap file of made-up traffic, for measurements and tests: TCP, UDP, ICMP, ARP and IPv6 on Ethernet, in packets of 60
+to 200 bytes. The same number of packets gives the same bytes every time.
 
-usage: make_capture.py FILE [PACKETS]        (1,000,000 packets where no number is given; the seed is fixed)
+usage: make_capture.py FILE [PACKETS]        1,000,000 packets by default
 """
 import random
 import struct
@@ -83,7 +84,7 @@ def arp():
 
 
 def packet():
-    """A frame of Ethernet: of 100, 78 are IPv4, 16 IPv6, 4 ARP and 2 LLDP."""
+    """A frame of Ethernet: IPv4 (78 %), IPv6 (16 %), ARP (4 %) or LLDP (2 %)."""
     length = rng.randrange(46, 187)
     kind = rng.random()
     if kind < 0.78:

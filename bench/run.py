@@ -1,17 +1,18 @@
 #!/usr/bin/env python3
-"""Measures capkit beside editcap, mergecap, capinfos and tcpdump, where these are installed, and prints a table.
+"""Compares the CPU time and memory of capkit with those of editcap, mergecap, capinfos and tcpdump, and prints a table. For
+whoever changes code that runs once per packet, and for the figures on pages.
 
-usage: run.py [--packets N] [--rounds N] [--capkit PROGRAM] [--instructions] [NAME..]
+usage: run.py [--packets N] [--rounds N] [--seconds N] [--capkit PROGRAM] [--instructions | --page] [NAME..]
 
-A capture is made in a temporary folder. Each job is run by all programs in turn, ROUNDS times (5), and the
-best time of each counts: processor time, the user's and the system's, in seconds. Memory is the most that was
-resident, in MiB, as GNU time tells it, where that is installed. What capkit and the other tool write is compared
-first, after the file header; a report is compared by its number of packets. NAMEs choose jobs; none means all.
+It makes a capture of N packets (1,000,000) in a temporary folder. The programs write their captures there too: set TMPDIR to a
+folder on a disk. The programs run each job in turn, ROUNDS times (15), or until it has taken SECONDS (60) in 3 rounds or more, and the
+best CPU time of each counts (user and system, in seconds). Memory is the greatest resident size in MiB, if GNU time is installed.
+First it compares what capkit and the other tool write (after the file header; for reports, the number of packets). NAMEs choose
+jobs; without one, all run. Tools that aren't installed are left out. --page prints rows as docs/inside/TESTING.md has them.
 
-Beside some jobs hand-written C is measured (floor.c, where there is a C compiler), which does the least that such
-a job can do. Instructions a packet are counted by valgrind's callgrind, where that is installed, as the difference
-between a capture of 30,000 packets and its first 10,000: they are the same again on a busy machine.
---instructions counts them alone.
+For some jobs it also measures floor.c, a C program that does only what such a job can't avoid, if there is a C compiler. If
+valgrind is installed, callgrind counts the instructions per packet: the difference between a capture of 30,000 packets and its
+first 10,000, which doesn't depend on the load of the machine. --instructions does only this.
 """
 import argparse
 import ipaddress
@@ -25,6 +26,7 @@ import shutil
 import subprocess
 import sys
 import tempfile
+import time
 
 import make_capture
 
@@ -66,8 +68,8 @@ EXPRESSIONS = {
     "hosts-2730": "ip src host " + " or ".join(network(32)[:-3] for _ in range(2730)),
     "macs-40": " or ".join("ether src 00" + "".join(f":{chooser.randrange(256):02x}" for _ in range(5)) for _ in range(40)),
     "ip6-256": " or ".join(f"src host 2001:db8::{k:x}" for k in range(256)),
-    "ip6-hosts-256": " or ".join(f"host 2001:db8::{k:x}" for k in range(256)),
-    "ip6-hosts-64": " or ".join(f"host 2001:db8::{k:x}:0:{k:x}" for k in range(256)),
+    "ip6-hosts-256": " or ".join(f"{side} host 2001:db8::{k:x}" for side in ("src", "dst") for k in range(256)),
+    "ip6-hosts-64": " or ".join(f"{side} host 2001:db8::{k:x}:0:{k:x}" for side in ("src", "dst") for k in range(256)),
     "bytes-30": " or ".join(f"tcp[0:2] = {port}" for port in PORTS[::10]),
     "flows-32": " or ".join(flow() for _ in range(32)),
     "flows-100": " or ".join(flow() for _ in range(100)),
@@ -130,7 +132,7 @@ def jobs(capkit, floor, capture, folder):
 
 
 def compiled_floor(folder):
-    """The program that floor.c is, or None where there is no C compiler."""
+    """Compiles floor.c, and returns the program; None without a C compiler."""
     compiler = shutil.which("cc") or shutil.which("gcc") or shutil.which("clang")
     if compiler is None:
         return None
@@ -178,7 +180,7 @@ def packets_of(path):
 
 
 def counted(words):
-    """The number of packets that a report tells."""
+    """The number of packets in a report."""
     report = subprocess.run(words, capture_output=True, text=True, check=True).stdout
     counts = re.findall(r"^(?:Packets|Number of packets): *(?:= *)?(\d+)", report, re.MULTILINE)
     return counts[0] if counts else None
@@ -197,12 +199,15 @@ def compare(name, programs, folder):
     return "same" if same else "DIFFERENT"
 
 
-def measure(programs, rounds, folder):
+def measure(programs, arguments, folder):
     """Measures a job in turn by each of the programs: the best times, and the greatest memory of two."""
-    times = {which: [] for which in programs}
-    for _ in range(rounds):
+    times, out, end = {which: [] for which in programs}, folder / "out", time.monotonic() + arguments.seconds
+    for turn in range(arguments.rounds):
+        if turn >= 3 and time.monotonic() > end:
+            break
         for which, words in programs.items():
-            times[which].append(run(words, "/dev/null"))
+            out.unlink(missing_ok=True)
+            times[which].append(run(words, str(out)))
     best = [min(times.get(which, [math.nan])) for which in ("own", "peer", "floor")]
     return best, [memory_of(programs[which], folder) for which in ("own", "peer")]
 
@@ -217,7 +222,7 @@ def small_jobs(capkit, floor, folder):
 
 
 def counts_of(few, many):
-    """Instructions a packet of capkit and of floor.c, as texts, by the words of a job for either small capture."""
+    """Instructions per packet of capkit and of floor.c, as texts; `few` and `many` are the words of a job for the two captures."""
     counts = {}
     for which in {"own", "floor"} & few.keys():
         counts[which] = str(round((instructions_of(many[which]) - instructions_of(few[which])) / (MANY - FEW)))
@@ -233,12 +238,13 @@ def print_line(name, peer, cells):
 def measure_jobs(arguments, folder):
     """Prints a line for each job that was asked for, and returns the ratios to the other tools."""
     capkit, floor = arguments.capkit or str(built_program()), compiled_floor(folder)
-    small = list(small_jobs(capkit, floor, folder)) if shutil.which("valgrind") else [{}, {}]
+    counts = shutil.which("valgrind") and not arguments.page
+    small = list(small_jobs(capkit, floor, folder)) if counts else [{}, {}]
     capture = str(folder / "capture.pcap")
     count = 1000 if arguments.instructions else arguments.packets
     make_capture.write_capture(capture, make_capture.traffic(count))
     if not arguments.instructions:
-        print(f"{arguments.packets} packets, {os.path.getsize(capture)} bytes; seconds of a processor, MiB")
+        print(f"{arguments.packets} packets, {os.path.getsize(capture)} bytes; CPU seconds, MiB")
     print_line("job", "peer", ("capkit", "peer", "ratio", "C", "capkit/C", "MiB", "peer's", "insns", "C's"))
     ratios = []
     for name, programs in jobs(capkit, floor, capture, folder):
@@ -251,9 +257,13 @@ def measure_jobs(arguments, folder):
                 print(f"{name:14} {peer} is not installed")
                 continue
             note = compare(name, programs, folder)
-            best, memory = measure(programs, arguments.rounds, folder)
+            best, memory = measure(programs, arguments, folder)
         own, other, least = best
         ratios.append(own / other)
+        if arguments.page:
+            shown = [f"{ratio:.2f}" if ratio == ratio else "" for ratio in (own / other, own / least)]
+            print("|", " | ".join([f"`{name}`", peer, *shown, *(f"{size:.0f}" for size in memory)]), "|", note, flush=True)
+            continue
         cells = [(own, 3), (other, 3), (own / other, 2), (least, 3), (own / least, 2), *((size, 1) for size in memory)]
         print_line(name, peer, [*cells, *counts_of(*(words.get(name, {}) for words in small)), note])
     return ratios
@@ -262,9 +272,12 @@ def measure_jobs(arguments, folder):
 def main():
     parser = argparse.ArgumentParser(description=__doc__.split("\n")[0])
     parser.add_argument("--packets", type=int, default=1_000_000)
-    parser.add_argument("--rounds", type=int, default=5)
+    parser.add_argument("--rounds", type=int, default=15)
+    parser.add_argument("--seconds", type=float, default=60)
     parser.add_argument("--capkit", default=None)
-    parser.add_argument("--instructions", action="store_true")
+    how = parser.add_mutually_exclusive_group()
+    how.add_argument("--instructions", action="store_true")
+    how.add_argument("--page", action="store_true")
     parser.add_argument("names", nargs="*")
     arguments = parser.parse_args()
     with tempfile.TemporaryDirectory() as temporary:

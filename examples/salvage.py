@@ -33,7 +33,7 @@ HELD, AHEAD, ZONE = 8 << 20, 3 << 20, 1 << 20  # of the file, held and looked th
 INSIDE, UNITS, FAR = 65_552, 32, 2 << 20  # what no packet's inside exceeds; a chain that does
 TICKS = {bytes([it]): 10**it for it in range(13)} | {bytes([it + 128]): 2**it for it in range(33)}
 SHORT = {"<": b"\x14\0\0\0", ">": b"\0\0\0\x14"}  # of an interface without options
-PATIENCE, BYTES_A_STEP = 600_000, 64  # steps that may be tried at first, and one for so many bytes
+PATIENCE, BYTES_A_STEP = 600_000, 64  # steps that may be tried at first, and one more for each of these bytes
 DOUBTED, NOTES, NEAR, EARLIER, NO_TIME, SAME = 8, 20, 86_400, 1, float("nan"), (True, "")
 UNSET, SHORTEST = 31_536_000, 14  # of a clock that began at 1970; bytes of a link header
 
@@ -72,7 +72,7 @@ class Source:
         return self.tried < PATIENCE + at // BYTES_A_STEP
 
     def places(self, pattern, back, slow, begin, end):
-        """Places between two, so many bytes before a pattern; some if too much was tried."""
+        """Places between two, `back` bytes before a pattern; some if too much was tried."""
         data, base = self.load(begin, ZONE + AHEAD)
         at, stop, base = begin - base + back, end - base + back, base - back
         while at < stop:
@@ -94,7 +94,7 @@ class Output:
         self.kept, self.packets, self.places, self.left_out = (0, 0), 0, 0, 0
 
     def begin(self, header):
-        """Another capture begins, of pcap if it has a header, but for one with the same header."""
+        """Another capture begins, of pcap if it has a header, unless its header is the same."""
         if header != self.header or not header:
             self.settle()
             self.end(self.piece)
@@ -157,7 +157,7 @@ class Reader:
         return -EARLIER <= self.when(at) - time <= (NEAR if time > UNSET else 60 * (time > 0))
 
     def row(self, start, known=()):
-        """Where the units in a row begin and the last one ends, up to a known place; what follows."""
+        """The starts of the units in a row and the end of the last, up to a known place; what follows."""
         bounds, end, step, size = [start], start, self.step, self.source.size
         held = self.source.load(start)
         while end and end <= size and end not in known and end - start <= (INSIDE, FAR)[len(bounds) <= UNITS]:
@@ -216,7 +216,7 @@ class Records(Reader):
         return self.head(at)[0]
 
     def step(self, at, data, base):
-        """Where a record ends; past the end of the file if it is cut; None if it is none."""
+        """The end of a record; past the end of the file if it is cut; None if it isn't one."""
         if at + 16 > self.source.size:
             return self.source.size + 1
         _, _, captured, original = self.unpack(data, at - base)
@@ -298,7 +298,7 @@ class Records(Reader):
         return base + place
 
     def is_fault(self, at, odd):
-        """Whether this is no record (of any fraction), or reading is off by 4 bytes, or by 1."""
+        """Whether this isn't a record (of any fraction), or reading is off by 4 bytes, or by 1."""
         seconds, part, captured, original = self.head(at)
         is_pair, around = 0 < captured <= original <= LONGEST, self.heads(*self.last)
         real, end = at + (1 if self.order == "<" else -1), at + 16 + captured
@@ -362,7 +362,7 @@ class Blocks(Reader):
         return (high << 32 | self.head(at + 16)[0]) / self.faces[face][0] if is_known else NO_TIME
 
     def step(self, at, data, base):
-        """Where a block ends; past the end of the file if it is cut; None if it is none."""
+        """The end of a block; past the end of the file if it is cut; None if it isn't one."""
         size, place = self.source.size, at - base
         if at + 12 > size:
             return size + 1
@@ -487,7 +487,7 @@ class Blocks(Reader):
 
 
 def capture_at(source, out, at):
-    """The reader of the capture whose header is at a place, and where its units begin."""
+    """The reader of the capture whose header is at a place, and the start of its units."""
     header = source.get(at, 24)
     if header[:4] == SECTION_TYPE and header[8:16] in SECTIONS:
         return Blocks(source, out, SECTIONS[header[8:16]]), at
@@ -515,7 +515,7 @@ def like(name, source, out):
 
 
 def find(source, out, readers, begin, passes):
-    """The next chain, or the header before one: its place, its reader, and where that reads."""
+    """The next chain, or the header before one: its place, its reader, and the reader's place."""
     while begin < source.size:
         if source.get(begin, 64) == bytes(64):
             zeros = source.get(begin, INSIDE)
@@ -568,7 +568,7 @@ def salvage(source, out, guessed):
 
 
 def copied(held, is_text=False):
-    """A copy of a file, which has no name; of one in text mode without what that has added."""
+    """A copy of a file, without a name; after text mode, without what that has added."""
     copy = tempfile.TemporaryFile()
     while part := held.read(ZONE):
         if is_text and part.endswith(b"\r") and len(part) > 1:

@@ -3,8 +3,8 @@
 # python3, libpcap's headers and capkit itself are there it uses them too, and says which are missing. The last line
 # says whether all was as it should be.
 #
-# usage: library/check.sh [ROUNDS [INPUTS]]   ROUNDS of random programs and packets, 100000 where none are given;
-#                                             INPUTS damaged under each sanitizer, 5000 where none are given
+# usage: library/check.sh [ROUNDS [INPUTS]]   ROUNDS of random programs and packets (100000);
+#                                             INPUTS damaged under each sanitizer (5000)
 set -eu
 cd "$(dirname "$0")"
 rounds=${1:-100000}
@@ -41,6 +41,28 @@ test "$(out/count tcp 2>&1 >/dev/null </dev/null)" = 'count: not a capture file'
 sed -n '/^    static uint32_t keep(/,/^    }/s/^    //p' ../docs/LIBRARY.md >out/page.c
 sed -n '/^static uint32_t keep(/,/^}/p' examples/keep.c | cmp - out/page.c || bad=1
 
+# The examples of capkit(3): one counts the packets of a capture in memory, one reads a pipe.
+example() { # NUMBER
+    awk -v wanted="$1" '/^\.Sh EXAMPLES/ { on = 1 } /^\.Ed/ { inside = 0 } inside && n == wanted; on && /^\.Bd/ { n++; inside = 1 }' man/capkit.3
+}
+{
+    printf '#include <capkit.h>\n#include <string.h>\n#include <unistd.h>\n'
+    printf 'static uint8_t buffer[2 * CAPKIT_MOST_UNIT];\nstatic int seen;\n'
+    printf 'static void use(const uint8_t *data, uint32_t size) { seen += data && size; }\n'
+    printf 'static int in_memory(const uint8_t *capture, size_t size) {\n%s\nreturn (int)matching; }\n' "$(example 1)"
+    printf 'static int from_pipe(void) { static struct capkit_interface interfaces[CAPKIT_MOST_INTERFACES];\n'
+    printf 'struct capkit_reader reader = {0}; struct capkit_packet packet; size_t have = 0; ssize_t got; uint32_t found;\n'
+    printf '%s\nreturn found == CAPKIT_END ? seen : 0; }\n' "$(example 2)"
+    printf 'int main(int count, char **words) { (void)words;\n'
+    printf 'return count > 1 ? in_memory(buffer, (size_t)read(0, buffer, sizeof buffer)) : from_pipe(); }\n'
+} >out/manual.c
+cc -O2 -Wall -Wextra -Iinclude -o out/manual out/manual.c out/libcapkit.a || bad=1
+status=0 && out/manual memory <../samples/day.pcap || status=$?
+test $status = 9 || { echo 'capkit(3): a capture in memory'; bad=1; }
+# shellcheck disable=SC2002  # for a pipe
+status=0 && cat ../samples/day.pcap | out/manual || status=$?
+test $status = 44 || { echo 'capkit(3): a pipe'; bad=1; }
+
 for name in day.pcap two-sections.pcapng comments.pcapng damaged.pcap; do
     if have valgrind; then
         valgrind -q --error-exitcode=99 --leak-check=full --show-leak-kinds=definite out/filter 'tcp or udp' "../samples/$name" \
@@ -64,7 +86,7 @@ sleep 0.2
 test "$(wc -l <out/live.txt)" = 1 || { echo 'stream: no packet of a live pipe'; bad=1; }
 exec 3>&-
 wait $! || bad=1
-# A fault is told at once, though more bytes may come.
+# A fault is reported at once, though more bytes may come.
 { cat ../samples/damaged.pcap && sleep 10; } | timeout 8 out/stream >/dev/null 2>out/stream.txt || true
 test "$(cat out/stream.txt)" = 'stream: -: offset 2631: too long' || { echo 'stream: a fault after the end'; bad=1; }
 # What an expression means; and a refused one.

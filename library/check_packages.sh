@@ -1,7 +1,7 @@
 #!/bin/sh
-# Builds libcapkit's packages for C, Python, Rust and Go, installs them into out/packages, runs their tests, uses them
-# from programs elsewhere, holds the examples of the four against each other, and removes them again. It needs no network.
-# What is missing of compilers it says. The status is 1 where something wasn't as it should be.
+# Tests libcapkit's packages for C, Python, Rust and Go as a user has them: builds them, installs them into out/packages, runs
+# their tests, uses them from programs elsewhere, compares the examples of the four, runs the code of their READMEs, and removes
+# them again. It needs no network. It reports missing compilers. The status is 1 if something isn't as it should be.
 #
 # usage: library/check_packages.sh       check.sh calls it
 #
@@ -18,7 +18,7 @@ wrong() {
     printf '%s\n' "$*"
     bad=1
 }
-# Debian's Python has the tools that build a wheel, where the first one in PATH may not.
+# The tools that build a wheel may be missing in the first Python in PATH; Debian's has them.
 for python in python3 /usr/bin/python3 none; do
     "$python" -c 'import setuptools, wheel, venv, pip' 2>/dev/null && break
 done
@@ -34,6 +34,14 @@ export PKG_CONFIG_PATH="$packages/prefix/lib/pkgconfig"
 # What is linked to the shared library finds it here; the wheel has its own.
 linked() { LD_LIBRARY_PATH=$packages/prefix/lib "$@"; }
 
+# The code in an indented block of a package's README.
+page_code() { # LANGUAGE NUMBER
+    awk -v wanted="$2" '
+        /^    / { count += !inside; inside = 1 }
+        /^[^ ]/ { inside = 0 }
+        inside && count == wanted { print substr($0, 5) }' "$1/README.md"
+}
+
 check_c() {
     # shellcheck disable=SC2046  # the flags are words
     for program in examples/filter examples/keep tests/packets; do
@@ -47,7 +55,7 @@ check_python() {
     "$packages/venv/bin/pip" -q --disable-pip-version-check install --no-index out/python/capkit-*.whl
     (cd "$packages" && CAPKIT_SAMPLES=$samples venv/bin/python -I -W error -m unittest discover -q -s "$library/python/tests") ||
         wrong 'Python: tests'
-    # The source package alone, and a folder without a library.
+    # Only the source package, and a folder without a library.
     tar -C "$packages" -xzf out/python/capkit-"$version".tar.gz
     test -e "$packages/capkit-$version/libcapkit.so.0" || wrong 'Python: the source package has no library'
     rm "$packages/capkit-$version/libcapkit.so.0"
@@ -60,6 +68,9 @@ check_python() {
             "$packages" "$library" "$example" >"$packages/python-$example"
         chmod +x "$packages/python-$example"
     done
+    page_code python 1 >"$packages/page.py"
+    printf '#!/bin/sh\nunset LD_LIBRARY_PATH\nexec "%s/venv/bin/python" -I page.py\n' "$packages" >"$packages/python-page"
+    chmod +x "$packages/python-page"
     if have mypy; then
         MYPYPATH=python/src mypy --strict --no-error-summary python/src/capkit python/tests/typed.py || wrong 'Python: types'
     fi
@@ -85,6 +96,14 @@ check_rust() {
         cp "rust/examples/$example.rs" "$packages/rust/src/bin/"
         ln -s "rust/target/release/$example" "$packages/rust-$example"
     done
+    {
+        echo 'use capkit::{Format, Packets, Writer};'
+        echo 'use std::{fs::File, io::BufWriter};'
+        echo 'fn main() -> Result<(), Box<dyn std::error::Error>> {'
+        page_code rust 1
+        echo 'Ok(()) }'
+    } >"$packages/rust/src/bin/page.rs"
+    ln -s rust/target/release/page "$packages/rust-page"
     cp tests/packets.rs "$packages/rust/src/bin/"
     ln -s rust/target/release/packets "$packages/rust-packets"
     (cd "$packages/rust" && cargo build -q --offline --release && CAPKIT_STATIC=1 cargo build -q --offline)
@@ -94,7 +113,7 @@ check_rust() {
 
 check_go() {
     make -s go
-    # A cache would keep where the library was the last time.
+    # A cache would keep the library's place of the last time.
     export GOFLAGS=-mod=mod GOPROXY=off CGO_ENABLED=1 GOCACHE="$packages/go-cache"
     test -z "$(gofmt -l go)" || wrong 'Go: layout'
     # With the race detector: goroutines share what may be shared.
@@ -104,10 +123,15 @@ check_go() {
     mkdir -p "$packages/go"
     printf 'module user\n\ngo 1.18\n\nrequire example.com/capkit v%s\n\nreplace example.com/capkit => %s\n' \
         "$version" "$packages/capkit@v$version" >"$packages/go/go.mod"
-    mkdir "$packages/go/packets"
+    mkdir "$packages/go/packets" "$packages/go/page"
     cp tests/packets.go "$packages/go/packets/main.go"
+    {
+        printf 'package main\nimport ("fmt"; "io"; "log"; "os"; "time"; "example.com/capkit")\n'
+        printf 'func put(output io.Writer, packet capkit.Packet) {\n%s\n}\n' "$(page_code go 2)"
+        printf 'func main() {\nput(io.Discard, capkit.Packet{Time: time.Unix(1, 0), LinkType: 1, Data: make([]byte, 60)})\n%s\n}\n' "$(page_code go 1)"
+    } >"$packages/go/page/main.go"
     cp -r go/examples/filter go/examples/keep "$packages/go/"
-    for program in filter keep packets; do
+    for program in filter keep packets page; do
         (cd "$packages/go" && go build -o "$packages/go-$program" "./$program")
     done
 }
@@ -178,7 +202,7 @@ check_keep() {
     done
     expect 1 'too long' '' keep tcp "$samples/damaged.pcap" "$kept"
     test "$(linked "$packages/c-filter" '' "$kept" | tail -n 1)" = '22 of 22 packets match' || wrong "$language: not all are kept"
-    # What is refused leaves the output.
+    # A refused run doesn't change the output.
     cp "$samples/day.pcap" "$packages/self.pcap"
     printf 'some text\n' >"$packages/text"
     expect 2 'is the input too' '' keep tcp "$packages/self.pcap" "$packages/self.pcap"
@@ -213,6 +237,20 @@ check_usage() {
         run "$language" "$example"
         { test "$status" = 2 && grep -q "^usage: $example" "$packages/err.txt"; } || wrong "$language: $example: no usage"
     done
+}
+
+# The program of the README prints or writes the 9 packets of TCP port 80.
+check_page() {
+    cp "$samples/day.pcap" "$packages/"
+    (cd "$packages" && linked "./$language-page" <day.pcap >page.txt) || wrong "$language: the program of the README fails"
+    if [ "$language" != python ]; then
+        test "$(grep -c ': TCP, length' "$packages/page.txt")" = 9 || wrong "$language: the program of the README prints something else"
+    fi
+    if [ "$language" != go ]; then
+        test "$(linked "$packages/c-filter" '' "$packages/web.pcapng" | tail -n 1)" = '9 of 9 packets match' ||
+            wrong "$language: the program of the README writes something else"
+        rm -f "$packages/web.pcapng"
+    fi
 }
 
 if have "$python"; then languages="$languages python"; else echo 'without a python3 with pip, setuptools, wheel and venv'; fi
@@ -253,6 +291,7 @@ for language in $languages; do
     check_filter
     check_keep
     check_usage
+    if [ "$language" != c ]; then check_page; fi
     if [ -e "$packages/$language-packets" ] && [ -d "$packages/damaged" ] && [ "$language" != c ]; then check_damaged; fi
     if [ "$language" = python ]; then check_trace; fi
     if [ "$language" = python ] && have capkit; then check_lines; fi

@@ -1,9 +1,10 @@
 #!/usr/bin/env python3
 """Proves the crates that a program or a library for C needs, side by side, and builds it.
 
-usage: build.py CRATE PRODUCT [TARGET TOOLCHAIN]
+usage: build.py CRATE PRODUCT [TARGET [TOOLCHAIN]]
 
-TARGET is another than the kit's own, and TOOLCHAIN is made for it (cross_arm64.sh): only the last crate is proved again for it.
+TARGET is another than the kit's own: only the last crate is proved again for it. TOOLCHAIN is made for ARM64 (cross_arm64.sh). For a
+browser (wasm64-unknown-unknown) it is the kit's, and the product a module: that has no C code, so without the calls of malloc.
 
 A crate is proved as soon as those that it needs are. Others stand back (`nice`) for the one with the longest chain. Each
 is one call of rattle, the prover of rt's kit, as `rt ci` makes it: a library has its statements only, which halves what
@@ -24,13 +25,15 @@ import time
 ROOT = pathlib.Path(__file__).resolve().parent.parent
 OUT, KIT = ROOT / "out", pathlib.Path(shutil.which("rt") or "").resolve().parent.parent
 RATTLE, RLIBS, OWN = KIT / "bin/rattle", KIT / "rlibs", "x86_64-unknown-linux-gnu"
-TARGET, TOOLCHAIN = sys.argv[3:5] if len(sys.argv) > 3 else (OWN, KIT / "toolchain")
-TOOLCHAIN = pathlib.Path(TOOLCHAIN).absolute()
+TARGET, TOOLCHAIN = [*sys.argv[3:], *[OWN, KIT / "toolchain"][len(sys.argv[3:]) :]]
+TOOLCHAIN, WASM = pathlib.Path(TOOLCHAIN).absolute(), "wasm64-unknown-unknown"
 C_CODE = [KIT / "c/libos_c.a", KIT / "c/liblibc_c.a"] if TARGET == OWN else [TOOLCHAIN / "c/port.a"]
+# The file of a library for C whose calls take their memory from malloc.
+MALLOC = "allocating"
 LOGIC = ["--antt-project", KIT / "rattle/logic/antt-project.json", "--logic-built", KIT / "logic_built"]
 LINK = [KIT / "bin/rattle-link", "--target", TARGET, "--toolchain", TOOLCHAIN]
-# What a job takes of memory. A byte of code costs as much to check as CODE bytes of definitions and proofs. A crate has one
-# job more for each LARGE of these at most, and no more than MOST_JOBS, since each loads anew what the crate stands on.
+# The memory of a job, in bytes. A byte of code costs as much to check as CODE bytes of definitions and proofs. A crate has at most
+# one more job for each LARGE of these, and at most MOST_JOBS, since each job loads all crates below it.
 MEMORY, CODE, LARGE, MOST_JOBS = 2_000_000_000, 13, 100_000, 3
 
 join = lambda words: shlex.join(map(str, words))
@@ -46,8 +49,11 @@ class Crate:
         self.below = list(dict.fromkeys(it for need in self.needs for it in [*need.below, need]))
         self.of_kit = ["std", *(it for it in named if it not in crates)]
         is_static, self.is_program = " staticlib" in head, (self.home / "src/main.rt").exists()
-        made = name if self.is_program else f"lib{name}.a" if is_static else f"rlib/{name}.rlib"
         self.is_last = is_static or self.is_program
+        self.is_module = name == sys.argv[1] and TARGET == WASM
+        if self.is_module:
+            self.home = self.without_malloc()
+        made = f"{name}.wasm" if self.is_module else name if self.is_program else f"lib{name}.a" if is_static else f"rlib/{name}.rlib"
         self.made = self.home / "out" / (TARGET if self.is_last and TARGET != OWN else "") / made
         self.stamp, self.is_kept = self.made.parent / "built", any((self.home / "out/incremental").glob("*"))
         files = [it for part in ("src", "specs", "proofs") for it in (self.home / part).rglob("*") if it.is_file()]
@@ -56,6 +62,17 @@ class Crate:
         texts = [(str(it.relative_to(ROOT)), it.read_bytes()) for it in sorted(files)]
         made_of = [RATTLE, RATTLE.stat().st_mtime_ns, self.is_kept, named, [it.sum for it in self.needs], texts]
         self.sum, self.jobs = hashlib.sha256(repr(made_of).encode()).hexdigest(), 1
+
+    def without_malloc(self):
+        """A copy of the crate, with what is proved of it, but without the file of calls of malloc and the line that names it."""
+        copy = OUT / TARGET / self.name
+        shutil.rmtree(copy, ignore_errors=True)
+        for part in ("src", "specs", "proofs", "out/incremental"):
+            if (self.home / part).exists():
+                shutil.copytree(self.home / part, copy / part, ignore=shutil.ignore_patterns(f"{MALLOC}.rt"))
+        root = copy / "src/lib.rt"
+        root.write_text(root.read_text().replace(f"mod {MALLOC};\n", ""))
+        return copy
 
     def command(self):
         """What proves the crate, and builds its library or the program. Other runs of rt wait for its folder."""
@@ -70,6 +87,9 @@ class Crate:
         if self.is_program:
             parts = [f"{self.made}.o", *C_CODE]
             return f"{join([*words, '-o', parts[0]])} && {join([*LINK, '-o', self.made, *parts])}"
+        if self.is_module:
+            library = self.made.with_suffix(".a")
+            return f"{join([*words, '--crate-type', 'staticlib', '-o', library])} && {join([*LINK, '-o', self.made, library])}"
         return join([*words, *(["--crate-type", "staticlib"] if self.is_last else []), "-o", self.made])
 
     def begin(self, lock, longest):
@@ -109,7 +129,7 @@ def crates_below(top):
 def jobs_for(crate, ready, waiting, running, room, beyond):
     """As many jobs as keep all else from waiting for the longest chain, or as no other crate can use; without room none."""
     free = room + beyond - (taken := sum(it.jobs for it in running))
-    # What each processor has left to do: of what runs, half on average.
+    # The work left for each processor: half of what runs, on average.
     share = (sum(it.size for it in waiting) + sum(it.size for it in running) / 2) / max(room - 1, 1)
     wanted = max(int(1.2 * crate.chain / max(share, 1)), room - len(ready) - taken)
     return max(min(wanted, free, MOST_JOBS, 1 + crate.size // LARGE), min(free, 1), not running)

@@ -55,6 +55,11 @@ def tries():
     done, _, noted = end(begin(*library))
     yield "the library is built, of its own crates", done == (0, "") and noted[::2] == ["begin only_c", "begin capkit_c"]
     yield "it is built once too, and the program stays", end(begin(*library))[2] + end(begin())[2] == []
+    module = *library[:3], top / "out/it.wasm", "wasm64-unknown-unknown"
+    done, _, noted = end(begin(*module))
+    yield "a module is built of the same crates", done == (0, "") and noted[::2] == ["begin capkit_c"] and module[3].exists()
+    copy = top / "out/wasm64-unknown-unknown/capkit_c/src"
+    yield "without the calls of malloc", [(it.name, it.read_text()) for it in copy.iterdir()] == [("lib.rt", "mod other;\n")]
     first = changed("low_b", SLEEP="2")
     is_free = [not subprocess.run(["flock", "-n", top / "crates" / it, "true"]).returncode for it in ("low_b", "only_c")]
     yield "runs of rt wait for what is proved, and for nothing else", is_free == [False, True]
@@ -81,6 +86,8 @@ with tempfile.TemporaryDirectory() as scratch:
     for it in CRATES.split("|"):
         (top / "crates" / it.split(":")[0].split()[0] / "src").mkdir(parents=True)
     (top / "crates/capkit_main/src/main.rt").touch()
+    for name, text in (("lib", "mod allocating;\nmod other;\n"), ("allocating", "")):
+        (top / "crates/capkit_c/src" / f"{name}.rt").write_text(text)
     for it in ("capkit", "HANDLES", "packaging/build.py"):
         (top / it).parent.mkdir(exist_ok=True)
         shutil.copy(ROOT / it, top / it)

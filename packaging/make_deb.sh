@@ -31,7 +31,7 @@ else
     fi
 fi
 
-# The program tells its version itself, and has the text of it, since one for another machine can't be run here.
+# The program prints its version; a program for another processor can't be run here, so its text is searched for.
 version_of() { # PROGRAM
     if [ -n "$cross" ]; then
         printf 'capkit %s\n' "$(grep -ao '[0-9.]* (rattle-kit-[^)]*)' "$1")"
@@ -73,14 +73,13 @@ for page in "$work"/pages/*; do
 done
 gzip -9n "$tree"/usr/share/man/man?/*
 
-# The documents that a user reads, the samples, and what the recipes and lessons call beside them.
+# The pages for users, the samples, and the scripts that recipes call.
 install -m 644 "$root"/samples/* "$documents/samples/"
 install -m 644 "$root/bench/make_capture.py" "$documents/bench/"
-for file in lesson show draw fields library listing page pictures runs sides tree words; do
+for file in draw library listing pictures; do
     install -D -m 644 -t "$documents/teach" "$root/teach/$file.py"
 done
-install -m 644 "$root"/teach/page.[chj]* "$documents/teach/"
-install -D -m 644 -t "$documents/docs" "$root/docs/lesson.png" "$root/docs/lesson.html"
+install -D -m 644 -t "$documents/docs" "$root/docs/capkit.html"
 # shellcheck disable=SC2046  # the pages have names without spaces
 for page in README.md $(cd "$root" && echo docs/*.md) docs/inside/FORMATS.md docs/inside/MACHINE.md; do
     install -D -m 644 "$root/$page" "$documents/$page"
@@ -94,7 +93,7 @@ done
 
 pack "$tree" "$architecture" <<END
 Depends: $needs
-Suggests: python3-capkit, python3-jinja2
+Suggests: python3-capkit
 Section: net
 Description: workbench for saved packet captures
  Edits, merges, reports on and filters saved packet captures (pcap and

@@ -54,7 +54,7 @@ install -D -m 644 -t "$modules" "$root"/library/python/src/capkit/*.py "$root/li
 install -D -m 644 -t "$python/usr/share/doc/python3-capkit/examples" "$root"/library/python/examples/*
 install -m 644 "$root/library/python/README.md" "$python/usr/share/doc/python3-capkit/"
 drop_dead_links "$python/usr/share/doc/python3-capkit/README.md"
-# Python keeps compiled modules beside these.
+# Python keeps compiled modules in the same folder.
 cat >"$python/DEBIAN/postinst" <<'END'
 #!/bin/sh
 set -e

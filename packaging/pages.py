@@ -1,12 +1,12 @@
 #!/usr/bin/env python3
-"""Writes the manual pages and completions of capkit into a folder.
+"""Writes the manual pages and completions of capkit into a folder, for packages and for installing by hand.
 
 usage: packaging/pages.py FOLDER           (needs python3-jinja2)
 
-A page is a template of packaging/pages/, filled in with what the command line says of itself. The table
-crates/cap_cases/data/lines has that: cases in which words ask for the version, or for the help of the program or of a
-command, with the lines of the answer. `rt ci` compares these with what the program says.
-capkit-filter(7) is docs/FILTER.md in the form of a manual page.
+A page is a template of packaging/pages/. Its usage and examples are those of the help texts, which the table
+crates/cap_cases/data/lines has: cases in which words ask for help or for the version, with the lines that are printed. The gate
+compares these with the program. A page describes each argument and option of its command once (`help.item`): this script refuses
+one that misses some. capkit-filter(7) is docs/FILTER.md in the form of a manual page.
 """
 import pathlib
 import re
@@ -21,11 +21,11 @@ STORED = ROOT / "crates/cap_cases/data/lines"
 COLUMNS = 80
 TEMPLATES = ROOT / "packaging/pages"
 LANGUAGE = ROOT / "docs/FILTER.md"
-# How far a manual page stands in from the left, and a display of it.
+# The left margin of a manual page, and that of a display in it, in columns.
 MARGIN, DISPLAY = 5, 6
 # The values and arguments that name files.
 FILES = {"IN", "OUT", "FILE", "LISTING", "MORE"}
-# What stands before the values that an option may have, at the end of its line or on one of its own.
+# What precedes the values that an option may have, at the end of its line or on the next line.
 CHOICES = "[possible values: "
 
 
@@ -54,7 +54,7 @@ class Entry:
 
 
 class Help:
-    """The parts of the help of a command; an empty name: of the program."""
+    """The parts of the help of a command, or of the program if the name is empty."""
 
     def __init__(self, name, text):
         text = re.sub(r"\n +" + re.escape(CHOICES), " " + CHOICES, text)
@@ -67,12 +67,19 @@ class Help:
         self.usage = [Entry(word) for word in usage[1].split()] if usage else []
         needed = {"--help", *(name for word in self.usage for name in word.names)}
         self.free = [option for option in self.options if not needed.intersection(option.names)]
+        # The arguments and options, by their last names, that no item of a manual page describes yet.
+        self.undescribed = {(entry.names or [entry.value])[-1]: entry for entry in [*self.arguments, *self.options]}
         self.flags = " ".join(name for option in self.options for name in option.names)
         self.has_files = any(argument.is_file for argument in self.arguments)
         # Command lines stand deeper than their descriptions.
         examples = re.findall(r"((?:^  \S.*\n)+)((?:^    .*\n)+)", text.partition("\nExamples:\n")[2], re.MULTILINE)
         self.examples = [(textwrap.dedent(told).rstrip(), "\n".join(map(folded, commands.split("\n")[:-1])))
                          for told, commands in examples]
+
+
+    def item(self, name):
+        """The tag of an argument or option, which a manual page describes once, in the text after it."""
+        return f".It {self.undescribed.pop(name).tag}"
 
 
 def folded(line):
@@ -153,7 +160,7 @@ def code(lines):
 
 
 def points(lines):
-    """A list; a point goes on where a line stands deeper."""
+    """A list; an indented line continues its point."""
     shown = [".Bl -bullet"]
     for line in lines:
         shown += [".It"] * line.startswith("- ") + [roff_text(line[2:].strip())]
@@ -176,6 +183,11 @@ def language():
 
 # ---- all pages
 
+def undescribed(help, page):
+    """The arguments and options that the page has no item for, and the values of options that it doesn't name."""
+    return [*help.undescribed, *(value for option in help.options for value in option.choices if not re.search(rf"\b{value}\b", page))]
+
+
 def pages():
     """Yields all pages with their names."""
     helps, version = stored_texts()
@@ -192,6 +204,8 @@ def pages():
         for indent, display in re.findall(r"^\.Bd -literal( .*)?\n((?:.*\n)*?)\.Ed$", page, re.MULTILINE):
             # \&, \(aq, \- and \e as long as they are shown
             narrow(name, re.sub(r"\\(?:&|\(a)?", "", display), MARGIN + DISPLAY * bool(indent))
+        if name in own and (missing := undescribed(own[name], page)):
+            sys.exit(f"{name} doesn't describe {', '.join(missing)}")
         yield name, page
 
 

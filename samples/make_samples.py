@@ -184,7 +184,7 @@ def main():
     write(folder / "day.pcap", packets)
     # A mirror port sends each packet twice: as it comes in, and as it goes out.
     write(folder / "mirror.pcap", [(time + late, data) for time, data in web() for late in (0, 2)])
-    # The third file was full, so the first one was begun anew: it is the newest.
+    # The third file was full, so the first one was begun again: it is the newest.
     for name, first, last in (("ring.pcap1", 0, 15), ("ring.pcap2", 15, 30), ("ring.pcap0", 30, None)):
         write(folder / name, packets[first:last])
     write(folder / "tagged.pcap", tagged())

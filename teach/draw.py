@@ -6,7 +6,7 @@ usage: draw.py [--dot] [LISTING] > ways.svg     (else standard input)
   capkit compile tcp port 80 | draw.py > ways.svg
   capkit compile tcp port 80 | draw.py --dot | dot -Tsvg > ways.svg
 
-Solid arrows go where a test holds, dashed ones where it doesn't. The names are those of `tcpdump
+Solid arrows are for a test that holds, dashed ones for one that doesn't. The names are those of `tcpdump
 -d`. No other program is needed; --dot is for those who have Graphviz. A listing that isn't one of
 a valid program is refused with status 2.
 """
@@ -15,7 +15,6 @@ import sys
 
 import listing
 import pictures
-import words
 
 STYLE = """<style>
 svg { background: #fff } rect { fill: #f4f6f8; stroke: #8a929c } text { font: 13px monospace }
@@ -43,7 +42,7 @@ def graph(program):
     lines = ["digraph listing {", '  node [shape=box fontname="monospace"];']
     for place, (insn, text) in enumerate(zip(program.instructions, program.texts())):
         lines.append(f'  {place} [label="{pictures.short_text(text)}"];')
-        for target, kind in words.ways_of(insn, place):
+        for target, kind in pictures.ways_of(insn, place):
             lines.append(f"  {place} -> {target}{' [style=dashed]' if kind == 'no' else ''};")
     return "\n".join([*lines, "}", ""])
 

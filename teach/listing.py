@@ -9,7 +9,7 @@ WIDTHS = {"code": 16, "jt": 8, "jf": 8, "k": 32}
 
 
 class Bad(Exception):
-    """What is no listing of a valid program, and why."""
+    """Why a text isn't the listing of a valid program."""
 
 
 def why_wrong(lines, place):
@@ -65,7 +65,7 @@ def opened(name):
 
 
 def write(command, data):
-    """Writes to standard output, and returns the status; none is told if its reader went away."""
+    """Writes to standard output, and returns the status; without a message if its reader went away."""
     try:
         with open(1, "wb", closefd=False) as output:
             output.write(data)
@@ -78,7 +78,7 @@ def write(command, data):
 
 
 def read_or_exit(command, name):
-    """The program that a file lists, or standard input where none is named; else a message."""
+    """The program that a file lists, or standard input if none is named; else a message."""
     try:
         with opened(name or "-") as file:
             return read(file)

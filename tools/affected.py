@@ -3,8 +3,8 @@
 
 usage: affected.py CRATE..
 
-Each crate above a changed one is proved again, since it stands on its contracts. `rt ci CRATE` proves one from nothing with those
-below it; `.ci/run` does all.
+Each crate that depends on a changed one is proved again, since it uses its contracts. `rt ci CRATE` proves a crate from nothing with
+those below it; `.ci/run` does all.
 """
 import pathlib
 import re

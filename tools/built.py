@@ -1,5 +1,5 @@
 #!/usr/bin/env python3
-"""Prints the path of the program that the launcher built last. The launcher itself would add its own time to a run's.
+"""Prints the path of the program that the launcher built last. Scripts call it directly, since the launcher takes 40 to 80 ms.
 
 usage: built.py
 """
@@ -12,7 +12,7 @@ ROOT = pathlib.Path(__file__).resolve().parent.parent
 
 
 def built_program():
-    """Returns the path of the program that the launcher built last, or ends the script where there is none."""
+    """Returns the path of the program that the launcher built last, or ends the script if there is none."""
     programs = sorted((ROOT / "out").glob("built-*/capkit"), key=os.path.getmtime)
     if not programs:
         sys.exit("capkit is not built yet: run ./capkit --help first, or name a program by --capkit")

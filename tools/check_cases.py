@@ -37,7 +37,7 @@ WRITERS = {
 }
 SLOW = {"hostile"}
 WRONG = "wrong"
-# Where a page states a number.
+# The pages that state a number.
 PAGES = ["README.md", "CONTRIBUTING.md", "docs/LIBRARY.md", "docs/inside/TESTING.md", "crates/cap_cases/README.md"]
 STATED = {
     "cases": r"([\d,]{3,}) cases\b",

@@ -1,17 +1,18 @@
 #!/usr/bin/env python3
-"""Runs the lines of docs/FROM_TCPDUMP.md, those of the other tools and those of capkit, and looks whether what the page says
-of them is true.
+"""Checks the tables of docs/FROM_TCPDUMP.md: runs each row's line of the other tool and its line of capkit, and compares what
+they write as the last cell claims. For whoever changes that page or what capkit does.
 
 usage: check_equivalents.py [--capkit PROGRAM]
 
-Each line is run in a folder of its own with a copy of samples/ and with TZ=UTC. What it writes is the file OUT, or else its
-standard output. Times and lengths of packets are compared by editcap. Both lines end with the same status where the page
-doesn't name it: "status 1 here and 2 there", "both end with status 1".
+Each line runs in its own folder with a copy of samples/, with TZ=UTC. What it writes is the file OUT, or else its standard
+output. editcap compares times and lengths of packets. Both lines must end with the same status, unless the claim names it: "the
+status is 1 here and 2 there", "both end with status 1". The last line counts the rows that aren't true.
 """
 import argparse
 import pathlib
 import re
 import shutil
+import struct
 import subprocess
 import sys
 import tempfile
@@ -19,8 +20,26 @@ import tempfile
 from built import ROOT, built_program, folder_with
 
 TOOLS = ["tcpdump", "editcap", "mergecap", "capinfos"]
-# Rows of these are left out where they aren't installed.
+# Rows of these are left out if they aren't installed.
 OTHER_TOOLS = ["captype", "reordercap", "text2pcap", "tcpslice", "pcapfix"]
+# Packets that the samples lack: the bytes after the addresses of Ethernet, and the original length if it isn't the captured one.
+ODD = [
+    # SCTP to port 80.
+    ("0800 45000020 00000000 40840000 c0a80101 c0a80102 00050050 12340000 00000000", None),
+    # The first fragment of a UDP datagram over IPv6.
+    (f"86dd 60000000 00142c40 20010db8{1:024x} 20010db8{2:024x} 11000001 00000001 00351000 000c0000 00000000", None),
+    # AppleTalk in a SNAP frame.
+    (f"002e aaaa0308 0007809b {0:076x}", None),
+    # IPv4 from 0.1.2.3.
+    ("0800 45000014 00000000 40060000 00010203 c0a80101", None),
+    # IPv6 without a next header, to 2001:db8::.
+    (f"86dd 60000000 00003b40 {0:032x} 20010db8{0:024x}", None),
+    # IPv4 of 103 bytes; IPv4 of an original length below the captured one.
+    (f"0800 45000059 00000000 40ff0000 c0a80101 c0a80102 {0:0138x}", None),
+    ("0800 45000014 00000000 40ff0000 c0a80101 c0a80102", 16),
+]
+# A packet of a Linux cooked capture.
+COOKED = ["0000 0001 0006 0200000000050000 0800 45000014 00000000 40ff0000 c0a80101 c0a80102"]
 # Files that the page makes of the samples.
 MADE = [
     "editcap -F pcap -s 20 day.pcap same-times.pcap",
@@ -37,14 +56,27 @@ def rows():
             yield [cell.strip("`").replace("\\|", "|") for cell in cells]
 
 
+def write_capture(path, link, packets):
+    """Writes a pcap file of packets with their original lengths, one per second."""
+    records = (struct.pack("<IIII", second, 0, len(data), size or len(data)) + data for second, (data, size) in enumerate(packets, 1))
+    path.write_bytes(struct.pack("<IHHIIII", 0xA1B2C3D4, 2, 4, 0, 0, 262144, link) + b"".join(records))
+
+
+def make_captures(folder):
+    """Adds the captures to the samples that rows of the page name."""
+    write_capture(folder / "odd.pcap", 1, [(bytes(12) + bytes.fromhex(data), size) for data, size in ODD])
+    write_capture(folder / "cooked.pcap", 113, [(bytes.fromhex(data), None) for data in COOKED])
+    for command in MADE:
+        subprocess.run(["sh", "-c", command], cwd=folder, check=True)
+
+
 class Outcome:
     """What a line wrote, printed and ended with."""
 
     def __init__(self, line, capkit, parent):
         self.folder = pathlib.Path(tempfile.mkdtemp(dir=parent))
         variables = folder_with(self.folder, capkit)
-        for made in MADE:
-            subprocess.run(["sh", "-c", made], cwd=self.folder, check=True)
+        make_captures(self.folder)
         command = ["bash", "-o", "pipefail", "-c", line]
         done = subprocess.run(command, cwd=self.folder, env=variables, capture_output=True)
         self.printed, self.status = done.stdout, done.returncode

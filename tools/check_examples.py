@@ -1,14 +1,19 @@
 #!/usr/bin/env python3
-"""Runs the examples of the pages and compares what they print with what the pages show.
+"""Runs the examples of the pages and of the manual pages, and compares what they print with what the pages show. For whoever
+changes a page, a sample or what capkit prints.
 
 usage: check_examples.py [--capkit PROGRAM] [--update] [PAGE..]
 
-An example is a fenced block whose first line begins with "$ ". The examples under one heading run one after another in one
-shell, in a folder of their own, after the line of docs/RECIPES.md that sets up a checkout. That of a package has to leave
-the same files. any.sh has to write the IP packets, and only these, of frames of each kind that `tcpdump -i any` has.
-Standard output and standard error of an example are shown together. A line that begins with "> " continues the command
-above it. With --update the pages get what is printed, to be read before it is committed. A heading under which a program
-is called that isn't installed is left out, and told; so is one that needs the library, which `make -C library` builds.
+- An example is a fenced block whose first line begins with "$ ". A line that begins with "> " continues the command above
+  it. Standard output and standard error are shown together.
+- The examples of one section run one after another in one shell, in their own folder, after the line of docs/RECIPES.md that
+  sets up a checkout. Its line for a package must make the same files.
+- The examples of the manual pages must succeed on copies of samples/day.pcap, if jinja2 is installed.
+- The expressions of the cookbook in docs/FILTER.md must compile.
+- any.sh must write the IP packets, and only these, of frames of each kind that `tcpdump -i any` has.
+
+A section whose programs aren't all installed, or that needs the library (`make -C library`), is left out with a message.
+--update writes what is printed into the pages: read the changes before you commit them.
 """
 import argparse
 import os
@@ -25,19 +30,22 @@ from built import ROOT, built_program
 PAGES = ["README.md", "docs/RECIPES.md", "docs/SCALE.md", "docs/TEACHING.md", "docs/TESTERS.md"]
 OTHER_PROGRAMS = ["git", "tcpdump", "editcap", "mergecap", "capinfos", "parallel", "dot", "python3", "xxd"]
 MARK = "==== next example ===="
-# A heading, or a block of examples; an example: the lines that are typed, and those that are printed.
+# The title of a section, or a block of examples; an example: the lines that are typed, and those that are printed.
 PART = re.compile(r"^#+ .*|^```.*\n\$ (?:.*\n)*?```$", re.MULTILINE)
 EXAMPLE = re.compile(r"^(\$ .*\n(?:> .*\n)*)((?:(?!\$ |```).*\n)*)", re.MULTILINE)
-# The folders that the set-up copies, and where a package has them.
+# The folders that the set-up copies, and the folder of a package that has them.
 FOLDERS = ["samples", "bench", "examples", "teach"]
 INSTALLED = "/usr/share/doc/capkit"
 LIBRARY = ROOT / "library" / "out" / "libcapkit_batch.so"
+# The displays of examples in a manual page, and the captures that they name.
+MANUAL_EXAMPLE = re.compile(r"^\.Bd -literal -offset indent\n((?:.*\n)*?)\.Ed$", re.MULTILINE)
+CAPTURE = re.compile(r"\b[\w-]+\.pcap(?:ng|\d)?(?:\.gz)?\b")
 # What is called by examples that need the library.
 NEEDS_LIBRARY = re.compile(r"\.\./teach/|import capkit")
 
 
 def sections_of(page):
-    """The examples under each heading."""
+    """The examples of each section, by its title."""
     sections, heading = {}, ""
     for part in PART.finditer(page):
         if part[0].startswith("#"):
@@ -48,7 +56,7 @@ def sections_of(page):
 
 
 def set_up(where):
-    """The line that RECIPES has for the set-up in a checkout, or where a package is installed."""
+    """The line that RECIPES has for the set-up in a checkout, or with an installed package."""
     found = re.search(rf"^\| {where} \| `(.*)` \|$", (ROOT / "docs" / "RECIPES.md").read_text(), re.MULTILINE)
     return found[1]
 
@@ -80,7 +88,7 @@ def run(commands, capkit):
 
 
 def same_set_up(capkit):
-    """Whether both lines of the set-up leave the same files, that of a package with its folder in place of /usr/share."""
+    """Whether both lines of the set-up make the same files; that of a package reads its own folder instead of /usr/share."""
     shown = []
     for where in ("in a checkout", "installed as a package"):
         with tempfile.TemporaryDirectory() as temporary:
@@ -126,7 +134,7 @@ def missing_program(commands):
 
 
 def check_section(name, heading, examples, capkit):
-    """Runs the examples under a heading, and yields those that print something else with what that is."""
+    """Runs the examples of a section, and yields those that print something else, each with what it prints."""
     commands = [re.sub("^[$>] ", "", example[1].rstrip("\n"), flags=re.MULTILINE) for example in examples]
     if missing := missing_program(commands):
         print(f"{name}: {heading}: left out, {missing} is not installed")
@@ -153,6 +161,43 @@ def check_page(name, capkit, is_update):
     return len(changes)
 
 
+def manual_examples():
+    """The examples of the manual pages, each with its page; none without jinja2, by which the pages are made."""
+    with tempfile.TemporaryDirectory() as temporary:
+        made = subprocess.run([sys.executable, ROOT / "packaging" / "pages.py", temporary], stderr=subprocess.PIPE, text=True)
+        if made.returncode:
+            print(f"manual pages: left out, packaging/pages.py fails: {made.stderr.strip().splitlines()[-1]}")
+        for page in sorted(pathlib.Path(temporary).glob("*.[17]")):
+            for display in MANUAL_EXAMPLE.findall(page.read_text().partition(".Sh EXAMPLES\n")[2]):
+                yield page.name, display.replace(r"\(aq", "'").replace(r"\-", "-").replace(r"\e", "\\")
+
+
+def check_manual(capkit):
+    """Runs the examples of the manual pages over copies of day.pcap with the names that they use; returns how many fail."""
+    count = failed = 0
+    for name, example in manual_examples():
+        with tempfile.TemporaryDirectory() as temporary:
+            how = checkout(pathlib.Path(temporary), capkit)
+            names = " ".join(set(CAPTURE.findall(example)))
+            script = f"{set_up('in a checkout')}\nfor name in {names}; do test -e ${{name%.gz}} || cp day.pcap ${{name%.gz}}; done\ngzip -k day.pcap\n"
+            done = subprocess.run(["bash", "-e", "-c", script + example], **how)
+        count, failed = count + 1, failed + bool(done.returncode)
+        if done.returncode:
+            print(f"{name}: {example}\nstatus {done.returncode}: {done.stdout.decode(errors='replace')}")
+    print(f"manual pages: {count} examples, {failed} fail")
+    return failed
+
+
+def check_cookbook(capkit):
+    """Compiles the expressions of FILTER's cookbook; returns how many are refused."""
+    page = (ROOT / "docs" / "FILTER.md").read_text()
+    rows = re.findall(r"^\|.*?(?<!\\)\|(.*)\|$", page.partition("## Cookbook\n")[2].partition("\n## ")[0], re.MULTILINE)
+    expressions = [it.replace(r"\|", "|") for row in rows for it in re.findall("`([^`]+)`", row) if not it.startswith(("tcpdump ", "print "))]
+    refused = [it for it in expressions if subprocess.run([capkit, "compile", it], stdout=subprocess.DEVNULL).returncode]
+    print("\n".join([*refused, f"docs/FILTER.md: {len(expressions)} expressions of the cookbook, {len(refused)} refused"]))
+    return len(refused)
+
+
 def main():
     parser = argparse.ArgumentParser(description=__doc__.split("\n")[0])
     parser.add_argument("--capkit", default=None)
@@ -162,6 +207,7 @@ def main():
     capkit = arguments.capkit or built_program()
     names = arguments.pages or [page for page in PAGES if (ROOT / page).exists()]
     wrong = sum(check_page(name, capkit, arguments.update) for name in names)
+    wrong += 0 if arguments.pages else check_manual(capkit) + check_cookbook(capkit)
     if not same_set_up(capkit):
         wrong += 1
         print("docs/RECIPES.md: the two lines of the set-up don't leave the same files")

@@ -1,12 +1,13 @@
 #!/usr/bin/env python3
-"""Runs capkit over real files and devices in a shell, and compares what is left with what must be.
+"""Runs capkit in a shell over real files, devices, pipes and terminals, and compares the files afterwards with what they must be.
+For whoever changes how files are opened, written or removed: contracts can't see that.
 
 usage: check_files.py [--capkit PROGRAM]
 
-Each case has a folder of its own with a copy of samples/. It is a shell line, the status that it must end with, what
-standard error must hold, and files with what they must hold: bytes, the name of a sample that is unchanged, or None where
-there must be no such file. A case on a terminal is a line over an input that takes three seconds, the terminal's name, and
-whether progress must be shown there. Each mistake is tried with each output, which must be as it was.
+Each case runs in its own folder with a copy of samples/. It has a shell line, its status, its standard error, and files with
+their contents: bytes, the name of a sample (unchanged), or None (no such file). A case on a terminal has a line over an input
+that takes three seconds, the terminal's name, and whether progress must be shown. Each mistake is tried with each kind of
+output, which must be unchanged.
 """
 import argparse
 import fcntl
@@ -54,7 +55,7 @@ CASES = [
     ("capkit print -w /dev/null day.pcap", 0, "", {}),
     ("capkit print -w /dev/full day.pcap", 1, "capkit: /dev/full: write failed\n", {}),
     ("capkit print -w . day.pcap", 1, "capkit: .: cannot create\n", {}),
-    # A file that is read is no output, under whatever name.
+    # A file that is read can't be the output, under any name.
     ("capkit edit -F pcap day.pcap - >> day.pcap", 2, TWICE, {"day.pcap": "day.pcap"}),
     ("ln day.pcap hard.pcap; capkit edit day.pcap - >> hard.pcap", 2, TWICE, {"day.pcap": "day.pcap"}),
     ("ln -s day.pcap soft.pcap; capkit edit soft.pcap day.pcap", 2, TWICE, {"day.pcap": "day.pcap"}),
@@ -75,10 +76,10 @@ CASES = [
     (f"{WAITING} | capkit infos day.pcap - | {FIRST} > out", 0, "", {"out": b"1\n"}),
     ("(cat day.pcap; sleep 1; tail -c +25 day.pcap; sleep 1; tail -c +25 day.pcap) | capkit print - | head -n 1 | wc -l > out",
      0, "", {"out": b"1\n"}),
-    # A run that is stopped while it waits leaves all that was decided, in a file too, and whole packets.
+    # If a run is stopped while it waits, the output has all decided packets, complete, even in a file.
     *[(f"{WAITING} | timeout -s {signal} 1 capkit edit -F pcap - out", 124, "", {"out": "day.pcap"})
       for signal in ("INT", "TERM", "HUP")],
-    # The shell tells what was killed.
+    # The shell reports what was killed.
     (f"exec 2> /dev/null; {WAITING} | timeout -s KILL 1 capkit edit -F pcap - out", 137, "", {"out": "day.pcap"}),
     ("head -c 3000 day.pcap > part; capkit edit -F pcap part whole 2> /dev/null; (cat part; sleep 3) "
      "| timeout -s TERM 1 capkit edit -F pcap - out; s=$?; cmp out whole && exit $s", 124, "", {}),
@@ -167,7 +168,7 @@ def differences_after_mistake(program, make, status, message, command, output):
 
 
 def differences_without_memory(program):
-    """What differs where memory runs out at any place of a run."""
+    """What differs if memory runs out at any place of a run."""
     with tempfile.TemporaryDirectory() as folder:
         out = pathlib.Path(folder) / "out"
         ends = {}

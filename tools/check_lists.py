@@ -1,11 +1,12 @@
 #!/usr/bin/env python3
-"""Filters random packets by random lists of hosts, networks, ports, protocols, MAC addresses, bytes and flows.
+"""Filters random packets by random lists of hosts, networks, ports, protocols, MAC addresses, bytes and flows. For whoever
+changes how lists are compiled.
 
 usage: check_lists.py [--capkit PROGRAM] [COUNT [FIRST]]
 
-Which packets pass is read from each list as docs/FILTER.md says, member by member; `capkit print -w` has to write them.
-Packets have numbers of the list or next to them, or others; most of them are cut. COUNT lists (10,000) have the seeds
-FIRST (1) and above. The status is 1 if anything differs.
+The script evaluates each list member by member, as docs/FILTER.md defines it; `capkit print -w` must write the same packets.
+Packets have numbers of the list, numbers next to them, or others; most are cut. COUNT lists (10,000) have the seeds FIRST (1)
+and up. The status is 1 if anything differs.
 """
 import argparse
 import contextlib
@@ -20,7 +21,7 @@ from built import built_program
 # The link types, with the start of the network header, from which other places count. The EtherType is in front of it.
 LINKS = {1: 14, 113: 16, 101: 0}
 ETHERTYPES = {"ip": 0x0800, "ip6": 0x86DD, "arp": 0x0806, "rarp": 0x8035}
-# What tells the kinds of frames of a link: a field's place, size, mask and number. A field of no bytes is always there.
+# The field that identifies each kind of frame of a link: its place, size, mask and number. A field of no bytes always matches.
 FRAMES = {link: {kind: (-2, 2, 0xFFFF, number) for kind, number in ETHERTYPES.items()} for link in LINKS}
 FRAMES[1] |= {"ethernet": (-14, 0, 0, 0), "typed": (-14, 0, 0, 0)}
 FRAMES[113] |= {"typed": (-16, 0, 0, 0)}
@@ -76,7 +77,7 @@ class Maker(random.Random):
         return near if self.random() < 0.7 else self.getrandbits(bits)
 
     def member(self, kind, protocol, direction, what):
-        """A member. Of a network and a range some bits are free."""
+        """A member. Some bits of a network or a range are free."""
         (size, _, _, places), bits = KINDS[kind], 8 * KINDS[kind][0]
         ones, free = (1 << bits) - 1, min(self.randint(0, bits) for _ in range(3))
         prefix = ones >> free << free

@@ -1,18 +1,17 @@
 #!/usr/bin/env python3
-"""Compares docs/inside/ with the sources, and lists with page and line what is no longer so.
+"""Compares docs/inside/ with the sources, and lists each statement that is out of date with its page and line. The gate runs it.
 
-usage: check_model.py [CRATE..]
+usage: check_model.py [CRATE..]      the first check only for these crates
 
-1. Each definition that a public function's contract cites has a comment. With crates, those of these crates. A function is public
-   if other crates can name it, or C.
-   The folders specs/ and specs/inside/ have the definitions that meaning.py states, and CONTRACTS.md's table of lines its counts.
-2. A contract in a fenced block of a page, and a clause in backquotes, stands in src/ as it is shown; `..` stands for
-   what is left out.
-3. The definition of `Name.field` has this field; `path::name` is an item, in CONTRACTS' tables a public one; the clauses
-   that CONTRACTS' rows name are those of the row's functions; files exist; and any other name in backquotes is a word of
-   some source, edit or script. Words in capitals, as NAME, stand for others.
+1. Each definition that a public function's contract cites has a comment. A function is public if other crates or C can name it.
+   A definition is in specs/ or specs/inside/ as meaning.py states, and CONTRACTS.md's table of lines has the right counts.
+2. A contract in a fenced block of a page, and a clause in backquotes, is in src/ as it is shown; `..` is text that was left out.
+3. A field `Name.field` and a file exist; `path::name` is an item, in CONTRACTS' tables a public one; the clauses that
+   CONTRACTS' rows name are those of the row's functions; and any other name in backquotes is a word of some source, edit or
+   script. Words in capitals, such as NAME, are placeholders.
+4. No line of a proof file has over 160 columns.
 
-The status is 1 where something is listed.
+The status is 1 if something is listed.
 """
 import functools
 import os
@@ -23,6 +22,7 @@ from meaning import TOGETHER, Meaning, figures
 from sources import ROOT, Sources
 
 INSIDE = ROOT / "docs" / "inside"
+MOST_COLUMNS = 160
 FILE = re.compile(r"[\w./-]+\.(?:rt|antt|md|py|h|c|sh|txt|edit)")
 CLAUSE = re.compile(r"(?:requires|ensures)\*?\s+(\w+)\s*\{")
 FIELD = re.compile(r"^\s*(?:pub )?(?:ghost )?(\w+)\s*:(?!:)", re.MULTILINE)
@@ -56,6 +56,14 @@ def misplaced_definitions(sources):
         count, lines = figures(sources, meaning.closure_of(TOGETHER.get(name, [name])))
         if shown != [f"{count:,}", f"{lines:,}"]:
             yield f"docs/inside/CONTRACTS.md: {name} rests on {count:,} definitions of {lines:,} lines"
+
+
+def long_lines():
+    """Yields the lines of proof files that nobody can read at once."""
+    for path in sorted(ROOT.glob("crates/*/proofs/**/*.antt")):
+        for number, line in enumerate(path.read_text().split("\n"), 1):
+            if len(line) > MOST_COLUMNS:
+                yield f"{path.relative_to(ROOT)}:{number}: {len(line)} columns"
 
 
 def plain(text):
@@ -117,18 +125,18 @@ class Names:
 
 
 def left_out(folders):
-    """Takes out of a walk what no checkout has."""
+    """Removes the folders that no checkout has from a walk."""
     folders[:] = [name for name in folders if name not in (".git", "out", "__pycache__")]
 
 
 def ends(path):
-    """A path from each of its parts on, but the last alone."""
+    """The path, and what remains without its first parts, up to its last two."""
     parts = path.split("::")
     return ["::".join(parts[at:]) for at in range(len(parts) - 1)]
 
 
 def stale_names(names, page):
-    """Yields what a page names and the sources don't have."""
+    """Yields the names on a page that the sources don't have."""
     crates, is_fenced, is_table = [], False, False
     for number, line in enumerate((INSIDE / page).read_text().split("\n"), 1):
         if line.startswith("#"):
@@ -189,7 +197,7 @@ def main():
     sources = Sources()
     names = Names(Sources(left_out=()))
     faults = [*sources.unknown, *uncommented_definitions(sources, sys.argv[1:]), *misplaced_definitions(sources)]
-    faults += shown_contracts(sources)
+    faults += [*shown_contracts(sources), *long_lines()]
     faults += [fault for page in sorted(INSIDE.glob("*.md")) for fault in stale_names(names, page.name)]
     print(*faults, sep="\n", end="\n" if faults else "")
     print(f"{len(faults)} faults")

@@ -8,7 +8,7 @@ RUNS (300) damaged captures of 20 to 3,000 packets, in pcap of all four forms an
 orders, of each kind of damage in turn; then, if all kinds run from the first on, each sample whole, and
 its first 0 to 200 bytes. With --captures the packets are those of the captures in a folder that capkit
 reads, if they have eight or more. What a program writes is compared with the packets of the capture, by
-time, original length and bytes (where the damage is of times, by the last two):
+time, original length and bytes (if the damage is in times, by the last two):
 
   true     packets of the capture, each once, also  again    the same packet once more
            with another time, if its own bytes were damaged
@@ -17,8 +17,8 @@ time, original length and bytes (where the damage is of times, by the last two):
            both lengths; all bytes; the captured length and the first or last 12 bytes; the first 24 bytes
   false    all others: they were made up            missed   undamaged packets that weren't read
 
-The status is 1 where salvage.py wrote a false packet, fewer true ones than capkit, tcpdump or editcap,
-another text than `capkit edit` of what that reads to its end, took over 10 seconds of processor time, changed its input,
+The status is 1 if salvage.py wrote a false packet, fewer true ones than capkit, tcpdump or editcap,
+another text than `capkit edit` of what that reads to its end, took over 10 s of CPU time, changed its input,
 ended with another status than 0 or 1, or with a traceback. Such files are kept with --keep.
 """
 import argparse
@@ -49,7 +49,7 @@ SCRIPT = "salvage.py"
 
 
 class Capture:
-    """A capture: its bytes, and where its packets are. Of pcapng the packets have two interfaces, one
+    """A capture: its bytes, and the places of its packets. Packets of pcapng have two interfaces, one
     with microseconds and one with nanoseconds."""
 
     def __init__(self, packets, form, snap=262144):
@@ -211,7 +211,7 @@ def zeros_at_end(chance):
 
 
 def page(chance, one):
-    """Where a page of a capture begins and ends."""
+    """The start and the end of a page of a capture."""
     size = chance.choice((512, 4096, 16384))
     begin = chance.randrange(len(one.data)) // size * size
     return begin, min(begin + size, len(one.data))
@@ -293,7 +293,7 @@ def overwritten(chance, one=None):
 
 
 def cuts_at(one, *places):
-    """What is damaged where a capture is cut: a packet, if the place isn't between two."""
+    """What a cut damages: a packet, if the place isn't between two."""
     return [(place - 1, place + 1) for place in places if place < one.first or place not in one.starts]
 
 
@@ -487,7 +487,7 @@ def run_script(words, said):
 
 
 def try_file(data, packets, is_timed, like=b""):
-    """Runs the programs on one file: their counts, and what salvage.py did wrong, if it is told of a file that
+    """Runs the programs on one file: their counts, and what salvage.py did wrong, if it gets a file that
     begins in the same way with that one."""
     faults, results = [], {}
     with tempfile.TemporaryDirectory() as temporary:
@@ -517,7 +517,7 @@ def try_file(data, packets, is_timed, like=b""):
         elif was == 0:
             faults += ["status 0 of a damaged file"]
         faults += [f"a false packet: {last}"] * (results[SCRIPT]["false"] > 0)
-        # editcap takes what is no capture for one of a format with a loose header.
+        # editcap takes files that aren't captures for those of a format with a loose header.
         read = [name for name in PEERS if results[name]["false"] <= results[name]["true"]]
         short = [name for name in read if results[SCRIPT]["true"] < results[name]["true"]]
         faults += [f"fewer true packets than {short}"] * bool(short)

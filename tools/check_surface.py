@@ -16,7 +16,7 @@ LIST = ROOT / "tools" / "surface.txt"
 
 
 def plain(text):
-    """The text without comments, and with one blank where there were several."""
+    """The text without comments, and with single blanks."""
     text = re.sub(r"^\s*(//|#\[).*$", "", text, flags=re.MULTILINE)
     text = re.sub(r"\s+", " ", text).strip()
     text = re.sub(r",? ([)}])", r" \1", text)

@@ -1,13 +1,17 @@
 #!/usr/bin/env python3
-"""Lists private words in pages, comments and identifiers, each with the word of the field that is to stand there; and
-definitions that have the name of another one, or a participle for a name.
+"""Lists private words in pages, comments, help texts and identifiers, each with the word of the field to write instead. It also
+lists definitions that have the name of another one, or a participle for a name. For everyone who writes here; the gate runs it.
 
 usage: check_words.py [FILE..]
 
-Without files it reads the pages (but the glossary), the comments of the C header, and of the crates' src/ and specs/ the
-comments and the identifiers; of the program's own crates the texts between double quotes too, as its help and its messages.
-Code between backticks, in fenced blocks and in indented lines of pages is left out. Words are found in capitals too, and if a
-line ends between two of them. The status is 1 if a word is found.
+Without files it reads
+
+- pages, manual pages and templates: all except code (between backticks, in fenced blocks, in indented lines);
+- code and scripts: comments and docstrings;
+- the crates' src/ and specs/: identifiers too, and for the program's own crates the texts between double quotes, such as its help
+  and its messages.
+
+Words are found in capitals too, and if a line ends between two of them. The status is 1 if a word is found.
 """
 import bisect
 import collections
@@ -18,14 +22,29 @@ import sys
 
 from source_files import ROOT, blanked
 
-PAGES = ["*.md", "docs/**/*.md", "library/*.md", "library/*/*.md", "samples/*.md", "teach/*.md", "packaging/pages/*"]
-CODE = ["library/include/*.h", "crates/*/src/**/*.rt", "crates/*/specs/**/*.antt"]
+# Folders of pages and scripts; the crates have pages, src/ and specs/.
+FOLDERS = ["docs", "bench", "examples", "library", "packaging", "samples", "teach", "tools", "web", ".ci"]
+FILES = ["*.md", "capkit", "try", "crates.txt", "crates/*/README.md", "crates/*/src/**/*.rt", "crates/*/specs/**/*.antt"]
+# What a program made, which isn't read.
+MADE = {"out", "__pycache__"}
 # The crates whose texts a user of the program reads.
 PROGRAM = {"capkit", "cap_command"}
-COMMENTS = {".rt": re.compile(r"(?:^|\s)//[/!]?\s(.*)"), ".antt": re.compile(r"(?:^|\s)--\s(.*)")}
+SLASHES = re.compile(r"/\*(.*?)\*/|(?:^|(?<=\s))//[/!]?\s([^\n]*)", re.MULTILINE | re.DOTALL)
+HASHES = re.compile(r'(?:^|(?<=\s))#+\s([^\n]*)|^ *r?"""(.*?)"""', re.MULTILINE | re.DOTALL)
+DASHES = re.compile(r"(?:^|(?<=\s))--\s([^\n]*)", re.MULTILINE)
+# What a file's comments are, by its ending; a file of a name without an ending is a script.
+COMMENTS = {
+    **dict.fromkeys([".rt", ".c", ".h", ".go", ".rs", ".js", ".css"], SLASHES),
+    **dict.fromkeys([".py", ".sh", ".sbatch", ".txt", ""], HASHES),
+    ".antt": DASHES,
+}
+# Files that are read whole: pages, manual pages and templates.
+TEXTS = {".md", ".1", ".3", ".7", ".html"}
+# Pages that a script makes, and data.
+UNREAD = {"capkit.html", "expressions.txt", "filter.txt", "surface.txt"}
 # Code between backticks, which may go on in the next line.
 QUOTED = re.compile(r"`(?:[^`\n]|\n(?!\n))*`")
-# Each blank of a word stands for the end of a line too, and `$` for the end of a paragraph.
+# A blank of a word also matches the end of a line, and `$` the end of a paragraph.
 WORDS = [
     (r"\banswers? other than 0\b|\bsays yes\b", "accepts the packet, returns non-zero"),
     (r"\banswers (it|that fault|true|false|\d|E\d)|\banswers? (it|that) again\b", "returns"),
@@ -101,11 +120,22 @@ def words_of(identifier):
     return [word.lower() for word in re.findall(r"[A-Z]?[a-z]+|[A-Z]+(?![a-z])", identifier)]
 
 
-def of_header(text):
-    """The text of a C header's comments, each in its lines; the lines between them are empty."""
-    texts = re.split(r"/\*(.*?)\*/", text, flags=re.DOTALL)
-    lines = "".join(it if number % 2 else "\n" * it.count("\n") for number, it in enumerate(texts)).splitlines()
-    return "\n".join(line.strip().lstrip("*").strip() for line in lines)
+def only_comments(text, comment):
+    """The text of comments, each in its lines; all else is left out."""
+    kept, at = "", 0
+    for found in comment.finditer(text):
+        start, end = found.span(found.lastindex)
+        kept, at = kept + "\n" * text.count("\n", at, start) + text[start:end], end
+    return "\n".join(line.strip().lstrip("*").strip() for line in kept.splitlines())
+
+
+def without_code(text):
+    """A page without its fenced blocks and indented lines."""
+    lines, is_fenced = [], False
+    for line in text.splitlines():
+        is_fenced ^= line.lstrip().startswith("```")
+        lines.append("" if is_fenced or line.startswith(("    ", "```")) else line.strip())
+    return "\n".join(lines)
 
 
 def printed(path):
@@ -116,22 +146,16 @@ def printed(path):
 
 def readable(path):
     """The text of a file's comments, or of a page, without code: line by line, blanks at their ends left out."""
-    if path.suffix == ".h":
-        return QUOTED.sub(lambda found: "`" + "\n" * found[0].count("\n"), of_header(path.read_text()))
-    comment, is_fenced, lines = COMMENTS.get(path.suffix), False, []
-    for line in path.read_text().splitlines():
-        if comment:
-            found = comment.search(line)
-            line = found.group(1) if found else ""
-        elif line.lstrip().startswith("```"):
-            is_fenced = not is_fenced
-        is_code = is_fenced or path.suffix == ".md" and line.startswith("    ")
-        lines.append("" if is_code else line.strip())
-    return QUOTED.sub(lambda found: "`" + "\n" * found[0].count("\n"), "\n".join(lines))
+    text = path.read_text()
+    if comment := COMMENTS.get(path.suffix) if path.parent.name != "pages" else None:
+        text = only_comments(text, comment)
+    elif path.suffix == ".md":
+        text = without_code(text)
+    return QUOTED.sub(lambda found: "`" + "\n" * found[0].count("\n"), text)
 
 
 def phrases(path):
-    """Yields the words of the list that a file has, each with its line and what is to be there."""
+    """Yields the words of the list that a file has, each with its line and what to write instead."""
     is_printed = path.suffix == ".rt" and PROGRAM.intersection(path.parts)
     for text in [readable(path), *[printed(path)] * bool(is_printed)]:
         starts = [0, *(found.end() for found in re.finditer("\n", text))]
@@ -141,7 +165,7 @@ def phrases(path):
 
 
 def names(path):
-    """Yields the identifiers of a file of code that join a word which none is to have."""
+    """Yields the identifiers of a file of code that have a word which none should have."""
     mark = {".rt": "//", ".antt": "--"}.get(path.suffix)
     for number, line in enumerate(blanked(path.read_text(), mark).splitlines() if mark else [], 1):
         for name in re.findall(r"[A-Za-z_]\w*", line):
@@ -150,9 +174,16 @@ def names(path):
                     yield number, name, IDENTIFIERS[word]
 
 
+def all_files():
+    """The files that are read if none is named."""
+    for path in sorted(path for pattern in [*FILES, *(f"{name}/**/*" for name in FOLDERS)] for path in ROOT.glob(pattern)):
+        is_known = path.suffix in COMMENTS or path.suffix in TEXTS or path.parent.name == "pages"
+        if is_known and path.is_file() and path.name not in UNREAD and not MADE.intersection(path.relative_to(ROOT).parts):
+            yield path
+
+
 def main():
-    files = [pathlib.Path(name).resolve() for name in sys.argv[1:]]
-    files = files or [path for pattern in PAGES + CODE for path in sorted(ROOT.glob(pattern))]
+    files = [pathlib.Path(name).resolve() for name in sys.argv[1:]] or all_files()
     found = [
         f"{path.relative_to(ROOT)}:{number}: {word}: {better}"
         for path in files for number, word, better in itertools.chain(sorted(phrases(path)), names(path))

@@ -1,9 +1,9 @@
 #!/usr/bin/env python3
-"""Prints what a promise means: its contracts, and all definitions that they rest on, as one text.
+"""Prints what a promise means: its contracts, and all definitions that they rest on, as one text. For whoever judges a promise.
 
 usage: meaning.py NAME
 
-NAME is the path of a function or type, as cap_tools::run, or a promise: edit, print, merge, infos, compile, library.
+NAME is the path of a function or type, such as cap_tools::run, or a promise: edit, print, merge, infos, compile, library.
 
 A contract rests on the definitions, types and constants that its clauses and its signature name, on what these name,
 and so on: its closure. A type brings along how contracts see it (its `view`), a bound its trait, with the contracts
@@ -12,12 +12,12 @@ there. What invariants of types and proofs/ cite is left out. Names are followed
 A command is the contract of `cap_tools::run` without the cases that the command never reaches: an edit compiles
 nothing. Which these are follows from `assignment`; each text names what it leaves out.
 
-A text goes from the contract down: what a definition names comes further down, or before it in its own file.
+The text begins with the contract: what a definition names follows it, or is before it in its own file.
 
-Definitions that no promise rests on, which help proofs, private functions and other crates here, belong into
-specs/inside/, all others not: check_model.py lists those that lie elsewhere. Promises are the public contracts of the
-crates that are for users (all but those in BETWEEN), the laws, and those in PROMISED. The status is 1 where a name
-wasn't found, or an import seems to have no use: then this script overlooked a form of the language.
+Definitions that no promise rests on help proofs, private functions and other crates; they belong in specs/inside/, all
+others in specs/. check_model.py lists those in the wrong folder. Promises are the public contracts of the crates for users
+(all except those in BETWEEN), the laws, and those in PROMISED. The status is 1 if a name wasn't found, or if an import
+seems to be unused: then this script overlooked a form of the language.
 """
 import argparse
 import collections
@@ -29,7 +29,7 @@ from sources import ROOT, WORD, Sources, blanked
 
 POLICY = ("cap_process", "specs.Verdict", "Policy")
 COMMAND = ("cap_command", "src.command", "Command")
-# What a command chooses: of these types a text has only the cases that its command reaches.
+# What a command chooses: the text has only those cases of these types that its command reaches.
 CHOICES = {
     COMMAND,
     POLICY,
@@ -52,8 +52,8 @@ PROMISED = {
     "flt_short::laid_out", "flt_short::shortened",
     "flt_short::threaded",
 }
-# The headline: what words ask for, what is written, reported and returned, and that a packet passes where its
-# expression matches.
+# The headline: what words ask for; what is written, reported and returned; that a packet is kept if its expression
+# matches.
 HEADLINE = ["capkit::command_of", "cap_tools::run", "flt_gen::generate"]
 # With what each step costs, and with files.
 PUBLIC = [*HEADLINE, "cap_tools::Job", "cap_io::Source", "cap_io::Sink"]
@@ -128,7 +128,7 @@ class Meaning:
         self.sources, self.paths = sources, sources.public_paths()
 
     def roots(self, name):
-        """The contracts of a path: of a function, of a type's methods and ghost members, or of a crate's."""
+        """The contracts of a path: those of a function, of a type's methods and ghost members, or of a crate."""
         keys = [key for key, paths in self.paths.items() if key in self.sources.items
                 and any(path == name or re.match(rf"{re.escape(name)}(::| as )", path) for path in paths)]
         return [key for key in keys if is_contract(self.sources.items[key]) or len(keys) == 1]
@@ -194,7 +194,7 @@ def in_reading_order(sources, found, roots):
 
 
 def item_text(item, pieces):
-    """An item as it stands in its file; where cases are left out, with a line that names them."""
+    """An item as in its file; if cases are left out, a line names them."""
     text = "\n".join(piece.text.strip("\n") for piece in pieces)
     names = dict.fromkeys(name for piece in item.pieces if piece not in pieces for name in case_names(piece))
     if not names:

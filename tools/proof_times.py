@@ -1,12 +1,12 @@
 #!/usr/bin/env python3
-"""Lists the functions of a crate whose proofs cost most, by the megabytes that they wrote or the seconds that they took.
+"""Lists the functions of a crate whose proofs cost most, in megabytes written and in seconds. For whoever makes checks cheaper.
 
 usage: proof_times.py CRATE [COUNT]
 
-It goes by what the last check wrote into the crate's out/incremental, and when. So that check is to be one from nothing, by one
-job: empty that folder, which rt else takes from another checkout, and run `rt check --jobs 1` in the crate's. What is written is
-the same each time; what an earlier check left counts too, and seconds depend on what else runs. Then come its dearest parts: Lts is
-the model of its steps, Kinds mostly loading; where Proof takes many seconds for its megabytes, written answers make it cheaper.
+It reads what the last check wrote into the crate's out/incremental, and when. For true figures empty that folder first (else rt
+copies another checkout's), and run `rt check --jobs 1` in the crate's folder. The megabytes are the same each time; seconds depend
+on what else runs. For each function its most expensive parts follow: Lts is the model of its steps, Kinds mostly loading. If Proof
+takes many seconds for its megabytes, written answers make it cheaper.
 """
 import collections
 import pathlib

@@ -1,4 +1,4 @@
-"""Reads the files of the crates: what one of specs/ imports and defines, and what one of src/ uses and declares."""
+"""Reads the files of the crates for other scripts: imports and definitions of specs/, uses and declarations of src/."""
 import collections
 import dataclasses
 import pathlib
@@ -84,7 +84,7 @@ class Spec:
 
 
 def imports_of(line, module_of):
-    """Yields the names that a `use` line brings in, by what they stand for."""
+    """Yields the names that a `use` line imports, each with its meaning."""
     found = re.match(r"\s*(?:ghost )?use ([\w.]+?)(?:\.\{(.*)\}|( as (\w+))?);?$", line.replace("\n", " "))
     path, names, alias = found[1], found[2], found[4]
     if names is None:
@@ -135,7 +135,7 @@ def header_end(code, at):
 
 
 def doc_start(text, at):
-    """Where the comment and the attributes in front of a place begin."""
+    """The start of the comment and the attributes before a place."""
     while at > 0:
         before = text.rfind("\n", 0, at - 1) + 1
         line = text[before:at].strip()

@@ -1,9 +1,9 @@
-"""What the crates define and promise: the definitions of specs/, and the types and contracts of src/, each with the
-names that it uses.
+"""Reads what the crates define and promise, for other scripts: the definitions of specs/, and the types and contracts of src/,
+each with the names that it uses.
 
-An item has a key: its crate, its module and its name, as ("cap_io", "specs.Text", "text"), so that two definitions of
-one name are two. A use is the key of an item; that of a variant or constructor has its name after it. Definitions of
-std and of other crates are no items.
+An item has a key: its crate, its module and its name, such as ("cap_io", "specs.Text", "text"), so two definitions with the
+same name are two items. A use is the key of an item; that of a variant or constructor has its name after it. Definitions of
+std and of other crates aren't items.
 """
 import collections
 import dataclasses
@@ -79,7 +79,7 @@ def used_names(code, scope, bound):
 
 
 def named_by(target, fields):
-    """The uses that a name with fields stands for: of an item, or of what a module or a type of src/ has."""
+    """The uses that a name with fields means: an item, or what a module or a type of src/ has."""
     while isinstance(target, dict):
         target = target.get(fields[0] if fields else "", target.get(""))
         fields = fields[1:]
@@ -87,7 +87,7 @@ def named_by(target, fields):
 
 
 def targets_of(target):
-    """All items that a name may stand for."""
+    """All items that a name may mean."""
     return {key for it in target.values() for key in targets_of(it)} if isinstance(target, dict) else {target}
 
 
@@ -118,10 +118,10 @@ class Sources:
         for file in self.files.values():
             self.add_contracts(file)
 
-    # ---- what names stand for
+    # ---- what names mean
 
     def module_names(self, path):
-        """What a module of antt has: names with their uses. None where it isn't of these crates."""
+        """The names of a module of antt with their uses; None if it isn't one of these crates."""
         _, crate, *rest = path.split(".") + [""] * 3
         rest = [part for part in rest if part]
         if crate not in self.crates or not rest or rest[0] != "specs":
@@ -244,7 +244,7 @@ class Sources:
         self.unknown += [f"{spec.path}: nothing uses {name}" for name in self.idle_imports(spec)]
 
     def idle_imports(self, spec):
-        """The imports of a file that no definition was found to use: `rt tidy` leaves none, so a use was overlooked."""
+        """The imports of a file that no definition was found to use: `rt tidy` removes such imports, so a use was overlooked."""
         pieces = [piece for name in spec.parts for piece in self.items[spec.key(name)].pieces]
         used = {use for piece in pieces for use in piece.uses | piece.patterns}
         used |= {use[:3] for use in used}

@@ -1,11 +1,10 @@
 #!/usr/bin/env python3
-"""Tries the edits that the gate leaves out, the files crates/CRATE/edits/NAME.edit, and prints those that aren't refused.
+"""Tries the edits that the gate leaves out (crates/CRATE/edits/NAME.edit), and prints those that the prover accepts.
 
-usage: try_edits.py CRATE [NAME..]    all edits of the crate, or those of these names
+usage: try_edits.py CRATE [NAME..]    all edits of the crate, or those with these names
 
-To be tried an edit is a file of must-fail/ for as long as that takes, and that folder of the gate has another name. Check the
-crate before (`rt check` in its folder): the edits begin with what that check kept. The status is that of `rt must-fail`: 0 if
-each edit is refused.
+Run `rt check` in the crate's folder first: the edits begin with what that check kept. While it runs, the edits are in must-fail/,
+and the gate's folder has another name. The status is that of `rt must-fail`: 0 if each edit is refused.
 """
 import pathlib
 import shutil
@@ -16,7 +15,7 @@ ROOT = pathlib.Path(__file__).resolve().parent.parent
 
 
 def put_back(folder, aside):
-    """Gives the gate's edits their folder, also after an interrupted run."""
+    """Gives the gate's edits their folder back, even after an interrupted run."""
     if aside.exists():
         shutil.rmtree(folder, ignore_errors=True)
         aside.rename(folder)

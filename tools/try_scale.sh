@@ -1,12 +1,12 @@
 #!/bin/bash
-# Runs filter.sbatch by Slurm and filter.py by dask.distributed over sixteen files, on this machine alone, and compares
-# what they write with what one run writes. Then one of the files is empty, and one is damaged in its middle: both have
-# to write all packets but these, and to report the two files with status 1. Of a refused expression both have to tell. An
-# output that is an input is refused, an old part isn't joined, and a scheduler that isn't there is one message.
+# Tests the two scripts of docs/SCALE.md on this machine: filter.sbatch under Slurm and filter.py under dask.distributed, over
+# sixteen files. Both must write what one run writes; with an empty and a damaged file, all other packets, and report both
+# files with status 1. Both must report a refused expression. An output that is an input must be refused, an old part must not
+# be joined, and a missing scheduler must give one message.
 #
 # usage: tools/try_scale.sh [PROGRAM]
 #
-# PROGRAM is the built capkit; where none is given, ./capkit builds it first. It needs Debian's packages slurm-wlm,
+# PROGRAM is the built capkit; without it, ./capkit builds it first. It needs Debian's packages slurm-wlm,
 # munge and python3-distributed, starts both engines as the calling user in a scratch folder, and stops them at its end.
 
 set -euo pipefail
@@ -157,7 +157,7 @@ task() { # NUMBER EXPRESSION FILE..
     SLURM_ARRAY_TASK_ID=$1 bash "$root/examples/scale/filter.sbatch" "${@:2}"
 }
 
-# An old .match goes, also if there is nothing to put in its place; no output is an input, and no two outputs are one.
+# An old .match is removed even if no new one is written; no output is an input, and no two outputs are the same file.
 try_outputs_of_tasks() {
     cp whole/part-*.pcap .
     ends_with 0 task 1 tcp part-*.pcap

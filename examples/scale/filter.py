@@ -3,7 +3,7 @@
 
 usage: filter.py SCHEDULER OUT EXPRESSION FILE..
 
-SCHEDULER is an address, as tcp://127.0.0.1:8786. All workers see the files, and have capkit in
+SCHEDULER is an address, such as tcp://127.0.0.1:8786. All workers see the files, and have capkit in
 PATH. Each file is filtered by a process of its own; the results are joined in the order of the
 files. What capkit reports goes to standard error, and the status is the greatest of its statuses.
 At 1 a file has a fault: OUT has its packets before the fault, and those of all other files. At 2
@@ -43,8 +43,8 @@ def is_part(name, status):
 
 
 def join(out, parts):
-    """Joins captures one after another, in a tree where there are too many for one merge; returns
-    the greatest status."""
+    """Joins captures one after another, in a tree if they are too many for one merge; returns the
+    greatest status."""
     worst = 0
     while len(parts) > MOST:
         groups = [parts[at:at + MOST] for at in range(0, len(parts), MOST)]

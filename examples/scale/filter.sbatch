@@ -1,15 +1,15 @@
 #!/bin/bash
-# A job array of Slurm: each task writes the packets of one file that match, beside it, with the ending .match.
+# A job array of Slurm: each task writes the packets of one FILE that match to FILE.match, in the same folder.
 #
 # usage: sbatch --wait --array=0-LAST filter.sbatch EXPRESSION FILE..
 #
 # LAST is the number of files less one. All nodes see the files, and have capkit in PATH. With --wait, the status of
 # sbatch is the greatest of the tasks' statuses. What a task reports is in capkit-NUMBER.log.
 #
-# A task removes the .match of an earlier run first, writes to a name of its own, and renames that at its end. So each
-# .match beside a FILE is of this run, and complete if the status is 0, and a file that can't be read, or a refused
-# expression, has none.
-# A FILE that is the .match of another one is refused, and so are two files that would have one .match.
+# A task first removes the .match of an earlier run, writes to a temporary name, and renames it at its end. So each .match
+# is of this run, and complete if the status is 0. A file that can't be read has none, and neither has any file if the
+# expression is refused. A FILE that is the .match of another one is refused, and so are two files that would have the
+# same .match.
 #SBATCH --job-name=capkit
 #SBATCH --ntasks=1
 #SBATCH --mem=64M

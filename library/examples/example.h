@@ -31,7 +31,7 @@ static inline void report_found(const char *program, const char *name, uint32_t 
 }
 
 /* Memory for the program of an expression, which is checked before anything else is done; null, and
- * a message, where it is refused. */
+ * a message, if it is refused. */
 static inline struct capkit_insn *room_of(const char *program, const char *expression, size_t *room)
 {
     uint32_t status = capkit_bound(expression, strlen(expression), room);
@@ -53,9 +53,9 @@ static inline ssize_t read_some(int file, uint8_t *bytes, size_t room)
     return got;
 }
 
-/* Reads on: what the reader has not passed goes to the front of a buffer, and more bytes behind it.
- * Of the buffer *size bytes are used. Returns what read(2) returned: 0 at the end, -1 after a
- * failure. */
+/* Reads on: moves the bytes that the reader hasn't passed to the start of a buffer, and reads more
+ * after them. *size bytes of the buffer are used. Returns what read(2) returned: 0 at the end, -1
+ * after a failure. */
 static inline ssize_t read_on(int file, struct capkit_reader *reader, uint8_t *buffer, size_t room,
                               size_t *size)
 {
@@ -68,7 +68,7 @@ static inline ssize_t read_on(int file, struct capkit_reader *reader, uint8_t *b
     return got;
 }
 
-/* All that is left of a file that can't be mapped, as a pipe; null where it can't be read. */
+/* The remaining bytes of a file that can't be mapped, such as a pipe; null if it can't be read. */
 static inline uint8_t *read_whole(int file, size_t *size)
 {
     uint8_t *bytes = NULL, *grown;
@@ -86,8 +86,8 @@ static inline uint8_t *read_whole(int file, size_t *size)
     return NULL;
 }
 
-/* The bytes of a capture, until the program ends; null, and a message, where it can't be read. It
- * is mapped, so it may be larger than memory, and is not to be changed meanwhile. */
+/* The bytes of a capture, until the program ends; null, and a message, if it can't be read. It
+ * is mapped, so it may be larger than memory, and must not be changed meanwhile. */
 static inline const uint8_t *capture_of(const char *program, const char *name, size_t *size)
 {
     void *bytes = NULL;

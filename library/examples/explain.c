@@ -1,7 +1,7 @@
 /* Prints what an expression means, as an expression: in parentheses by its tree, with every
  * qualifier written out.
  *
- * The status is 2 where the command line or the expression is refused. */
+ * The status is 2 if the command line or the expression is refused. */
 #define _POSIX_C_SOURCE 200809L
 #include "example.h"
 

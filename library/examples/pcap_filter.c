@@ -2,7 +2,7 @@
  * which pcap_setfilter takes. It is the same for a live capture, opened by pcap_open_live; there
  * Linux runs the program, if capkit_portability has CAPKIT_ON_LINUX.
  *
- * The statuses are those of capkit: 1 after a fault, and 2 where the command line or the expression
+ * The statuses are those of capkit: 1 after a fault, and 2 if the command line or the expression
  * is refused. */
 #define _DEFAULT_SOURCE
 #include "example.h"

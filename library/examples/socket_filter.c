@@ -2,7 +2,7 @@
  * packet socket with capkit's program (SO_ATTACH_FILTER). It needs the right to open such sockets
  * (CAP_NET_RAW).
  *
- * The statuses are those of capkit: 1 after a fault, as where the right is missing, and 2 where the
+ * The statuses are those of capkit: 1 after a fault, such as a missing right, and 2 if the
  * command line or the expression is refused. */
 #define _DEFAULT_SOURCE
 #include "example.h"

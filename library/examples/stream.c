@@ -1,6 +1,6 @@
 /* Prints the time and the length of each packet of a capture on its standard input, as it comes.
  *
- * The input is read through a buffer that has room for two units. A fault is told at once, though
+ * The input is read through a buffer with room for two units. A fault is reported at once, though
  * more bytes may come. The statuses are those of capkit: 1 after a fault or a failed read. */
 #define _POSIX_C_SOURCE 200809L
 #include "example.h"

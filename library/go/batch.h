@@ -12,7 +12,7 @@ struct batch_packet {
  * how many there are. The program is valid, and for packets of link_type: on packets of another
  * link type it isn't run, and they are among those that are read. If count is 0, all packets are.
  *
- * A batch ends before a unit without a packet. So after it the reader, but for its offset, and the
+ * A batch ends before a unit without a packet. So after it the reader, except its offset, and the
  * table, which has room for CAPKIT_MOST_INTERFACES, are as after each of its packets: by them are
  * comments and names of interfaces read. Returns CAPKIT_PACKET if there are packets, otherwise the
  * result of capkit_next. */

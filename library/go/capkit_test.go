@@ -23,7 +23,7 @@ func packet(data []byte) capkit.Packet {
 
 func of(capture []byte) *capkit.Reader { return capkit.NewReader(bytes.NewReader(capture)) }
 
-// check ends the tests where a step that they need fails.
+// check ends the tests if a step that they need fails.
 func check(err error) {
 	if err != nil {
 		panic(err)

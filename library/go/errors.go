@@ -3,7 +3,7 @@ package capkit
 import "fmt"
 
 // Code is a number that a call returned, of which each has one meaning. It is an error, so that
-// errors.Is(err, capkit.ErrTruncated) tells what an error comes from.
+// errors.Is(err, capkit.ErrTruncated) shows the cause of an error.
 type Code uint32
 
 // What an expression is refused for, the rules of programs, and the checks of captures and of packets
@@ -89,7 +89,7 @@ func (e *ListingError) Error() string { return fmt.Sprintf("%s (at line %d)", Er
 // Unwrap is ErrNotAListing.
 func (e *ListingError) Unwrap() error { return ErrNotAListing }
 
-// CaptureError is where a capture ends with a fault, and the check that the unit at this offset fails.
+// CaptureError is the offset at which a capture ends with a fault, and the check that the unit there fails.
 type CaptureError struct {
 	Code   Code
 	Offset int64

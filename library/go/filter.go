@@ -112,7 +112,7 @@ func FromListing(listing string) (*Filter, error) {
 	panic("capkit: out of memory")
 }
 
-// checked is the filter of the first so many of some instructions, which are one more at least.
+// checked is the filter of the first `count` instructions; the slice has at least one more.
 func checked(insns []C.struct_capkit_insn, count int) (*Filter, error) {
 	var index C.size_t
 	rule := C.capkit_check(&insns[0], C.size_t(count), &index)
@@ -130,7 +130,7 @@ func (f *Filter) all() []C.struct_capkit_insn {
 	return f.insns
 }
 
-// program is where the instructions begin, and how many there are.
+// program returns a pointer to the instructions, and their number.
 func (f *Filter) program() (*C.struct_capkit_insn, C.size_t) {
 	insns := f.all()
 	return &insns[0], C.size_t(len(insns))
@@ -249,7 +249,7 @@ func (e *Expression) Filter(linkType uint16) (*Filter, error) {
 	return it.filter, it.err
 }
 
-// Matches is whether a packet matches; an error where no expression is compiled for its link type.
+// Matches returns whether a packet matches, or an error if expressions can't be compiled for its link type.
 func (e *Expression) Matches(packet Packet) (bool, error) {
 	filter, err := e.Filter(packet.LinkType)
 	return err == nil && filter.Matches(packet.Data, packet.original()), err

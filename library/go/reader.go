@@ -22,7 +22,7 @@ type Packet struct {
 	OriginalLength uint32 // how many it had on the wire; 0 is as many as Data has, except with ZeroLength
 	Comment        string // its first one; others aren't kept
 	InterfaceName  string
-	SnapLength     uint32 // the most bytes captured of a packet of its interface; 0 is no limit
+	SnapLength     uint32 // the most bytes captured of a packet of its interface; 0: no limit
 	ZeroLength     bool   // it had 0 bytes on the wire, though Data has some: an odd capture may state this
 }
 
@@ -64,7 +64,7 @@ type Reader struct {
 	expression *Expression
 	skips      bool   // whether what is refused is skipped,
 	skipped    uint64 // and how much of it was
-	base       int64  // where the buffer begins in the capture
+	base       int64  // the offset of the buffer in the capture
 	size       int    // how many bytes of the buffer were read
 	buffer     []byte
 	reader     C.struct_capkit_reader
@@ -108,7 +108,7 @@ func (r *Reader) Close() error {
 	return r.file.Close()
 }
 
-// SetFilter has Next give the packets alone that match, from the next one on; nil is all.
+// SetFilter makes Next return only the packets that match, from the next one on; nil means all.
 func (r *Reader) SetFilter(expression *Expression) {
 	r.expression, r.linkType = expression, LinkEthernet
 	// What was read ahead is read again.
@@ -117,8 +117,8 @@ func (r *Reader) SetFilter(expression *Expression) {
 
 // SkipRefused has Next go past what would end a capture that is otherwise sound, from the next packet on:
 // a unit that is refused for its time, link type or options, and, with a filter, a packet of a link type for
-// which no expression is compiled. Skipped counts both. Of an interface that is skipped no packet has a time,
-// so they are skipped in turn.
+// which no expression is compiled. Skipped counts both. No packet of a skipped interface has a time,
+// so these packets are skipped in turn.
 func (r *Reader) SkipRefused(skips bool) { r.skips = skips }
 
 // Skipped is how many units and packets were left out so far; see SkipRefused.
@@ -210,7 +210,7 @@ func (r *Reader) skip() C.uint32_t {
 		(*C.uint8_t)(start(r.buffer)), C.size_t(r.size)))
 }
 
-// next reads the next packets by one call, those alone that match. Their filter is for the link
+// next reads the next packets by one call, only those that match. Their filter is for the link
 // type of the packet before them.
 func (r *Reader) next() C.uint32_t {
 	insns, count := (*C.struct_capkit_insn)(nil), C.size_t(0)
@@ -239,7 +239,7 @@ func (r *Reader) filter() (*Filter, error) {
 	return r.expression.Filter(r.linkType)
 }
 
-// fill moves what is left to the front of the buffer, and reads on behind it.
+// fill moves the remaining bytes to the start of the buffer, and reads more after them.
 func (r *Reader) fill(rest int) error {
 	copy(r.buffer, r.buffer[r.reader.offset:r.size])
 	r.base += int64(r.reader.offset)

@@ -130,7 +130,7 @@ func TestLinkTypesThatAreNotFilteredAreSkipped(t *testing.T) {
 			}
 		}
 	}
-	// What isn't given yet isn't counted, where a filter is set between packets.
+	// If a filter is set between packets, those that weren't given yet aren't counted.
 	reader := of(capture)
 	reader.SkipRefused(true)
 	reader.SetFilter(must(capkit.NewExpression("arp")))

@@ -25,7 +25,7 @@ func capture100() ([]byte, []capkit.Packet) {
 	return written(capkit.Pcapng, packets...), packets
 }
 
-// step is what a source gives at one read: so many bytes, or fewer, and an error.
+// step is what a source gives at one read: at most this many bytes, and an error.
 type step struct {
 	most int
 	err  error
@@ -136,7 +136,7 @@ func TestErrorsOfASourceAreToldOnce(t *testing.T) {
 	if got, err := read(from(capture, step{len(capture), io.EOF})); err != io.EOF || !reflect.DeepEqual(got, packets) {
 		t.Error(len(got), err)
 	}
-	// A capture that is cut is no clean end, whatever came before.
+	// A capture that is cut never ends cleanly, whatever came before.
 	if got, failures, err := readOn(from(capture[:len(capture)-1], step{50, failed})); !errors.Is(err, capkit.ErrTruncated) || len(got) != 99 || len(failures) != 1 {
 		t.Error(len(got), failures, err)
 	}
@@ -199,7 +199,7 @@ func TestPiecesAndFailuresAtRandom(t *testing.T) {
 	}
 }
 
-// part is an output that takes so many bytes of each write, and says so, with an error or without.
+// part is an output that takes at most a number of bytes of each write, and returns it, with an error or without.
 type part struct {
 	bytes.Buffer
 	most int
@@ -311,7 +311,7 @@ func TestWhatIsTooLong(t *testing.T) {
 	}
 }
 
-// budget is an output that takes so many bytes in all.
+// budget is an output that takes a number of bytes in all.
 type budget struct {
 	part
 	limit int

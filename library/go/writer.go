@@ -63,7 +63,7 @@ func NewWriter(out io.Writer, format Format) *Writer {
 // other packets can be. Any other error is that of the output, which every later call has too: the output
 // has all packets before this one, and of this one's bytes as many as it took. After Close it is
 // os.ErrClosed. A pcap file has packets of one link type, a pcapng file at most 4,096 interfaces (link
-// type, snapshot length and name), of which a Reader reads the first 256.
+// type, snap length and name), of which a Reader reads the first 256.
 func (w *Writer) Write(packet Packet) error {
 	if w.failure != nil {
 		return w.failure
@@ -105,7 +105,7 @@ func (w *Writer) WriteAll(packets []Packet) (written int, err error) {
 	return written, err
 }
 
-// Close writes the file's header where there was no packet. It neither flushes nor closes the output.
+// Close writes the file's header if there was no packet. It neither flushes nor closes the output.
 func (w *Writer) Close() error {
 	if w.failure == os.ErrClosed {
 		return nil
@@ -128,7 +128,7 @@ func first(text string, most int) string {
 	return text
 }
 
-// stage puts packets, one at least, to where one call of the library finds them.
+// stage collects packets, at least one, for one call of the library.
 func (w *Writer) stage(packets []Packet) {
 	w.staged, w.bytes = w.staged[:0], w.bytes[:0]
 	for i := range packets {
@@ -179,7 +179,7 @@ func (w *Writer) makeRoom(count, length int) {
 	}
 }
 
-// put writes so many bytes of the buffer, and returns how many the output took.
+// put writes this many bytes of the buffer, and returns how many the output took.
 func (w *Writer) put(length int) (count int, err error) {
 	if w.out == nil {
 		w.failure = os.ErrInvalid

@@ -1,6 +1,6 @@
 """Puts libcapkit into the wheel. What else is known of the package is in pyproject.toml.
 
-The libraries are those beside this file, as in a source package, or those that `make` in library/ builds.
+The libraries are those in this file's folder, as in a source package, or those that `make` in library/ builds.
 """
 import pathlib
 import re

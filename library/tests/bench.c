@@ -1,4 +1,4 @@
-/* Measures libcapkit beside libpcap on the Ethernet packets of captures: the least CPU time of
+/* Compares libcapkit with libpcap on the Ethernet packets of captures: the least CPU time of
  * ROUNDS rounds, in each of which every call is measured in turn. usage: bench ROUNDS EXPRESSIONS
  * FILE..
  *

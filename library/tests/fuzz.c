@@ -19,7 +19,7 @@ static size_t valid, runs, wrong, apart, files, packets, answered, unchecked, po
 static size_t steps_seen, printed;
 static uint8_t *first, *second, *third;
 
-/* An instruction is printed as libpcap prints it, but for what capkit.h says. */
+/* An instruction is printed as libpcap prints it, except as capkit.h says. */
 static void print(const struct capkit_insn *p, uint32_t index)
 {
     size_t room = rnd() % 100, length;
@@ -131,8 +131,8 @@ static void batches(const uint8_t *capture, size_t size)
     wrong += next != found || one.offset != many.offset;
 }
 
-/* Reads a capture to its end, and returns how many packets it has. They lie in it, in front of
- * where it was read to. */
+/* Reads a capture to its end, and returns how many packets it has. They are in it, before the
+ * place to which it was read. */
 static size_t seen_in(const uint8_t *capture, size_t size)
 {
     static char comment[4096];

@@ -2,7 +2,7 @@
 # Damaged captures, expressions and listings by every call (mutants.c), under the sanitizers of addresses and undefined
 # behaviour, and then of threads. It wants libcapkit.a (make).
 #
-# usage: library/tests/fuzz.sh [INPUTS]       of damaged captures for each; 100000 where none are given
+# usage: library/tests/fuzz.sh [INPUTS]       of damaged captures for each (100000)
 set -eu
 cd "$(dirname "$0")/.."
 inputs=${1:-100000}

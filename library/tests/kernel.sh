@@ -1,6 +1,6 @@
 #!/bin/bash
-# Linux runs capkit's programs: attached to a packet socket (socket_filter), in a rule of iptables and in a filter of tc, where
-# these are there. Of two datagrams over the loopback interface, in a network of its own, each sees one.
+# Linux runs capkit's programs: attached to a packet socket (socket_filter), in a rule of iptables and in a filter of tc, if
+# these are installed. Two datagrams cross the loopback interface of a separate network; each must match one of them.
 #
 # usage: unshare -rn tests/kernel.sh      in library/
 set -eu
@@ -21,7 +21,7 @@ if have tc; then
     tc qdisc add dev lo root handle 1: htb default 20
     tc class add dev lo parent 1: classid 1:10 htb rate 1mbit
     tc class add dev lo parent 1: classid 1:20 htb rate 1gbit quantum 60000
-    # tc takes what the program returns as the class, but for 2^32 - 1, which is that of the filter.
+    # tc takes what the program returns as the class, except 2^32 - 1, which is that of the filter.
     program=$(out/compile "$expression" 1 | sed 's/^6 0 0 262144$/6 0 0 4294967295/' | paste -sd,)
     tc filter add dev lo parent 1: bpf bytecode "$program" classid 1:10
 fi

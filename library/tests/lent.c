@@ -11,7 +11,7 @@ enum { COMPILE, BOUND, EXPLAIN, READ, WRITE, CALLS, TEXT = CAPKIT_MOST_TEXT + 1 
 
 static const char *const names[] = {"compile", "bound", "explain", "read", "write"};
 
-/* What a call is given, and what it leaves. */
+/* What a call is given, and its results. */
 struct given {
     const char *text; /* an expression, or a listing */
     const struct capkit_insn *insns;
@@ -52,7 +52,7 @@ static void within(int which, struct capkit_memory *m, const struct given *g, st
                                  : capkit_write_listing_in(m, g->insns, g->count, to->text, room, n);
 }
 
-/* Whether so many bytes are enough for a call that left `plain`. */
+/* Whether `size` bytes are enough for a call whose results without `_in` are `plain`. */
 static int is_enough(int which, size_t size, const struct given *g)
 {
     struct capkit_memory m = {size ? place(memory, (size + 15) / 16 * 16) : NULL, size}, was = m;
@@ -111,7 +111,7 @@ static size_t least_of_all(const char *title, const char *text)
     return most;
 }
 
-/* So many terms, joined by `or`; or no expression if they are too long. */
+/* `count` terms, joined by `or`; or no expression if they are too long. */
 static char *terms(size_t count, const char *term)
 {
     static char text[TEXT + 100];

@@ -1,9 +1,9 @@
 /* Holds what capkit_explain writes against capkit_compile and libpcap. usage: meanings COUNT FILE..
  *
  * Programs and meanings of the expressions of standard input, up to COUNT that aren't refused, are
- * put into buffers of any room. A meaning is its own meaning, and has the same program. Of the
- * first 1000 that libpcap takes, its programs of the expression and of its meaning are run on the
- * packets, whole and cut. Its optimizer is off, since it changes what some expressions say. An
+ * put into buffers of any room. A meaning is its own meaning, and has the same program. For
+ * the first 1000 that libpcap takes, its programs of the expression and of its meaning are run on
+ * the packets, whole and cut. Its optimizer is off, since it changes what some expressions say. An
  * expression after a blank may have another meaning in libpcap.
  */
 #include "captures.h"
@@ -36,7 +36,7 @@ static void compile_in_room(const char *source, size_t size, uint32_t status, si
         wrong += compiled != status || number != bound || !capkit_text(status, name, sizeof name);
 }
 
-/* What an expression means, put into buffers of any room; null where it is refused. */
+/* What an expression means, put into buffers of any room; null if it is refused. */
 static const char *meaning_of(const char *source, size_t size, size_t *number)
 {
     static char kept[1 << 20];
@@ -63,7 +63,7 @@ static const char *meaning_of(const char *source, size_t size, size_t *number)
     return kept;
 }
 
-/* What an expression means, read back; null where it is refused, or nests too deep. */
+/* What an expression means, read back; null if it is refused, or nests too deep. */
 static const char *read_back(const char *source)
 {
     static struct capkit_insn ours[CAPKIT_MOST_INSNS], theirs[CAPKIT_MOST_INSNS];

@@ -1,8 +1,8 @@
 /* Damaged captures, expressions and listings, by every call that reads or writes one, in threads that
  * share what the calls only read. usage: mutants SEED INPUTS THREADS FILE..
  *
- * Buffers end or begin at a page that can't be touched. What is put reads back as it was read, each
- * call that refuses leaves its memory as it was, and the calls agree with one another. */
+ * Buffers end or begin at a page that can't be touched. What is put reads back as it was read, a
+ * call that refuses doesn't change its memory, and the calls agree with one another. */
 #include <capkit.h>
 #include <pthread.h>
 #include <stdio.h>
@@ -11,7 +11,7 @@
 
 enum { MOST = 1 << 16, ROOM = 4, FILES = 64 };
 
-/* What the inputs came to. */
+/* Counts over all inputs. */
 struct tally {
     size_t inputs, packets, faults, skipped, put, refused, programs, texts, listings, wrong;
 };
@@ -100,7 +100,7 @@ static void use(struct worker *w, const struct capkit_reader *reader,
 }
 
 /* Goes past the unit at the reader's place. Unless it does, nothing is written, and the result is that of
- * the call that reads it, but for a unit that is cut or finds no room. */
+ * the call that reads it, except for a unit that is cut or for which there is no room. */
 static uint32_t skip(struct worker *w, struct capkit_reader *reader, struct capkit_interface *table,
                      size_t room, const uint8_t *bytes, size_t size, uint32_t read)
 {

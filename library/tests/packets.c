@@ -1,5 +1,5 @@
 /* Prints the packets of captures, and how each ends. check_packages.sh holds what the packages print of damaged
- * captures (packets.go, packets.rs) against it: it calls the library alone, on a capture in memory.
+ * captures (packets.go, packets.rs) against it: it only calls the library, on a capture in memory.
  *
  * usage: packets all|skip EXPRESSION FILE..    skip goes past what is refused, and all ends there
  */

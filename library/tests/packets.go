@@ -15,7 +15,7 @@ import (
 	"example.com/capkit"
 )
 
-// pieces is a source that gives so many bytes at once.
+// pieces is a source that gives at most a number of bytes at once.
 type pieces struct {
 	io.Reader
 	most int

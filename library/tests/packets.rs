@@ -6,7 +6,7 @@ use std::error::Error;
 use std::fs::File;
 use std::io::{self, BufWriter, Read, Write};
 
-/// A source that gives so many bytes at once.
+/// A source that gives at most a number of bytes at once.
 struct Pieces(File, usize);
 
 impl Read for Pieces {

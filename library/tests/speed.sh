@@ -1,8 +1,8 @@
 #!/bin/sh
-# Measures compilations, runs and reads of the next match beside libpcap (bench.c), on a made capture of 10,000 packets.
-# It wants libcapkit.a (make) and libpcap's headers.
+# Compares compilations, runs and reads of the next match with libpcap's (bench.c), on a made capture of 10,000 packets.
+# It needs libcapkit.a (make) and libpcap's headers.
 #
-# usage: library/tests/speed.sh [ROUNDS]       400 where none are given
+# usage: library/tests/speed.sh [ROUNDS]       400 by default
 set -eu
 cd "$(dirname "$0")/.."
 make -s out/bench

@@ -15,7 +15,7 @@ FILTERED = (1, 101, 113)
 
 @dataclasses.dataclass
 class Outcome:
-    """What a run leaves. The pieces are its output, one for each packet or report."""
+    """The result of a run. The pieces are its output, one for each packet or report."""
 
     pieces: list
     messages: str = ""
@@ -107,7 +107,7 @@ def end_of(capture, name):
 
 
 def edit(words, file_of, _listing):
-    """Edits one capture: selects by number and time, cuts, shifts, and leaves out what was there before."""
+    """Edits one capture: selects by number and time, cuts, shifts, and omits duplicates."""
     words = Words(words, "rA:B:s:D:F:", ["chop-start", "chop-end", "later", "earlier"])
     name, _, *ranges = words.rest
     capture = Capture(file_of(name))

@@ -7,15 +7,15 @@ from files import SECTION, Writer, block, header, interface_block
 from notation import Table, pairs, record
 
 HEAD = """\
-# Sizes and options crossed: each is done, since there is memory for it. Of sizes that no limit is near no contract says so,
-# so a body that gives up at one size of a list, or for one pair of options, is seen here.
+# Sizes and options crossed: each run succeeds, since there is memory for it. No contract states this for sizes far from any
+# limit, so only these cases show code that gives up at one size of a list, or for one pair of options.
 # tools/cases/crossed.py writes this table.
 """
 X, Y, Z = bytes(range(20)), bytes(range(32, 48)), bytes(range(64, 67))
 DATA = [X, X, Y, Z, X]
 FORMATS = ["-F pcap", "-F nsecpcap", ""]
-# Each option of edit with two values: words before the names of the files, and words behind them. A new option of edit is
-# crossed with all others by a row here.
+# Each option of edit with two values: words before the names of the files, and words after them. A row here crosses a new
+# option of edit with all others.
 OPTIONS = [
     [("", "2"), ("", "1-3")],
     [("-r", "1-3"), ("-r", "2 4-5")],
@@ -123,7 +123,7 @@ def interfaces(lines, form):
 
 
 def marked(data):
-    """Bytes as words, with columns for the two link types that stand in for those of the rows."""
+    """Bytes as words, with columns in place of the two link types."""
     words = pairs(data, {"SECTION": SECTION})
     return words.replace("e1000000", "{2}").replace("e2000000", "{3}")
 

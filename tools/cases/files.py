@@ -127,7 +127,7 @@ class Capture:
         return size
 
     def of_body(self, body, form):
-        """The numbers at the front of a body."""
+        """The numbers at the start of a body."""
         require(len(body) >= struct.calcsize("<" + form), "bad body")
         return struct.unpack(self.order + form, body[:struct.calcsize("<" + form)])
 

@@ -385,7 +385,7 @@ def words(data):
 
 
 def mask_of(parts, mask):
-    """The mask of an IPv4 network of so many parts."""
+    """The mask of an IPv4 network of this number of parts."""
     if isinstance(mask, bytes):
         return big(mask, 0, 4)
     return 2**32 - 2 ** (32 - (8 * parts if mask is None else mask))

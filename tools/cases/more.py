@@ -1,7 +1,7 @@
 """More cases for the random tables: random commands on random, mostly damaged captures, and random expressions.
 
 usage: more.py random_captures|random_filters SEED COUNT     prints cases, to be appended to the table; then
-       check_cases.py --write TABLE computes what comes of them
+       check_cases.py --write TABLE computes their results
 """
 import pathlib
 import random

@@ -194,7 +194,7 @@ def text_of(written):
 
 
 def expected(words, outcome, names):
-    """The lines for what a run leaves: text of a print or a report, else bytes."""
+    """The lines for the outcome of a run: text of a print or a report, else bytes."""
     is_text = words[0] == "infos" or words[0] == "print" and "-w" not in words
     lines = text_of(outcome.written) if is_text else [f"out {pairs(outcome.written, names)}"] * bool(outcome.written)
     lines += [f"reports {line.removeprefix('capkit: ')}" for line in outcome.messages.splitlines()]

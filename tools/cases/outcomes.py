@@ -1,6 +1,6 @@
-"""Computes what is expected of the cases of a table: the lines that state it are written, all others stay.
+"""Computes the expected results of the cases of a table, and writes the lines that state them; all other lines are kept.
 
-So a case is added to such a table by its input: its words, its files and its sweep.
+So to add a case to such a table, write only its input: its words, its files and its sweep.
 """
 
 import collections
@@ -20,7 +20,7 @@ def table(stored):
 
 
 def block_of(lines, cases, names):
-    """A block: names, or a case, of which the front stays and the rest is computed."""
+    """A block: names, or a case, whose input is kept and whose results are computed."""
     if all(line.partition(" ")[0] in (*NAMING, "#", "given") for line in lines):
         return "\n".join(lines)
     case = next(cases)

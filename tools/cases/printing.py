@@ -5,7 +5,7 @@ import datetime
 from files import SECOND
 
 ETHERNET, RAW, COOKED = 1, 101, 113
-# Where the network header begins.
+# The start of the network header.
 NETWORK = {ETHERNET: 14, RAW: 0, COOKED: 16}
 TYPES = {0x0800: "IP", 0x86DD: "IP6", 0x0806: "ARP", 0x8035: "RARP"}
 LEAST = {"IP": 20, "IP6": 40, "ARP": 28, "RARP": 28}
@@ -76,7 +76,7 @@ def network_part(link, data):
 
 
 def rows(link, data):
-    """The rows of bytes behind the link header."""
+    """The rows of bytes after the link header."""
     shown = data[NETWORK.get(link, 0):]
     for at in range(0, len(shown), 16):
         row = shown[at:at + 16]

@@ -1,6 +1,6 @@
 """The table `random_captures`: commands with random options on random captures, most of them damaged.
 
-Its words and captures, once made at random of seed 20261123, stay as they are; what comes of them is computed.
+Its words and captures were made at random once (seed 20261123) and are kept; their results are computed.
 """
 
 import commands

@@ -1,6 +1,6 @@
 """The table `random_filters`: random expressions on random packets.
 
-Its expressions and packets, once made at random of seed 20261123, stay as they are; what matches is computed.
+Its expressions and packets were made at random once (seed 20261123) and are kept; which match is computed.
 """
 
 import filters

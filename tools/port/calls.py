@@ -1,10 +1,12 @@
 #!/usr/bin/env python3
-"""Writes calls of the library of this machine, with what they return and leave, for replay.c. usage: calls.py LIBCAPKIT.SO OUT [SEED]
+"""Records calls of this machine's library with their results, for replay.c, which repeats them on another processor.
 
-Expressions are refused and damaged ones too, programs damaged ones, captures samples with bits turned over, cut and with bytes put in.
-Every buffer is given with its bytes before and after the call, padding too. A call is written as: its name, whether its result has 64
-bits, its number of arguments, which of these are buffers (a bit each), the arguments (numbers, or length and bytes), the result, and
-the buffers after it. Numbers have 64 bits.
+usage: calls.py LIBCAPKIT.SO OUT [SEED]
+
+Some expressions are refused or damaged, some programs are damaged, and captures are samples with flipped bits, cuts and inserted
+bytes. Every buffer is recorded before and after the call, with its padding. The record of a call: its name, whether its result has
+64 bits, its number of arguments, which of these are buffers (a bit each), the arguments (numbers, or length and bytes), the result,
+and the buffers after it. Numbers have 64 bits.
 """
 import ctypes
 import itertools
@@ -86,7 +88,7 @@ def call_compiler(calls, chance):
 
 
 def call_programs(calls, chance, programs):
-    """Calls on programs alone."""
+    """Calls that take only programs."""
     for _, program in chance.sample(programs, min(200, len(programs))):
         count, other = len(program) // INSN, bytearray(program)
         if chance.random() < 0.5:

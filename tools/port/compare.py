@@ -3,9 +3,9 @@
 
 usage: compare.py PROGRAM OTHER [COUNT [SEED]]
 
-Each line runs in a folder of its own with the samples and forty damaged copies of them. A program is a command, maybe of several
-words (an emulator with its options and the program); both files have the same name, since messages say it. The last line
-counts the command lines that differ.
+Each line runs in its own folder with the samples and forty damaged copies of them. PROGRAM and OTHER are commands of one or more
+words (such as an emulator with its options and the program); both files must have the same name, since messages have it. The last
+line counts the command lines that differ.
 """
 import concurrent.futures
 import os
@@ -68,7 +68,7 @@ def random_line(chance, files):
 
 
 def result(command, words, base, folder):
-    """What a program does with a line: its status, output and messages, and the files that are there then."""
+    """What a program does with a line: its status, output, messages and files."""
     shutil.copytree(base, folder)
     how = {"cwd": folder, "stdin": subprocess.DEVNULL, "stdout": subprocess.PIPE, "stderr": subprocess.PIPE, "timeout": 120}
     ran = subprocess.run([*command, *words], env={"TZ": "UTC", "PATH": os.defpath}, check=False, **how)

@@ -1,5 +1,5 @@
-/* Makes the calls that calls.py wrote on the library of another processor, and compares every result and every byte of every buffer.
- * The last line counts the calls that differ. usage: replay FILE
+/* Repeats the calls that calls.py recorded, on the library of another processor, and compares every result and every byte of every
+ * buffer. The last line counts the calls that differ. usage: replay FILE
  *
  * All arguments are passed with 64 bits, which the calling conventions of x86-64 and ARM64 allow. */
 #include <stdbool.h>
@@ -51,7 +51,7 @@ static call *called(const char *name)
     exit(3);
 }
 
-/* Whether the next call returns and leaves the same. */
+/* Whether the next call returns the same, with the same bytes in all buffers. */
 static bool is_same(FILE *file)
 {
     uint64_t length, a[MOST_ARGUMENTS] = {0}, sizes[MOST_ARGUMENTS];

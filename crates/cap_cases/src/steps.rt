@@ -17,8 +17,9 @@ fn is_stopped_at(case: &Case<'_>, outcome: &Outcome, stop: usize) -> bool {
         && case.written.get(..*size) == Some(outcome.written.as_slice())
 }
 
-/// A job that is closed after each number of steps: the stops are met in order, each step goes on
-/// by one at most, and after the end all stays. The last stop may be one before the case's last.
+/// Judges a job that is closed after each number of steps: the stops come in order, each step
+/// reaches the next one at most, and after the end nothing changes. The last stop may be the one
+/// before the case's last.
 pub fn after_steps(case: &Case<'_>, outcome: &Outcome, course: &mut Course) -> Verdict {
     let next = course.last.saturating_add(1);
     if outcome.is_of(case) {

@@ -1,5 +1,7 @@
 -- The names that most proofs here cite, passed on from one place. Declares nothing.
-pub use Rattle.std.proofs.Common.{◌≡◌, ℕ, zero, suc, ◌+◌, ◌≤◌, List, [], ◌∷◌, ap, arith, ◌≢◌, ◌↔◌, ◌⊎◌, inl, inr, None, Some, Result, Ok, Err, ◌∙◌, sym, ◌<◌, All, ◌-◌, ◌^◌, Bool, cond, not, nat_eq, nat_lt, ◌==◌, true, false, ◌++◌, length, get_or, set, slice_get, take, drop, min, Option, refl, subst}
+pub use Rattle.std.proofs.Common.{◌≡◌, ℕ, zero, suc, ◌+◌, ◌≤◌, List, [], ◌∷◌, ap, arith, ◌≢◌, ◌↔◌, ◌⊎◌, inl, inr, None, Some, Result, Ok, Err, ◌∙◌, sym, ◌<◌}
+pub use Rattle.std.proofs.Common.{All, ◌-◌, ◌^◌, Bool, cond, not, nat_eq, nat_lt, ◌==◌, true, false, ◌++◌, length, get_or, set, slice_get, take, drop, min}
+pub use Rattle.std.proofs.Common.{Option, refl, subst}
 pub use Rattle.std.proofs.lemmas.List.{take_more, get_or_default}
 pub use Rattle.cap_filter.specs.FilterRules.{by_reading, expression_decides, decision_of, read_on}
 pub use Rattle.cap_filter.specs.Filters.{most_cost, program_place, spent_on}

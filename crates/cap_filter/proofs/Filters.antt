@@ -1,5 +1,9 @@
 -- What runs of programs answer and cost.
-use Rattle.cap_filter.proofs.Common.{◌≡◌, ◌≢◌, ◌↔◌, ◌<◌, All, ℕ, zero, suc, ◌+◌, ◌-◌, ◌^◌, Bool, cond, not, nat_eq, nat_lt, ◌==◌, true, false, List, [], ◌∷◌, ◌++◌, length, get_or, set, slice_get, take, drop, min, Option, None, Some, Ok, Err, refl, sym, ◌∙◌, ap, arith, subst, Captured, Content, machine, Answered, Expression, empty, truth, Link, Ether, AreMade, IsMade, steps_of_run, met_on, ran_at, ran_if, ran_on, HasPrograms, all_links, link_of, link_type, by_reading, expression_decides, decision_of, read_on, program_place, spent_on, ◌≤◌, spent_in, most_cost}
+use Rattle.cap_filter.proofs.Common.{◌≡◌, ◌≢◌, ◌↔◌, ◌<◌, All, ℕ, zero, suc, ◌+◌, ◌-◌, ◌^◌, Bool, cond, not, nat_eq, nat_lt, ◌==◌, true, false, List, [], ◌∷◌}
+use Rattle.cap_filter.proofs.Common.{◌++◌, length, get_or, set, slice_get, take, drop, min, Option, None, Some, Ok, Err, refl, sym, ◌∙◌, ap, arith, subst}
+use Rattle.cap_filter.proofs.Common.{Captured, Content, machine, Answered, Expression, empty, truth, Link, Ether, AreMade, IsMade, steps_of_run, met_on, ran_at}
+use Rattle.cap_filter.proofs.Common.{ran_if, ran_on, HasPrograms, all_links, link_of, link_type, by_reading, expression_decides, decision_of, read_on}
+use Rattle.cap_filter.proofs.Common.{program_place, spent_on, ◌≤◌, spent_in, most_cost}
 use Rattle.std.proofs.Math.Seq.{take-append_seam}
 use Rattle.std.proofs.lemmas.{Bool.ltb-true, Bool.ne_eqb, Bool.Decides.nat_tests, List.Elements.All-append}
 use Rattle.std.proofs.lemmas.{List.Folds.find_at, Option.slice_get-get_or, Option.slice_get_past}
@@ -26,7 +30,8 @@ answers-by No a right = zero-unless a (λ other. let same : No ≡ Yes = right.0
 answers-by Rejected a right = zero-unless a (λ other. let same : Rejected ≡ Yes = right.0 other in absurd (cc))
 
 -- a program for an expression accepts a packet where it passes
-pub run-answers : (prog : List Insn) (e : Expression) (link : Link) (p : List ℕ) (n answer count : ℕ) → IsProgramOf prog e link → machine prog p n (length prog) ≡ Answered answer count
+pub run-answers : (prog : List Insn) (e : Expression) (link : Link) (p : List ℕ) (n answer count : ℕ) → IsProgramOf prog e link
+    → machine prog p n (length prog) ≡ Answered answer count
     → ReturnsDecision (decision_of (holds e link p n)) (Ok (not (nat_eq answer 0)))
 run-answers prog e link p n answer count is met =
     let d = is.decides p n in
@@ -44,7 +49,8 @@ made-length e (link ∷ links) [] made = absurd made
 made-length e (link ∷ links) (program ∷ programs) made = ap (λ n. suc n) (made-length e links programs made.1)
 
 -- one program more
-pub made-put : (e : Expression) (links : List Link) (programs : List Content) (link : Link) (program : Content) → AreMade e links programs → IsMade program e link
+pub made-put : (e : Expression) (links : List Link) (programs : List Content) (link : Link) (program : Content) → AreMade e links programs
+    → IsMade program e link
     → AreMade e (links ++ link ∷ []) (programs ++ program ∷ [])
 made-put e [] [] link program made is = (is, tt)
 made-put e [] (other ∷ programs) link program made is = absurd made
@@ -55,12 +61,14 @@ fresh-one : (program : Content) → program.spent ≡ 0 → All (λ (c : Content
 fresh-one program is zero d within = is
 fresh-one program is (suc k) d within = absurd (omega (arith, within))
 
-pub fresh-put : (programs : List Content) (program : Content) → All (λ (c : Content). c.spent ≡ 0) programs → program.spent ≡ 0 → All (λ (c : Content). c.spent ≡ 0) (programs ++ program ∷ [])
+pub fresh-put : (programs : List Content) (program : Content) → All (λ (c : Content). c.spent ≡ 0) programs → program.spent ≡ 0
+    → All (λ (c : Content). c.spent ≡ 0) (programs ++ program ∷ [])
 fresh-put programs program fresh is =
     All-append (λ (c : Content). c.spent ≡ 0) programs (program ∷ []) fresh (fresh-one program is)
 
 -- the program of a link
-pub made-at : (e : Expression) (links : List Link) (programs : List Content) (i : ℕ) (link : Link) (d : Content) → AreMade e links programs → slice_get links i ≡ Some link
+pub made-at : (e : Expression) (links : List Link) (programs : List Content) (i : ℕ) (link : Link) (d : Content) → AreMade e links programs
+    → slice_get links i ≡ Some link
     → IsMade (get_or programs i d) e link
 made-at e [] programs i link d made is = (cc)
 made-at e (first ∷ links) [] i link d made is = absurd made
@@ -70,7 +78,8 @@ made-at e (first ∷ links) (program ∷ programs) zero link d made is =
 made-at e (first ∷ links) (program ∷ programs) (suc i) link d made is = made-at e links programs i link d made.1 is
 
 -- programs keep their instructions when they run
-pub made-ran : (e : Expression) (links : List Link) (programs : List Content) (i : ℕ) (p : Captured) → AreMade e links programs → AreMade e links (ran_at i p programs)
+pub made-ran : (e : Expression) (links : List Link) (programs : List Content) (i : ℕ) (p : Captured) → AreMade e links programs
+    → AreMade e links (ran_at i p programs)
 made-ran e [] [] i p made = tt
 made-ran e [] (program ∷ programs) i p made = absurd made
 made-ran e (link ∷ links) [] i p made = absurd made
@@ -87,15 +96,19 @@ ran p before after answer count met same spent =
     let made : List Insn → ℕ → Content = λ insns spent. record { insns = insns; spent = spent } in
     ap (λ l. made l after.spent) same ∙ ap (λ n. made before.insns n) (spent ∙ ap (λ n. min (before.spent + n) (2 ^ 128 - 1)) (sym cost))
 
-put : (i : ℕ) (p : Captured) (programs : List Content) (d after : Content) → i < length programs → after ≡ ran_on p (get_or programs i d) → set programs i after ≡ ran_at i p programs
+put : (i : ℕ) (p : Captured) (programs : List Content) (d after : Content) → i < length programs → after ≡ ran_on p (get_or programs i d)
+    → set programs i after ≡ ran_at i p programs
 put i p [] d after within is = absurd (omega (arith, within))
 put zero p (program ∷ programs) d after within is = ap (λ c. c ∷ programs) is
 put (suc i) p (program ∷ programs) d after within is = ap (λ l. program ∷ l) (put i p programs d after (omega (arith, within)) is)
 
 -- it is put back at its place
-pub set-ran : (i : ℕ) (p : Captured) (programs : List Content) (d after : Content) (answer count : ℕ) → i < length programs → met_on p (get_or programs i d).insns ≡ Answered answer count
-    → after.insns ≡ (get_or programs i d).insns → after.spent ≡ min ((get_or programs i d).spent + count) (2 ^ 128 - 1) → set programs i after ≡ ran_at i p programs
-set-ran i p programs d after answer count within met same spent = put i p programs d after within (ran p (get_or programs i d) after answer count met same spent)
+pub set-ran : (i : ℕ) (p : Captured) (programs : List Content) (d after : Content) (answer count : ℕ) → i < length programs
+    → met_on p (get_or programs i d).insns ≡ Answered answer count
+    → after.insns ≡ (get_or programs i d).insns → after.spent ≡ min ((get_or programs i d).spent + count) (2 ^ 128 - 1) → set programs i after ≡
+    ran_at i p programs
+set-ran i p programs d after answer count within met same spent = put i p programs d after within
+    (ran p (get_or programs i d) after answer count met same spent)
 
 ran-length : (i : ℕ) (p : Captured) (programs : List Content) → length (ran_at i p programs) ≡ length programs
 ran-length i p [] = refl
@@ -103,7 +116,8 @@ ran-length zero p (program ∷ programs) = refl
 ran-length (suc i) p (program ∷ programs) = ap (λ n. suc n) (ran-length i p programs)
 
 -- programs that ran as a slice, back in their vector
-pub put-back : (n i : ℕ) (p : Captured) (items lent new : List Content) → lent ≡ items → length lent ≡ n → new ≡ ran_at i p lent → take n (new ++ drop (length new) items) ≡ ran_at i p items
+pub put-back : (n i : ℕ) (p : Captured) (items lent new : List Content) → lent ≡ items → length lent ≡ n → new ≡ ran_at i p lent
+    → take n (new ++ drop (length new) items) ≡ ran_at i p items
 put-back n i p items lent new same count is =
     let long : length new ≡ n = ap (λ (l : List Content). length l) is ∙ ran-length i p lent ∙ count in
     rw (← long, take-append_seam new (drop (length new) items)) (is ∙ ap (ran_at i p) same)
@@ -113,7 +127,8 @@ put-back n i p items lent new same count is =
 position-is : {X : Type 0} (test : X → Bool) (xs : List X) (i : ℕ) → position test xs ≡ Some i → (position_or_len test xs ≡ i) × (i < length xs)
 position-is test xs i is = by_test (nat_lt (position_or_len test xs) (length xs)) refl is
   where
-    by_test : (b : Bool) → nat_lt (position_or_len test xs) (length xs) ≡ b → cond b (Some (position_or_len test xs)) None ≡ Some i → (position_or_len test xs ≡ i) × (i < length xs)
+    by_test : (b : Bool) → nat_lt (position_or_len test xs) (length xs) ≡ b → cond b (Some (position_or_len test xs)) None ≡ Some i
+        → (position_or_len test xs ≡ i) × (i < length xs)
     by_test true less is =
         let same : position_or_len test xs ≡ i = (cc is) in
         (same, subst (λ n. n < length xs) same (ltb-true (position_or_len test xs) (length xs) less))
@@ -125,7 +140,8 @@ found-at test xs i is = find_at test xs ∙ ap (slice_get xs) (position-is test 
 found-nowhere : {X : Type 0} (test : X → Bool) (xs : List X) → position test xs ≡ None → find test xs ≡ None
 found-nowhere test xs is = find_at test xs ∙ by_test (nat_lt (position_or_len test xs) (length xs)) refl is
   where
-    by_test : (b : Bool) → nat_lt (position_or_len test xs) (length xs) ≡ b → cond b (Some (position_or_len test xs)) None ≡ None → slice_get xs (position_or_len test xs) ≡ None
+    by_test : (b : Bool) → nat_lt (position_or_len test xs) (length xs) ≡ b → cond b (Some (position_or_len test xs)) None ≡ None
+        → slice_get xs (position_or_len test xs) ≡ None
     by_test true less is = (cc is)
     by_test false less is = slice_get_past xs (position_or_len test xs) (grind (arith, nat_tests))
 
@@ -135,7 +151,8 @@ place-within e programs n i sound is =
     subst (λ count. i < count) (sym (made-length e all_links programs sound.made)) (position-is (λ link. link_type link == n) all_links i is).1
 
 -- a link type without a program has no link
-pub answers-none : (e : Expression) (programs : List Content) (p : Captured) → HasPrograms e programs → program_place p.link ≡ None → ReturnsDecision (expression_decides e p) (Err LinkTypeNotFiltered)
+pub answers-none : (e : Expression) (programs : List Content) (p : Captured) → HasPrograms e programs → program_place p.link ≡ None
+    → ReturnsDecision (expression_decides e p) (Err LinkTypeNotFiltered)
 answers-none empty programs p sound none = absurd sound.some
 answers-none (truth a) programs p sound none =
     rw (found-nowhere (λ link. link_type link == p.link) all_links none) refl
@@ -158,7 +175,8 @@ pub sound-ran : (e : Expression) (programs : List Content) (p : Captured) (i : �
 sound-ran e programs p i sound = record { some = sound.some; made = made-ran e all_links programs i p sound.made }
 
 -- which program an expression runs that isn't empty
-pub reading-spends : (e : Expression) (programs : List Content) (p : Captured) (place : Option ℕ) → HasPrograms e programs → program_place p.link ≡ place → spent_on (by_reading e) p programs ≡ ran_if place p programs
+pub reading-spends : (e : Expression) (programs : List Content) (p : Captured) (place : Option ℕ) → HasPrograms e programs → program_place p.link ≡
+    place → spent_on (by_reading e) p programs ≡ ran_if place p programs
 reading-spends empty programs p place sound is = absurd sound.some
 reading-spends (truth a) programs p place sound is = rw is refl
 
@@ -168,12 +186,14 @@ made-cost program e link p made =
     let is : steps_of_run (met_on p program.insns) ≡ d.count = ap steps_of_run d.answered in
     omega (arith, is, d.upper_bound, made.right.bounded)
 
-cost-at : (e : Expression) (links : List Link) (programs : List Content) (i : ℕ) (p : Captured) → AreMade e links programs → spent_in (ran_at i p programs) ≤ spent_in programs + bound_of e
+cost-at : (e : Expression) (links : List Link) (programs : List Content) (i : ℕ) (p : Captured) → AreMade e links programs
+    → spent_in (ran_at i p programs) ≤ spent_in programs + bound_of e
 cost-at e links [] i p made = omega arith
 cost-at e [] (program ∷ programs) i p made = absurd made
 cost-at e (link ∷ links) (program ∷ programs) zero p made = let upper_bound = made-cost program e link p made.0 in omega (arith, upper_bound)
 cost-at e (link ∷ links) (program ∷ programs) (suc i) p made = let upper_bound = cost-at e links programs i p made.1 in omega (arith, upper_bound)
 
-pub bounded-ran : (e : Expression) (programs : List Content) (i : ℕ) (p : Captured) → HasPrograms e programs → spent_in (ran_at i p programs) ≤ spent_in programs + most_cost (by_reading e)
+pub bounded-ran : (e : Expression) (programs : List Content) (i : ℕ) (p : Captured) → HasPrograms e programs → spent_in (ran_at i p programs) ≤
+    spent_in programs + most_cost (by_reading e)
 bounded-ran empty programs i p sound = absurd sound.some
 bounded-ran (truth a) programs i p sound = cost-at (truth a) all_links programs i p sound.made

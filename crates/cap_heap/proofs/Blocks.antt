@@ -32,10 +32,12 @@ memory_val p s = vstruct (vcons (ptr_val p) (vcons (vint w64 s) vnil))
 abbrev fields_own : Ptr → ℕ → List Val → Fml
 fields_own p s = (Struct (shape inside.the_type)).own_val (to inside.the_type (record { start = p; size = s }))
 
-pub memory_made : {M : Type 1} {𝓤 : Ura M} (𝓛 : Logic 𝓤) (p : Ptr) (s : ℕ) → s < 2 ^ 64 → ent 𝓤 (sem 𝓛 (bytes_at p s)) (sem 𝓛 ((memory.the_row).own_val (p, s) (memory_val p s ∷ [])))
+pub memory_made : {M : Type 1} {𝓤 : Ura M} (𝓛 : Logic 𝓤) (p : Ptr) (s : ℕ) → s < 2 ^ 64 → ent 𝓤 (sem 𝓛 (bytes_at p s))
+    (sem 𝓛 ((memory.the_row).own_val (p, s) (memory_val p s ∷ [])))
 memory_made 𝓛 p s long =
     let own : Fml = fields_own p s (memory_val p s ∷ []) in
-    qed 𝓛 (‵ (bytes_at p s) ∷ []) ∵ use0 𝓛 (‵ own) (makes_shadow 𝓛 own (λ _. (tt, (tt, ((tt, tt), tt)))) ((ptr_val p ∷ [], (vint w64 s ∷ [], tt)), (refl, (refl, ((refl, long), tt))))) $ fjoin ! $
+    qed 𝓛 (‵ (bytes_at p s) ∷ []) ∵ use0 𝓛 (‵ own)
+    (makes_shadow 𝓛 own (λ _. (tt, (tt, ((tt, tt), tt)))) ((ptr_val p ∷ [], (vint w64 s ∷ [], tt)), (refl, (refl, ((refl, long), tt))))) $ fjoin ! $
     nothing ! $ fpack ! (((p, s) ≡ (p, s)) × Unit {0}) (λ _. ftrue) (refl, tt) $ move ! (1 ∷ 0 ∷ []) $ fjoin ! $ done !
 
 abbrev pub Taken : RattleType
@@ -75,10 +77,12 @@ hands_out {𝓤 = 𝓤} 𝓛 τ b o r n a at sized holds =
 module _ {M : Type 1} {𝓤 : Ura M} {𝓛 : Logic 𝓤} {K : Type 0} {Γ : List (Item 𝓤)} {G : Goal 𝓤 𝓛.H} where
   -- the two cases of what `take` gave
   pub taken : K → (r : Place) (n a : ℕ) (x : Taken.Denot) (v : Val) → Told r n a x
-      → ((b o : ℕ) → block_ptr b o ≡ r.0 → HoldsBlock r n a → r.1 < 2 ^ 64 → v ≡ live 1 (vcons (memory_val (block_ptr b o) r.1) vnil) → Seq K 𝓛 (‵ (froom (units (r.1 / 16)) b o) ∷ Γ) G)
+      → ((b o : ℕ) → block_ptr b o ≡ r.0 → HoldsBlock r n a → r.1 < 2 ^ 64 → v ≡ live 1 (vcons (memory_val (block_ptr b o) r.1) vnil)
+      → Seq K 𝓛 (‵ (froom (units (r.1 / 16)) b o) ∷ Γ) G)
       → (v ≡ live 0 vnil → Seq K 𝓛 Γ G) → Seq K 𝓛 (‵ (Taken.own_val x (v ∷ [])) ∷ Γ) G
   taken t r n a None v told some none =
-      fpick t (λ us. fsplit t $ feq_l t (λ is. fpick t (λ vss. fsplit t $ feq_l t (λ is'. drop t $ none (ap only is ∙ ap (λ (ws : List Val). live 0 (of_list ws)) is')))))
+      fpick t (λ us. fsplit t $ feq_l t
+      (λ is. fpick t (λ vss. fsplit t $ feq_l t (λ is'. drop t $ none (ap only is ∙ ap (λ (ws : List Val). live 0 (of_list ws)) is')))))
   taken t r n a (Some m) v told some none =
       fpick t (λ us. fsplit t $ feq_l t (λ is. fpick t (λ vss. fsplit t $ feq_l t (λ is'. fsplit t $ move t (1 ∷ []) $ drop t $
       peeks t memory.the_row (Is memory.the_row) (shows 𝓛 memory.the_row) m vss.0 (λ has.
@@ -88,4 +92,5 @@ module _ {M : Type 1} {𝓤 : Ura M} {𝓛 : Logic 𝓤} {K : Type 0} {Γ : List
       rewrite t 0 (λ (j : ℕ). ‵ (froom (units (j / 16)) b o)) (ap (λ (u : Place). u.1) told.0) refl $
       let so = subst (λ (u : Place). HoldsBlock u n a × (u.1 < 2 ^ 64)) told.0 (told.1, has.0.0.1.1.1.0.1) in
       some b o (sym at ∙ ap (λ (u : Place). u.0) told.0) so.0 so.1
-      (ap only is ∙ ap (λ (xs : List Val). live 1 (of_list xs)) (is' ∙ ap (λ (xs : List Val). xs ++ []) (lowers.val_is m vss.0 has)) ∙ (λ i. live 1 (vcons (memory_val (at i) (told.0 i).1) vnil)))))))))
+      (ap only is ∙ ap (λ (xs : List Val). live 1 (of_list xs)) (is' ∙ ap (λ (xs : List Val). xs ++ []) (lowers.val_is m vss.0 has))
+      ∙ (λ i. live 1 (vcons (memory_val (at i) (told.0 i).1) vnil)))))))))

@@ -8,7 +8,8 @@ use base.Logic.{sep, wand, apply∗}
 use base.Fml.{Lft, Share, Fml, Incl-refl, ftrue, fsep, fex, fat, flft, ftok}
 use base.Mask.{every, less}
 use types.Logic.{Logic, sem}
-use types.Kit.{Item, Goal, Seq, Step, Soaks, step, ‵, raw, ◌⊛◌, later, ◌$◌, move, drop, use1, use2, use3, split, join, fsplit, fjoin, fpick, fpack, rewrite, await}
+use types.Kit.{Item, Goal, Seq, Step, Soaks, step, ‵, raw, ◌⊛◌, later, ◌$◌, move, drop, use1, use2, use3, split, join, fsplit, fjoin, fpick, fpack, rewrite}
+use types.Kit.{await}
 use types.Na.{na_acc_in}
 use denote.RattleType.{RattleType}
 use denote.RawPtr.{Ptr}
@@ -46,9 +47,11 @@ module _ (whole : Ptr × ℕ) where
 
   module _ {M : Type 1} {𝓤 : Ura M} {𝓛 : Logic 𝓤} {K : Type 0} {Γ : List (Item 𝓤)} {G : Goal 𝓤 𝓛.H} where
     -- the fields are some memory of which `IsGivenBack` holds
-    pub contents_out : K → (vs : List Val) → ((m : Ptr × ℕ) (v : Val) → IsGivenBack whole m → Good (layout Memory) v → vs ≡ round v ∷ [] → Seq K 𝓛 (‵ (Memory.own_val m (v ∷ [])) ∷ Γ) G)
+    pub contents_out : K → (vs : List Val) → ((m : Ptr × ℕ) (v : Val) → IsGivenBack whole m → Good (layout Memory) v → vs ≡ round v ∷ []
+        → Seq K 𝓛 (‵ (Memory.own_val m (v ∷ [])) ∷ Γ) G)
         → Seq K 𝓛 (‵ (contents vs) ∷ Γ) G
-    contents_out t vs k = fpick t (λ i. fsplit t $ move t (1 ∷ []) $ fpick t (λ is. drop t $ unwraps held t ((memory_laws.the_row_laws).lawful 𝓛) [] [] i.memory vs (λ v good e. k i.memory v is good e)))
+    contents_out t vs k = fpick t (λ i. fsplit t $ move t (1 ∷ []) $ fpick t (λ is. drop t $ unwraps held t ((memory_laws.the_row_laws).lawful 𝓛) []
+        [] i.memory vs (λ v good e. k i.memory v is good e)))
 
     pub contents_in : K → (m : Ptr × ℕ) (v : Val) → IsGivenBack whole m → Step K 𝓛 (‵ (contents (round v ∷ [])) ∷ Γ) G (‵ (Memory.own_val m (v ∷ [])) ∷ Γ) G
     contents_in t m v is = step (λ s.
@@ -62,13 +65,15 @@ module _ (whole : Ptr × ℕ) where
 
     -- the way back to the reference and the thread's token
     abbrev pub Shut : {M : Type 1} {𝓤 : Ura M} (𝓛 : Logic 𝓤) → Lft → Share → Item 𝓤
-    Shut {𝓤 = 𝓤} 𝓛 κ q = ‵ (ftok (less every (b, o))) ⊛ raw (wand 𝓤 (sep 𝓤 (sem 𝓛 P) (𝓛.A.tok (less every (b, o)))) (𝓛.H.⇛ (sep 𝓤 (𝓛.A.lft κ q) (𝓛.A.tok every))))
+    Shut {𝓤 = 𝓤} 𝓛 κ q = ‵ (ftok (less every (b, o))) ⊛ raw
+        (wand 𝓤 (sep 𝓤 (sem 𝓛 P) (𝓛.A.tok (less every (b, o)))) (𝓛.H.⇛ (sep 𝓤 (𝓛.A.lft κ q) (𝓛.A.tok every))))
 
     module _ {M : Type 1} {𝓤 : Ura M} {𝓛 : Logic 𝓤} {K : Type 0} {Γ : List (Item 𝓤)} {G : Goal 𝓤 𝓛.H} where
       open 𝓛 use {H, A}
 
       pub opens_slot : K → Soaks G → {κ : Lft} {q : Share}
-          → ((m : Ptr × ℕ) (v : Val) → IsGivenBack whole m → Good (layout Memory) v → Seq K 𝓛 (‵ (fat full_share slot_type b o (round v)) ∷ ‵ (Memory.own_val m (v ∷ [])) ∷ Shut 𝓛 κ q ∷ Γ) G)
+          → ((m : Ptr × ℕ) (v : Val) → IsGivenBack whole m → Good (layout Memory) v
+          → Seq K 𝓛 (‵ (fat full_share slot_type b o (round v)) ∷ ‵ (Memory.own_val m (v ∷ [])) ∷ Shut 𝓛 κ q ∷ Γ) G)
           → Seq K 𝓛 (‵ (hidden_shr slot.the_row κ whole b o) ∷ ‵ (flft κ q) ∷ ‵ (ftok every) ∷ Γ) G
       opens_slot t z {κ} {q} k =
           unhide t $ use3 𝓛 (later (‵ P ⊛ Shut 𝓛 κ q)) (na_acc_in 𝓛 κ ((κ, q) ∷ []) every (b, o) P (Incl-refl κ) refl) $ await t z $ split t $
@@ -79,6 +84,9 @@ module _ (whole : Ptr × ℕ) where
       pub shuts_slot : K → Soaks G → {κ : Lft} {q : Share} (m : Ptr × ℕ) (v : Val) → IsGivenBack whole m
           → Step K 𝓛 (‵ (flft κ q) ∷ ‵ (ftok every) ∷ Γ) G (‵ (fat full_share slot_type b o (round v)) ∷ ‵ (Memory.own_val m (v ∷ [])) ∷ Shut 𝓛 κ q ∷ Γ) G
       shuts_slot t z {κ} {q} m v is = step (λ s.
-          use1 𝓛 (‵ (cell_at full_share Fields.mir (round v ∷ []) b o)) (𝓛.laws.at_raw full_share slot_type b o (round v)) $ move t (1 ∷ []) $ contents_in t m v is $ move t (1 ∷ 0 ∷ []) $ fjoin t $
-          fpack t (List Val) (λ us. fsep (cell_at full_share Fields.mir us b o) (contents us)) (round v ∷ []) $ move t (1 ∷ []) $ split t $ move t (2 ∷ 0 ∷ []) $ join t $
-          use2 𝓛 (later (‵ (flft κ q) ⊛ ‵ (ftok every))) (apply∗ 𝓤 (sep 𝓤 (sem 𝓛 P) (A.tok (less every (b, o)))) (H.⇛ (sep 𝓤 (A.lft κ q) (A.tok every)))) $ await t z $ split t $ s)
+          use1 𝓛 (‵ (cell_at full_share Fields.mir (round v ∷ []) b o)) (𝓛.laws.at_raw full_share slot_type b o (round v)) $ move t (1 ∷ []) $
+          contents_in t m v is $ move t (1 ∷ 0 ∷ []) $ fjoin t $
+          fpack t (List Val) (λ us. fsep (cell_at full_share Fields.mir us b o) (contents us)) (round v ∷ []) $ move t (1 ∷ []) $ split t $ move t
+          (2 ∷ 0 ∷ []) $ join t $
+          use2 𝓛 (later (‵ (flft κ q) ⊛ ‵ (ftok every)))
+          (apply∗ 𝓤 (sep 𝓤 (sem 𝓛 P) (A.tok (less every (b, o)))) (H.⇛ (sep 𝓤 (A.lft κ q) (A.tok every)))) $ await t z $ split t $ s)

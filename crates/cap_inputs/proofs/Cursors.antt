@@ -1,5 +1,11 @@
 -- One input among others.
-use Rattle.cap_inputs.proofs.Common.{◌≡◌, ℕ, zero, suc, ◌+◌, ◌<◌, List, [], ◌∷◌, ◌++◌, length, max, Option, Some, refl, sym, ◌∙◌, ap, ap₂, subst, arith, get_or, Bool, true, false, Result, Ok, append-nil, length-append, Placed, slice_set, Fault, Advances, slice_get, AllByRecursion, PacketOrder, SectionFits, TakesIfAtHand, SkipsUnits, Phase, Reading, SourceView, Steps, end_offset, phase_after, Schedule, Turn, Merge, ordering_of, schedule_after, schedule_after_decided, DeviceLimits, device_limits, limits_of, InputView, InputsView, InputPast, AreInputsAfter, KnowGreatest, IsInput, ReadsInput, ReadSteps, greatest_of, input_after, input_after_decided, packet_time, with_cursor, map, InTurn, ByTime, order_of, first_schedule, FreshInput, fresh_view, fresh_inputs}
+use Rattle.cap_inputs.proofs.Common.{◌≡◌, ℕ, zero, suc, ◌+◌, ◌<◌, List, [], ◌∷◌, ◌++◌, length, max, Option, Some, refl, sym, ◌∙◌, ap, ap₂, subst, arith, get_or}
+use Rattle.cap_inputs.proofs.Common.{Bool, true, false, Result, Ok, append-nil, length-append, Placed, slice_set, Fault, Advances, slice_get, AllByRecursion}
+use Rattle.cap_inputs.proofs.Common.{PacketOrder, SectionFits, TakesIfAtHand, SkipsUnits, Phase, Reading, SourceView, Steps, end_offset, phase_after, Schedule}
+use Rattle.cap_inputs.proofs.Common.{Turn, Merge, ordering_of, schedule_after, schedule_after_decided, DeviceLimits, device_limits, limits_of, InputView}
+use Rattle.cap_inputs.proofs.Common.{InputsView, InputPast, AreInputsAfter, KnowGreatest, IsInput, ReadsInput, ReadSteps, greatest_of, input_after}
+use Rattle.cap_inputs.proofs.Common.{input_after_decided, packet_time, with_cursor, map, InTurn, ByTime, order_of, first_schedule, FreshInput, fresh_view}
+use Rattle.cap_inputs.proofs.Common.{fresh_inputs}
 use Rattle.std.proofs.lemmas.Option.{slice_get_read}
 use Rattle.cap_octet.specs.Packet.{Captured}
 use Rattle.cap_io.specs.Position.{given_in_all}
@@ -55,7 +61,8 @@ following-order (Merge next last) i = refl
 pub taken-of : (tells r : Bool) (old new : SourceView) → r ≡ true → TakesIfAtHand tells old r new → TakesIfAtHand tells old true new
 taken-of tells r old new is takes = subst (λ b. TakesIfAtHand tells old b new) is takes
 
-pub fetches-by : (inputs : InputsView) (i : ℕ) (r : Result Bool Fault) (old new : InputView) (order : PacketOrder) → order ≡ inputs.order → i < length inputs.cursors → old ≡ get_or inputs.cursors i old
+pub fetches-by : (inputs : InputsView) (i : ℕ) (r : Result Bool Fault) (old new : InputView) (order : PacketOrder) → order ≡ inputs.order
+    → i < length inputs.cursors → old ≡ get_or inputs.cursors i old
     → Advances old.source.phase old.source r new.source → Steps old.source.phase old.source r new.source → new ≡ input_after old r new.source
     → ReadsInput inputs i r (record { order = order; cursors = slice_set inputs.cursors i new })
 fetches-by inputs i r old new order same within value advances steps is = record {
@@ -67,7 +74,8 @@ fetches-by inputs i r old new order same within value advances steps is = record
   is = rw same (ap (with_cursor inputs i) is);
 }
 
-pub read_input-steps-by : (inputs : InputsView) (i : ℕ) (r : Result Bool Fault) (old new : InputView) (order : PacketOrder) → order ≡ inputs.order → i < length inputs.cursors → old ≡ get_or inputs.cursors i old
+pub read_input-steps-by : (inputs : InputsView) (i : ℕ) (r : Result Bool Fault) (old new : InputView) (order : PacketOrder) → order ≡ inputs.order
+    → i < length inputs.cursors → old ≡ get_or inputs.cursors i old
     → Steps old.source.phase old.source r new.source → new.source.phase ≡ phase_after r → SectionFits new.source.declared → new ≡ input_after old r new.source
     → ReadSteps inputs i r (record { order = order; cursors = slice_set inputs.cursors i new })
 read_input-steps-by inputs i r old new order same within value steps phase upper_bound is = record {
@@ -82,7 +90,8 @@ read_input-steps-by inputs i r old new order same within value steps phase upper
 
 -- ---- what no step changes of a device
 
-pub limits-at : (xs ys : List InputView) (h h' : InputView) → limits_of h'.source ≡ limits_of h.source → device_limits (xs ++ h' ∷ ys) ≡ device_limits (xs ++ h ∷ ys)
+pub limits-at : (xs ys : List InputView) (h h' : InputView) → limits_of h'.source ≡ limits_of h.source → device_limits (xs ++ h' ∷ ys) ≡ device_limits
+    (xs ++ h ∷ ys)
 limits-at [] ys h h' same = ap (λ (b : DeviceLimits). b ∷ device_limits ys) same
 limits-at (x ∷ xs) ys h h' same = ap (λ (l : List DeviceLimits). limits_of x.source ∷ l) (limits-at xs ys h h' same)
 
@@ -90,7 +99,8 @@ same-limits : (old new : SourceView) → new.sure ≡ old.sure → given_in_all 
 same-limits old new sure in_all = ap₂ (λ (s : Option ℕ) (n : ℕ). record { sure = s; in_all = n }) sure in_all
 
 -- the bytes that were skipped, and those of the current unit, are given
-skipped-in_all : (old new : SourceView) (rest : List ℕ) → (passes : SkipsUnits old new rest) → length rest ≡ length new.block + length new.unread → new.given + end_offset old ≡ old.given + end_offset new
+skipped-in_all : (old new : SourceView) (rest : List ℕ) → (passes : SkipsUnits old new rest) → length rest ≡ length new.block + length new.unread
+    → new.given + end_offset old ≡ old.given + end_offset new
     → given_in_all new ≡ given_in_all old
 skipped-in_all old new rest passes left counted =
     let split : length old.unread ≡ length passes.passed + length rest = ap length passes.splits ∙ length-append passes.passed rest in
@@ -105,7 +115,8 @@ limits-by Reading old new false steps finds =
     same-limits old new steps.sure (skipped-in_all old new [] finds.passes (omega (arith, none, over)) steps.counted)
 limits-by _ old new found steps advances = ap limits_of steps.1
 
-pub limits-kept : (old new : SourceView) (found : Bool) → Steps old.phase old (Ok found) new → Advances old.phase old (Ok found) new → limits_of new ≡ limits_of old
+pub limits-kept : (old new : SourceView) (found : Bool) → Steps old.phase old (Ok found) new → Advances old.phase old (Ok found) new
+    → limits_of new ≡ limits_of old
 limits-kept old new found steps advances = limits-by old.phase old new found steps advances
 
 -- ---- the greatest time
@@ -115,7 +126,8 @@ greatest-more [] x = omega arith
 greatest-more (p ∷ ps) x = omega (arith, greatest-more ps x)
 
 -- one more packet is done
-pub greatest-decided : (h : InputView) (p : Captured) (offset : ℕ) (ps : List Placed) → h.source.packet ≡ Some p → h.greatest ≡ greatest_of ps → (input_after_decided h).greatest ≡ greatest_of (ps ++ record { offset = offset; packet = p } ∷ [])
+pub greatest-decided : (h : InputView) (p : Captured) (offset : ℕ) (ps : List Placed) → h.source.packet ≡ Some p → h.greatest ≡ greatest_of ps
+    → (input_after_decided h).greatest ≡ greatest_of (ps ++ record { offset = offset; packet = p } ∷ [])
 greatest-decided h p offset ps held knows =
     ap (λ (o : Option Captured). max h.greatest (packet_time o)) held
     ∙ ap (λ (n : ℕ). max n p.time) knows
@@ -125,7 +137,8 @@ greatest-decided h p offset ps held knows =
 pub greatest-same : (g : ℕ) (ps : List Placed) → g ≡ greatest_of ps → g ≡ greatest_of (ps ++ [])
 greatest-same g ps knows = knows ∙ ap greatest_of (sym (append-nil ps))
 
-pub greatest-here : (us vs : List InputPast) (s s' : InputPast) (xs ys : List InputView) (h h' : InputView) → AreInputsAfter us xs → KnowGreatest (us ++ s ∷ vs) (xs ++ h ∷ ys)
+pub greatest-here : (us vs : List InputPast) (s s' : InputPast) (xs ys : List InputView) (h h' : InputView) → AreInputsAfter us xs
+    → KnowGreatest (us ++ s ∷ vs) (xs ++ h ∷ ys)
     → (h.greatest ≡ greatest_of s.packets → h'.greatest ≡ greatest_of s'.packets) → KnowGreatest (us ++ s' ∷ vs) (xs ++ h' ∷ ys)
 greatest-here [] vs s s' [] ys h h' following knows goes = (goes knows.0, knows.1)
 greatest-here [] vs s s' (x ∷ xs) ys h h' following knows goes = absurd following
@@ -143,7 +156,8 @@ first-ordering InTurn count = refl
 first-ordering ByTime count = refl
 
 -- the inputs as they are handed over
-pub first-inputs : {X : Type 0} (f : X → FreshInput) (xs : List X) (cursors : List InputView) (schedule : Schedule) (merges : Bool) → cursors ≡ map (λ x. fresh_view (f x)) xs → schedule ≡ first_schedule (order_of merges) (length cursors)
+pub first-inputs : {X : Type 0} (f : X → FreshInput) (xs : List X) (cursors : List InputView) (schedule : Schedule) (merges : Bool)
+    → cursors ≡ map (λ x. fresh_view (f x)) xs → schedule ≡ first_schedule (order_of merges) (length cursors)
     → record { order = ordering_of schedule; cursors = cursors } ≡ fresh_inputs (order_of merges) (map f xs)
 first-inputs f xs cursors schedule merges is at =
     ap (λ (o : PacketOrder). record { order = o; cursors = cursors }) (ap ordering_of at ∙ first-ordering (order_of merges) (length cursors))

@@ -4,7 +4,11 @@ use Rattle.std.proofs.Common.{length-append}
 use Rattle.std.proofs.lemmas.Bool.{and_parts, eqb-true}
 use Rattle.std.proofs.lemmas.List.{Elements.All-cons, Elements.All-nil, Elements.All-tail, Sums.sum_by-cons, Sorted.sum_by-IsPermutation}
 use Rattle.cap_inputs.specs.Queue.{Queue}
-use Rattle.cap_inputs.proofs.Common.{◌≡◌, ◌≢◌, ℕ, zero, suc, ◌+◌, ◌<◌, ◌≤◌, inl, inr, ◌&&◌, ◌||◌, Bool, true, false, IsTrue, if◌then◌else◌, List, [], ◌∷◌, ◌++◌, length, Option, None, Some, Result, Ok, refl, sym, ◌∙◌, ap, map, arith, ◌==◌, nat_lt, add-zero, All, slice_set, nat_tests, Waiting, Schedule, Turn, Merge, NotAfter, Precedes, IsFirstWaiting, is_entered, Fault, EntersQueue, HasPlaceFor, HoldsQueue, IsQueued, Leaves, TakesFirst, is_merge, ordering_of, sum_waiting, InputView, IsInput, is_packet_found, key_of, NoneWaits, IsLeast, KeysFrom, IsNextIn, Next, order_of}
+use Rattle.cap_inputs.proofs.Common.{◌≡◌, ◌≢◌, ℕ, zero, suc, ◌+◌, ◌<◌, ◌≤◌, inl, inr, ◌&&◌, ◌||◌, Bool, true, false, IsTrue, if◌then◌else◌, List, [], ◌∷◌, ◌++◌}
+use Rattle.cap_inputs.proofs.Common.{length, Option, None, Some, Result, Ok, refl, sym, ◌∙◌, ap, map, arith, ◌==◌, nat_lt, add-zero, All, slice_set, nat_tests}
+use Rattle.cap_inputs.proofs.Common.{Waiting, Schedule, Turn, Merge, NotAfter, Precedes, IsFirstWaiting, is_entered, Fault, EntersQueue, HasPlaceFor}
+use Rattle.cap_inputs.proofs.Common.{HoldsQueue, IsQueued, Leaves, TakesFirst, is_merge, ordering_of, sum_waiting, InputView, IsInput, is_packet_found, key_of}
+use Rattle.cap_inputs.proofs.Common.{NoneWaits, IsLeast, KeysFrom, IsNextIn, Next, order_of}
 use Rattle.cap_inputs.proofs.Cursors.{set-among}
 
 -- ---- sums
@@ -29,7 +33,11 @@ counts-most : (i : ℕ) (hs : List InputView) → sum_waiting (λ w. 1) i hs ≤
 counts-most i [] = omega arith
 counts-most i (h ∷ hs) =
     let more = counts-most (i + 1) hs in
-    elim h.waiting as (λ b. (if b then 1 else 0) + sum_waiting (λ w. 1) (i + 1) hs ≤ suc (length hs)) [ true ↦ omega (arith, more) | false ↦ omega (arith, more) ]
+    elim h.waiting as (λ b. (if b then 1 else 0) + sum_waiting (λ w. 1) (i + 1) hs ≤ suc (length hs)) [
+      | true ↦ omega (arith, more)
+      | false ↦
+          omega (arith, more)
+    ]
 
 -- ---- an input is read on
 
@@ -37,7 +45,8 @@ abbrev is_of : ℕ → Waiting → ℕ
 is_of n w = if w.input == n then 1 else 0
 
 none-apart : (h : InputView) (i n : ℕ) → i ≢ n → part (is_of n) h i ≡ 0
-none-apart h i n other = let apart : (i == n) ≡ false = grind (arith, nat_tests, other) in rw apart (elim h.waiting as (λ b. ◌≡◌ {A = ℕ} (if b then 0 else 0) 0) [ true ↦ refl | false ↦ refl ])
+none-apart h i n other = let apart : (i == n) ≡ false = grind (arith, nat_tests, other) in
+    rw apart (elim h.waiting as (λ b. ◌≡◌ {A = ℕ} (if b then 0 else 0) 0) [ true ↦ refl | false ↦ refl ])
 
 none-later : (n i : ℕ) (hs : List InputView) → n < i → sum_waiting (is_of n) i hs ≡ 0
 none-later n i [] later = refl
@@ -55,7 +64,8 @@ none-entered n (w ∷ ws) none =
     let one : is_of n w ≡ 1 = rw same refl in omega (arith, all, one, none))) (none-entered n ws (omega (arith, all, none)))
 
 -- an input that doesn't wait has room for its entry, and none of its own is there
-pub room-for : (schedule : Schedule) (cursors : List InputView) (i : ℕ) (h : InputView) (waits : Bool) (q : Queue) → IsInput cursors i h → h.waiting ≡ false → HoldsQueue (ordering_of schedule) cursors q
+pub room-for : (schedule : Schedule) (cursors : List InputView) (i : ℕ) (h : InputView) (waits : Bool) (q : Queue) → IsInput cursors i h
+    → h.waiting ≡ false → HoldsQueue (ordering_of schedule) cursors q
     → (waits && is_merge schedule) ≡ true → HasPlaceFor q i
 room-for (Turn turn) cursors i h waits q a idle was merge = absurd (let e = (and_parts waits false merge).1 in cc)
 room-for (Merge first last) cursors i h waits q a idle was merge =
@@ -63,25 +73,41 @@ room-for (Merge first last) cursors i h waits q a idle was merge =
     let most = counts-most 0 (a.front ++ record h { waiting = true } ∷ a.back) in
     let none : part (λ w. 1) h i ≡ 0 = rw idle refl in
     let held = was.entered in (
-      omega (arith, other, most, none, rw a.splits at (held (λ w. 1)), counts q.waiting, was.room, ap length a.splits, length-append a.front (h ∷ a.back), length-append a.front (record h { waiting = true } ∷ a.back)),
+      omega (
+        arith,
+        other,
+        most,
+        none,
+        rw a.splits at (held (λ w. 1)),
+        counts q.waiting,
+        was.room,
+        ap length a.splits,
+        length-append a.front (h ∷ a.back),
+        length-append a.front (record h { waiting = true } ∷ a.back),
+      ),
       none-entered i q.waiting (held (is_of i) ∙ rw a.splits (none-idle i 0 a.front a.back h (omega (arith, a.place)) idle)),
     )
 
 -- another cursor of an input, whose entry came or went
 queued-with : (cursors : List InputView) (i : ℕ) (h h' : InputView) (q q' : Queue) (a : IsInput cursors i h)
-    → ((f : Waiting → ℕ) → sum_by f q'.waiting + part f h i ≡ sum_by f q.waiting + part f h' i) → q.room ≤ q'.room → IsQueued cursors q → IsQueued (slice_set cursors i h') q'
+    → ((f : Waiting → ℕ) → sum_by f q'.waiting + part f h i ≡ sum_by f q.waiting + part f h' i) → q.room ≤ q'.room → IsQueued cursors q
+    → IsQueued (slice_set cursors i h') q'
 queued-with cursors i h h' q q' a goes roomy was = rw (set-among cursors i h h' a) (record {
   entered = λ f. omega (arith, goes f, exchanged f 0 i a.front a.back h h' (omega (arith, a.place)), rw a.splits at (was.entered f));
   room = omega (arith, roomy, was.room, ap length a.splits, length-append a.front (h ∷ a.back), length-append a.front (h' ∷ a.back));
 })
 
 -- an input is read on
-pub queue-read : (schedule : Schedule) (cursors : List InputView) (i : ℕ) (h h' : InputView) (r : Result Bool Fault) (q q' : Queue) → IsInput cursors i h → h.waiting ≡ false → h'.waiting ≡ is_packet_found r
-    → EntersQueue (is_packet_found r && is_merge schedule) (entry h' i) q q' → HoldsQueue (ordering_of schedule) cursors q → HoldsQueue (ordering_of schedule) (slice_set cursors i h') q'
+pub queue-read : (schedule : Schedule) (cursors : List InputView) (i : ℕ) (h h' : InputView) (r : Result Bool Fault) (q q' : Queue)
+    → IsInput cursors i h → h.waiting ≡ false → h'.waiting ≡ is_packet_found r
+    → EntersQueue (is_packet_found r && is_merge schedule) (entry h' i) q q' → HoldsQueue (ordering_of schedule) cursors q
+    → HoldsQueue (ordering_of schedule) (slice_set cursors i h') q'
 queue-read (Turn turn) cursors i h h' r q q' a idle waits enters was = tt
 queue-read (Merge first last) cursors i h h' (Ok true) q q' a idle waits enters was =
-    queued-with cursors i h h' q q' a (λ f. rw (idle, waits) (omega (arith, sum_by-IsPermutation f _ _ enters.0, sum_by-cons f (entry h' i) q.waiting))) enters.1 was
-queue-read (Merge first last) cursors i h h' _ q q' a idle waits enters was = queued-with cursors i h h' q q' a (λ f. rw (idle, waits, enters) refl) (rw enters (omega arith)) was
+    queued-with cursors i h h' q q' a
+    (λ f. rw (idle, waits) (omega (arith, sum_by-IsPermutation f _ _ enters.0, sum_by-cons f (entry h' i) q.waiting))) enters.1 was
+queue-read (Merge first last) cursors i h h' _ q q' a idle waits enters was = queued-with cursors i h h' q q' a (λ f. rw (idle, waits, enters) refl)
+    (rw enters (omega arith)) was
 
 -- ---- the least key
 
@@ -98,14 +124,19 @@ some-entered : (w : Waiting) (ws : List Waiting) → is_entered ws w.time w.inpu
 some-entered w [] is = absurd (cc)
 some-entered w (v ∷ vs) is = rw sum_by-cons (by_same ((v.time == w.time) && (v.input == w.input)) is (some-entered w vs))
   where
-    by_same : (b : Bool) → (b || is_entered vs w.time w.input) ≡ true → (is_entered vs w.time w.input ≡ true → 0 < sum_by (is_same w) vs) → 0 < (if b then 1 else 0) + sum_by (is_same w) vs
+    by_same : (b : Bool) → (b || is_entered vs w.time w.input) ≡ true → (is_entered vs w.time w.input ≡ true → 0 < sum_by (is_same w) vs)
+        → 0 < (if b then 1 else 0) + sum_by (is_same w) vs
     by_same true is more = omega arith
     by_same false is more = omega (arith, more is)
 
 none-before : (w : Waiting) (ws : List Waiting) → All (NotAfter w) ws → sum_by (is_before w) ws ≡ 0
 none-before w [] all = refl
 none-before w (v ∷ vs) all =
-    let here : is_before w v ≡ 0 = elim (all 0 w (omega arith)) [ inl lt ↦ grind (arith, nat_tests, lt) | inr (same, le) ↦ grind (arith, nat_tests, same, le) ] in
+    let here : is_before w v ≡ 0 = elim (all 0 w (omega arith)) [
+      | inl lt ↦ grind (arith, nat_tests, lt)
+      | inr (same, le) ↦
+          grind (arith, nat_tests, same, le)
+    ] in
     omega (arith, here, sum_by-cons (is_before w) v vs, none-before w vs (All-tail (NotAfter w) v vs all))
 
 -- the input of an entry, which is the least
@@ -117,13 +148,18 @@ record LeastOf (w : Waiting) (i : ℕ) (hs : List InputView) : Type 0 where
 
 keys-from : (w : Waiting) (i : ℕ) (hs : List InputView) → sum_waiting (is_before w) i hs ≡ 0 → KeysFrom w.time hs
 keys-from w i [] none = tt
-keys-from w i (h ∷ hs) none = (λ waits. (let here : is_before w (entry h i) ≡ 0 = rw waits at (let first : part (is_before w) h i ≡ 0 = omega arith in first) in grind (arith, nat_tests, here)), keys-from w (i + 1) hs (omega arith))
+keys-from w i (h ∷ hs) none = (
+  λ waits. (let here : is_before w (entry h i) ≡ 0 = rw waits at (let first : part (is_before w) h i ≡ 0 = omega arith in
+      first) in grind (arith, nat_tests, here)),
+  keys-from w (i + 1) hs (omega arith),
+)
 
 least-of : (w : Waiting) (i : ℕ) (hs : List InputView) → 0 < sum_waiting (is_same w) i hs → sum_waiting (is_before w) i hs ≡ 0 → LeastOf w i hs
 least-of w i [] some none = absurd (omega arith)
 least-of w i (h ∷ hs) some none = by_same (least-of w (i + 1) hs) h.waiting ((key_of h == w.time) && (i == w.input)) refl refl
   where
-    further : (0 < sum_waiting (is_same w) (i + 1) hs → sum_waiting (is_before w) (i + 1) hs ≡ 0 → LeastOf w (i + 1) hs) → part (is_same w) h i ≡ 0 → ((more : LeastOf w (i + 1) hs) → h.waiting ≡ true → w.time + 1 ≤ key_of h) → LeastOf w i (h ∷ hs)
+    further : (0 < sum_waiting (is_same w) (i + 1) hs → sum_waiting (is_before w) (i + 1) hs ≡ 0 → LeastOf w (i + 1) hs) → part (is_same w) h i ≡ 0
+        → ((more : LeastOf w (i + 1) hs) → h.waiting ≡ true → w.time + 1 ≤ key_of h) → LeastOf w i (h ∷ hs)
     further later other over =
         let more = later (omega arith) (omega arith) in
         let l = more.least in
@@ -132,7 +168,13 @@ least-of w i (h ∷ hs) some none = by_same (least-of w (i + 1) hs) h.waiting ((
           place = omega (arith, more.place);
           least = record {
             cursor = l.cursor;
-            among = record { front = h ∷ l.among.front; back = l.among.back; place = ap suc l.among.place; splits = ap (λ (l : List InputView). h ∷ l) l.among.splits };
+            among = record {
+              front = h ∷ l.among.front;
+              back = l.among.back;
+              place = ap suc l.among.place;
+              splits = ap (λ (l : List InputView). h ∷ l)
+                  l.among.splits;
+            };
             waits = l.waits;
             over = (rw more.key (over more), l.over);
             from = l.from;
@@ -140,7 +182,8 @@ least-of w i (h ∷ hs) some none = by_same (least-of w (i + 1) hs) h.waiting ((
           key = more.key;
         }
 
-    by_same : (0 < sum_waiting (is_same w) (i + 1) hs → sum_waiting (is_before w) (i + 1) hs ≡ 0 → LeastOf w (i + 1) hs) → (b c : Bool) → h.waiting ≡ b → ((key_of h == w.time) && (i == w.input)) ≡ c → LeastOf w i (h ∷ hs)
+    by_same : (0 < sum_waiting (is_same w) (i + 1) hs → sum_waiting (is_before w) (i + 1) hs ≡ 0 → LeastOf w (i + 1) hs) → (b c : Bool)
+        → h.waiting ≡ b → ((key_of h == w.time) && (i == w.input)) ≡ c → LeastOf w i (h ∷ hs)
     by_same later false c waits is = further later (rw waits refl) (λ more yes. absurd (cc))
     by_same later true true waits is =
         let same = and_parts (key_of h == w.time) (i == w.input) is in
@@ -162,9 +205,11 @@ least-of w i (h ∷ hs) some none = by_same (least-of w (i + 1) hs) h.waiting ((
         further later (rw (waits, is) refl) (λ more yes. (let place = more.place in grind (arith, nat_tests, here, is, place)))
 
 -- the first entry is of the least key, and of the lowest input with it
-first-of : (cursors : List InputView) (q : Queue) (w : Waiting) (ws : List Waiting) → ((f : Waiting → ℕ) → sum_by f q.waiting ≡ sum_by f ws) → IsQueued cursors q
+first-of : (cursors : List InputView) (q : Queue) (w : Waiting) (ws : List Waiting) → ((f : Waiting → ℕ) → sum_by f q.waiting ≡ sum_by f ws)
+    → IsQueued cursors q
     → 0 < sum_by (is_same w) ws → All (NotAfter w) ws → LeastOf w 0 cursors
-first-of cursors q w ws moved was some all = least-of w 0 cursors (omega (arith, some, moved (is_same w), was.entered (is_same w))) (omega (arith, none-before w ws all, moved (is_before w), was.entered (is_before w)))
+first-of cursors q w ws moved was some all = least-of w 0 cursors (omega (arith, some, moved (is_same w), was.entered (is_same w)))
+    (omega (arith, none-before w ws all, moved (is_before w), was.entered (is_before w)))
 
 pub first-least : (cursors : List InputView) (q : Queue) (w : Waiting) → IsQueued cursors q → IsFirstWaiting w q.waiting → IsLeast cursors w.input
 first-least cursors q w was is =
@@ -187,7 +232,8 @@ keys-at k [] ys h from waits = from.0 waits
 keys-at k (x ∷ xs) ys h from waits = keys-at k xs ys h from.1 waits
 
 -- one input alone has the least key
-least-same : (xs ys xs' ys' : List InputView) (h h' : InputView) → xs ++ h ∷ ys ≡ xs' ++ h' ∷ ys' → h.waiting ≡ true → h'.waiting ≡ true → KeysFrom (key_of h + 1) xs → KeysFrom (key_of h) ys
+least-same : (xs ys xs' ys' : List InputView) (h h' : InputView) → xs ++ h ∷ ys ≡ xs' ++ h' ∷ ys' → h.waiting ≡ true → h'.waiting ≡ true
+    → KeysFrom (key_of h + 1) xs → KeysFrom (key_of h) ys
     → KeysFrom (key_of h' + 1) xs' → KeysFrom (key_of h') ys' → (length xs ≡ length xs') × (h ≡ h')
 least-same [] ys [] ys' h h' is waits waits' over from over' from' = (refl, (cc))
 least-same [] ys (x ∷ xs') ys' h h' is waits waits' over from over' from' =
@@ -214,7 +260,8 @@ taken-in cursors i h' q q' (Some w) least decided moved roomy was =
     let some : 0 < sum_by (is_same w) (w ∷ q'.waiting) = omega (arith, sum_by-cons (is_same w) w q'.waiting, same-self w) in
     let first = first-of cursors q w (w ∷ q'.waiting) all was some (before-after w q'.waiting moved.1) in
     let l = first.least in
-    let same = least-same least.among.front least.among.back l.among.front l.among.back least.cursor l.cursor (sym least.among.splits ∙ l.among.splits) least.waits l.waits least.over least.from l.over l.from in
+    let same = least-same least.among.front least.among.back l.among.front l.among.back least.cursor l.cursor
+    (sym least.among.splits ∙ l.among.splits) least.waits l.waits least.over least.from l.over l.from in
     let input : w.input ≡ i = omega (arith, same.0, first.place, least.among.place, l.among.place) in
     let time : w.time ≡ key_of least.cursor = sym (ap key_of same.1 ∙ first.key) in
     let own : w ≡ entry least.cursor i = λ k. record { time = time k; input = input k } in
@@ -225,7 +272,8 @@ taken-in cursors i h' q q' (Some w) least decided moved roomy was =
     before-after w ws before zero d h = inr (refl, omega arith)
     before-after w ws before (suc k) d h = elim (before k d (omega (arith, h))) [ inl lt ↦ inl lt | inr (same, lt) ↦ inr (same, omega (arith, lt)) ]
 
-pub queue-decided : (schedule : Schedule) (cursors : List InputView) (i : ℕ) (h' : InputView) (q q' : Queue) → IsNextIn (ordering_of schedule) cursors (Next.Decide i) → h'.waiting ≡ false
+pub queue-decided : (schedule : Schedule) (cursors : List InputView) (i : ℕ) (h' : InputView) (q q' : Queue) → IsNextIn (ordering_of schedule) cursors
+    (Next.Decide i) → h'.waiting ≡ false
     → Leaves (is_merge schedule) q q' → HoldsQueue (ordering_of schedule) cursors q → HoldsQueue (ordering_of schedule) (slice_set cursors i h') q'
 queue-decided (Turn turn) cursors i h' q q' tells decided leaves was = tt
 queue-decided (Merge first last) cursors i h' q q' tells decided leaves was = taken-in cursors i h' q q' leaves.0 tells.1 decided leaves.1 leaves.2 was
@@ -237,7 +285,8 @@ none-first f g i [] idle = refl
 none-first f g i (x ∷ xs) idle = let later = none-first f g (i + 1) xs idle in rw (idle x) (omega (arith, later))
 
 -- a new queue is that of inputs of which none waits
-pub queued-first : {X : Type 0} (f : X → InputView) (xs : List X) (merges : Bool) (q : Queue) → ((x : X) → (f x).waiting ≡ false) → q.waiting ≡ [] → (IsTrue merges → length (map f xs) ≤ q.room)
+pub queued-first : {X : Type 0} (f : X → InputView) (xs : List X) (merges : Bool) (q : Queue) → ((x : X) → (f x).waiting ≡ false) → q.waiting ≡ []
+    → (IsTrue merges → length (map f xs) ≤ q.room)
     → HoldsQueue (order_of merges) (map f xs) q
 queued-first f xs false q idle empty roomy = tt
 queued-first f xs true q idle empty roomy = record { entered = λ g. ap (sum_by g) empty ∙ sym (none-first f g 0 xs idle); room = roomy refl }

@@ -1,6 +1,11 @@
 -- What is next of the inputs, as it is found out.
-use Rattle.std.proofs.{Math.Bool.or-true, lemmas.Bool.and_right, lemmas.List.Elements.All-from_recursion, lemmas.List.Folds.list_all-append, lemmas.List.Folds.list_any-append, lemmas.List.Folds.list_any_none}
-use Rattle.cap_inputs.proofs.Common.{IsAtTurn, add-zero, append-nil, ◌≡◌, inl, inr, ◌&&◌, ◌||◌, if◌then◌else◌, ℕ, suc, ◌+◌, ◌<◌, ◌≤◌, Bool, true, false, not, cond, nat_le, List, [], ◌∷◌, ◌++◌, length, refl, sym, ◌∙◌, ap, ap₂, arith, list_all, list_any, position_or_len, slice_get, slice_get_past, AllByRecursion, nat_tests, Phase, Ended, PacketOrder, InTurn, ByTime, Next, InputView, InputsView, IsInput, ended_count, has_least_key, is_open, is_unready, key_of, next_at, next_of, place_next, AllEnded, AllReady, IsNext, IsNextIn, IsOpen, IsReady, KeysFrom}
+use Rattle.std.proofs.{Math.Bool.or-true, lemmas.Bool.and_right, lemmas.List.Elements.All-from_recursion, lemmas.List.Folds.list_all-append}
+use Rattle.std.proofs.{lemmas.List.Folds.list_any-append, lemmas.List.Folds.list_any_none}
+use Rattle.cap_inputs.proofs.Common.{IsAtTurn, add-zero, append-nil, ◌≡◌, inl, inr, ◌&&◌, ◌||◌, if◌then◌else◌, ℕ, suc, ◌+◌, ◌<◌, ◌≤◌, Bool, true, false, not}
+use Rattle.cap_inputs.proofs.Common.{cond, nat_le, List, [], ◌∷◌, ◌++◌, length, refl, sym, ◌∙◌, ap, ap₂, arith, list_all, list_any, position_or_len, slice_get}
+use Rattle.cap_inputs.proofs.Common.{slice_get_past, AllByRecursion, nat_tests, Phase, Ended, PacketOrder, InTurn, ByTime, Next, InputView, InputsView, IsInput}
+use Rattle.cap_inputs.proofs.Common.{ended_count, has_least_key, is_open, is_unready, key_of, next_at, next_of, place_next, AllEnded, AllReady, IsNext}
+use Rattle.cap_inputs.proofs.Common.{IsNextIn, IsOpen, IsReady, KeysFrom}
 use Rattle.cap_inputs.proofs.Cursors.{get-input, weaker}
 
 -- ---- the first input of which a test holds
@@ -34,11 +39,13 @@ all-fails p xs ys h here = list_all-append p xs (h ∷ ys) ∙ ap (λ (b : Bool)
 
 -- ---- the input in a place
 
-at-here : (cursors : List InputView) (n i : ℕ) (h : InputView) → (a : IsInput cursors i h) → n ≡ length a.front → next_at n (slice_get cursors n) ≡ (if h.waiting then Next.Decide i else Next.Read i)
+at-here : (cursors : List InputView) (n i : ℕ) (h : InputView) → (a : IsInput cursors i h) → n ≡ length a.front → next_at n (slice_get cursors n) ≡
+    (if h.waiting then Next.Decide i else Next.Read i)
 at-here cursors n i h a is = ap (λ (m : ℕ). next_at m (slice_get cursors m)) (is ∙ a.place) ∙ ap (next_at i) (get-input cursors i h a)
 
 at-past : (cursors : List InputView) (n : ℕ) → n ≡ length cursors → next_at n (slice_get cursors n) ≡ Next.Finish
-at-past cursors n is = ap (λ (m : ℕ). next_at m (slice_get cursors m)) is ∙ ap (next_at (length cursors)) (slice_get_past cursors (length cursors) (omega arith))
+at-past cursors n is = ap (λ (m : ℕ). next_at m (slice_get cursors m)) is ∙ ap (next_at (length cursors))
+    (slice_get_past cursors (length cursors) (omega arith))
 
 -- ---- tests of one input
 
@@ -70,7 +77,8 @@ not_lower key other = not other.waiting || nat_le key (key_of other)
 
 not-lower-where : (key : ℕ) (h : InputView) → (h.waiting ≡ true → key ≤ key_of h) → not_lower key h ≡ true
 not-lower-where key h over =
-    elim h.waiting as (λ b. (b ≡ true → key ≤ key_of h) → (not b || nat_le key (key_of h)) ≡ true) [ true ↦ λ over. (let le = over refl in grind (arith, nat_tests, le)) | false ↦ λ over. refl ] over
+    elim h.waiting as (λ b. (b ≡ true → key ≤ key_of h) → (not b || nat_le key (key_of h)) ≡ true)
+    [ true ↦ λ over. (let le = over refl in grind (arith, nat_tests, le)) | false ↦ λ over. refl ] over
 
 lower-where : (key : ℕ) (h : InputView) → h.waiting ≡ true → key_of h < key → not_lower key h ≡ false
 lower-where key h waits under = ap (λ (b : Bool). not b || nat_le key (key_of h)) waits ∙ grind (arith, nat_tests, under)
@@ -79,10 +87,12 @@ none-lower : (key : ℕ) (hs : List InputView) → KeysFrom key hs → list_all 
 none-lower key [] from = refl
 none-lower key (h ∷ hs) from = ap (λ (b : Bool). b && list_all (not_lower key) hs) (not-lower-where key h from.0) ∙ none-lower key hs from.1
 
-none-lower-around : (key : ℕ) (xs ys : List InputView) (h : InputView) → KeysFrom (key + 1) xs → key ≡ key_of h → KeysFrom key ys → list_all (not_lower key) (xs ++ h ∷ ys) ≡ true
+none-lower-around : (key : ℕ) (xs ys : List InputView) (h : InputView) → KeysFrom (key + 1) xs → key ≡ key_of h → KeysFrom key ys
+    → list_all (not_lower key) (xs ++ h ∷ ys) ≡ true
 none-lower-around key xs ys h over is from =
     list_all-append (not_lower key) xs (h ∷ ys)
-    ∙ ap₂ (λ (a b : Bool). a && b) (none-lower key xs (weaker _ _ (λ x f w. let less = f w in omega (arith, less)) xs over)) (none-lower key (h ∷ ys) ((λ waits. omega (arith, is)), from))
+    ∙ ap₂ (λ (a b : Bool). a && b) (none-lower key xs (weaker _ _ (λ x f w. let less = f w in omega (arith, less)) xs over))
+    (none-lower key (h ∷ ys) ((λ waits. omega (arith, is)), from))
 
 waits-not : (cursors : List InputView) (x : InputView) → x.waiting ≡ false → has_least_key cursors x ≡ false
 waits-not cursors x waits = ap (λ (b : Bool). b && list_all (not_lower (key_of x)) cursors) waits
@@ -92,11 +102,14 @@ greater-before : (xs ys zs : List InputView) (h : InputView) → h.waiting ≡ t
 greater-before xs ys zs h waits over = weaker _ _ (λ z less. by_waits z less z.waiting refl) zs over
   where
     by_waits : (z : InputView) → (z.waiting ≡ true → key_of h + 1 ≤ key_of z) → (b : Bool) → z.waiting ≡ b → has_least_key (xs ++ h ∷ ys) z ≡ false
-    by_waits z over true is = and_right z.waiting (list_all (not_lower (key_of z)) (xs ++ h ∷ ys)) (all-fails (not_lower (key_of z)) xs ys h (lower-where (key_of z) h waits (let less = over is in omega (arith, less))))
+    by_waits z over true is = and_right z.waiting (list_all (not_lower (key_of z)) (xs ++ h ∷ ys))
+        (all-fails (not_lower (key_of z)) xs ys h (lower-where (key_of z) h waits (let less = over is in omega (arith, less))))
     by_waits z over false is = waits-not (xs ++ h ∷ ys) z is
 
-least-here : (xs ys : List InputView) (h : InputView) → h.waiting ≡ true → KeysFrom (key_of h + 1) xs → KeysFrom (key_of h) ys → has_least_key (xs ++ h ∷ ys) h ≡ true
-least-here xs ys h waits over from = ap (λ (b : Bool). b && list_all (not_lower (key_of h)) (xs ++ h ∷ ys)) waits ∙ none-lower-around (key_of h) xs ys h over refl from
+least-here : (xs ys : List InputView) (h : InputView) → h.waiting ≡ true → KeysFrom (key_of h + 1) xs → KeysFrom (key_of h) ys
+    → has_least_key (xs ++ h ∷ ys) h ≡ true
+least-here xs ys h waits over from = ap (λ (b : Bool). b && list_all (not_lower (key_of h)) (xs ++ h ∷ ys)) waits ∙ none-lower-around (key_of h) xs ys
+    h over refl from
 
 -- ---- what is next
 
@@ -106,7 +119,8 @@ count-open xs ys h ended on = first-here test_open xs ys h (none-open xs ended) 
 pub count-all : (hs : List InputView) → AllEnded hs → ended_count hs ≡ length hs
 count-all hs ended = first-none test_open hs (none-open hs ended)
 
-at-turn : (cursors : List InputView) (i : ℕ) (waiting : Bool) → IsAtTurn cursors i waiting → next_of (record { order = InTurn; cursors = cursors }) ≡ (if waiting then Next.Decide i else Next.Read i)
+at-turn : (cursors : List InputView) (i : ℕ) (waiting : Bool) → IsAtTurn cursors i waiting → next_of (record { order = InTurn; cursors = cursors }) ≡
+    (if waiting then Next.Decide i else Next.Read i)
 at-turn cursors i waiting at =
     let a = at.among in
     let count : ended_count cursors ≡ length a.front = ap ended_count a.splits ∙ count-open a.front a.back at.cursor at.front at.unended in
@@ -122,19 +136,23 @@ by-time cursors (Next.Read i) tells =
     let a = tells.among in
     let here = is-unready tells.cursor tells.waits tells.unended in
     let any : list_any is_unready cursors ≡ true = ap (list_any is_unready) a.splits ∙ any-here is_unready a.front a.back tells.cursor here in
-    let place : place_next ByTime cursors ≡ length a.front = rw any (ap (position_or_len is_unready) a.splits ∙ first-here is_unready a.front a.back tells.cursor (none-unready a.front tells.front) here) in
+    let place : place_next ByTime cursors ≡ length a.front = rw any (ap (position_or_len is_unready) a.splits ∙ first-here is_unready a.front a.back
+    tells.cursor (none-unready a.front tells.front) here) in
     at-here cursors (place_next ByTime cursors) i tells.cursor a place ∙ ap (λ (b : Bool). if b then Next.Decide i else Next.Read i) tells.waits
 by-time cursors (Next.Decide i) tells =
     let least = tells.1 in
     let a = least.among in
     let front = greater-before a.front a.back a.front least.cursor least.waits least.over in
     let here = least-here a.front a.back least.cursor least.waits least.over least.from in
-    let place : place_next ByTime cursors ≡ length a.front = rw (any-none is_unready cursors (none-unready cursors tells.0)) (ap (λ (l : List InputView). position_or_len (has_least_key l) l) a.splits ∙ first-here (has_least_key (a.front ++ least.cursor ∷ a.back)) a.front a.back least.cursor front here) in
+    let place : place_next ByTime cursors ≡ length a.front = rw (any-none is_unready cursors (none-unready cursors tells.0))
+    (ap (λ (l : List InputView). position_or_len (has_least_key l) l) a.splits ∙ first-here (has_least_key (a.front ++ least.cursor ∷ a.back))
+    a.front a.back least.cursor front here) in
     at-here cursors (place_next ByTime cursors) i least.cursor a place ∙ ap (λ (b : Bool). if b then Next.Decide i else Next.Read i) least.waits
 by-time cursors Next.Finish tells =
     let ready = weaker _ IsReady (λ h e. inr e) cursors tells.1 in
     let place : place_next ByTime cursors ≡ length cursors =
-    rw (any-none is_unready cursors (none-unready cursors ready)) (first-none (has_least_key cursors) cursors (weaker _ _ (waits-not cursors) cursors tells.0)) in
+    rw (any-none is_unready cursors (none-unready cursors ready))
+    (first-none (has_least_key cursors) cursors (weaker _ _ (waits-not cursors) cursors tells.0)) in
     at-past cursors (place_next ByTime cursors) place
 
 -- what is next by its parts is what is found out

@@ -1,6 +1,11 @@
 -- What the cursor says of the inputs, and how it goes on.
 use Rattle.std.proofs.lemmas.{Bool.cases_order, Option.slice_get_within}
-use Rattle.cap_inputs.proofs.Common.{◌≡◌, ◌≢◌, ◌⊎◌, inl, inr, ℕ, zero, suc, ◌+◌, ◌<◌, ◌≤◌, Bool, true, false, List, [], ◌∷◌, ◌++◌, length, map, Some, Result, Ok, Err, refl, sym, ◌∙◌, ap, arith, slice_get, slice_set, AllByRecursion, Fault, Phase, Reading, Ended, Failed, phase_after, Schedule, Turn, Merge, Next, ordering_of, EntersQueue, HoldsQueue, is_merge, ◌&&◌, key_of, EachAt, IsOfTurn, IsOfMerge, IsNextAt, IsScheduled, first_schedule, schedule_after, schedule_after_decided, waits_at, PacketOrder, InTurn, ByTime, InputView, IsInput, input_after_decided, is_packet_found, AllEnded, AllReady, IsAtTurn, IsNextIn, IsOpen, IsReady, NoneWaits}
+use Rattle.cap_inputs.proofs.Common.{◌≡◌, ◌≢◌, ◌⊎◌, inl, inr, ℕ, zero, suc, ◌+◌, ◌<◌, ◌≤◌, Bool, true, false, List, [], ◌∷◌, ◌++◌, length, map, Some, Result}
+use Rattle.cap_inputs.proofs.Common.{Ok, Err, refl, sym, ◌∙◌, ap, arith, slice_get, slice_set, AllByRecursion, Fault, Phase, Reading, Ended, Failed}
+use Rattle.cap_inputs.proofs.Common.{phase_after, Schedule, Turn, Merge, Next, ordering_of, EntersQueue, HoldsQueue, is_merge, ◌&&◌, key_of, EachAt, IsOfTurn}
+use Rattle.cap_inputs.proofs.Common.{IsOfMerge, IsNextAt, IsScheduled, first_schedule, schedule_after, schedule_after_decided, waits_at, PacketOrder, InTurn}
+use Rattle.cap_inputs.proofs.Common.{ByTime, InputView, IsInput, input_after_decided, is_packet_found, AllEnded, AllReady, IsAtTurn, IsNextIn, IsOpen, IsReady}
+use Rattle.cap_inputs.proofs.Common.{NoneWaits}
 use Rattle.cap_inputs.proofs.Cursors.{get-input, input-at, same-input, schedule-order, set-among}
 use Rattle.cap_inputs.proofs.Leasts.{queue-read}
 use Rattle.cap_inputs.specs.Queue.{Queue}
@@ -33,7 +38,8 @@ module _ (cursors : List InputView) (i : ℕ) (h : InputView) (a : IsInput curso
       each j k (omega (arith, within, a.place)) (ap (λ (l : List InputView). slice_get l j) a.splits ∙ get-front a.front (h ∷ a.back) j within ∙ is)))
 
   front-at : (Q : InputView → Type 0) (j : ℕ) (k : InputView) → AllByRecursion Q a.front → j < i → slice_get cursors j ≡ Some k → Q k
-  front-at Q j k all less is = all-at Q a.front j k all (sym (ap (λ (l : List InputView). slice_get l j) a.splits ∙ get-front a.front (h ∷ a.back) j (omega (arith, less, a.place))) ∙ is)
+  front-at Q j k all less is = all-at Q a.front j k all
+      (sym (ap (λ (l : List InputView). slice_get l j) a.splits ∙ get-front a.front (h ∷ a.back) j (omega (arith, less, a.place))) ∙ is)
 
   back-of : (Q : InputView → Type 0) → ((j : ℕ) (k : InputView) → i < j → slice_get cursors j ≡ Some k → Q k) → AllByRecursion Q a.back
   back-of Q each = all-of Q a.back (λ j k is. each (length a.front + suc j) k (omega (arith, a.place))
@@ -48,11 +54,16 @@ each-set P P' cursors i h h' a each here others j k is =
       | inr (other, stays) ↦ (let was : slice_get cursors j ≡ Some k = rw a.splits stays in others j k (λ e. other (e ∙ sym a.place)) was (each j k was))
     ]
   where
-    parts : (xs ys : List InputView) (j : ℕ) → slice_get (xs ++ h' ∷ ys) j ≡ Some k → ((j ≡ length xs) × (h' ≡ k)) ⊎ ((j ≡ length xs → ⊥) × (slice_get (xs ++ h ∷ ys) j ≡ Some k))
+    parts : (xs ys : List InputView) (j : ℕ) → slice_get (xs ++ h' ∷ ys) j ≡ Some k → ((j ≡ length xs) × (h' ≡ k)) ⊎
+        ((j ≡ length xs → ⊥) × (slice_get (xs ++ h ∷ ys) j ≡ Some k))
     parts [] ys zero is = inl (refl, (cc))
     parts [] ys (suc j) is = inr ((λ e. omega (arith, e)), is)
     parts (x ∷ xs) ys zero is = inr ((λ e. omega (arith, e)), is)
-    parts (x ∷ xs) ys (suc j) is = elim (parts xs ys j is) [ inl (at, same) ↦ inl (ap suc at, same) | inr (other, stays) ↦ inr ((λ e. other (omega (arith, e))), stays) ]
+    parts (x ∷ xs) ys (suc j) is = elim (parts xs ys j is) [
+      | inl (at, same) ↦ inl (ap suc at, same)
+      | inr (other, stays) ↦
+          inr ((λ e. other (omega (arith, e))), stays)
+    ]
 
 -- ---- what is next
 
@@ -61,12 +72,14 @@ some-at [] i within = absurd (omega arith)
 some-at (x ∷ xs) zero within = (x, refl)
 some-at (x ∷ xs) (suc i) within = some-at xs i (omega (arith, within))
 
-waits-is : (cursors : List InputView) (i : ℕ) (waiting : Bool) → waits_at cursors i ≡ Some waiting → (h : InputView) × slice_get cursors i ≡ Some h × h.waiting ≡ waiting
+waits-is : (cursors : List InputView) (i : ℕ) (waiting : Bool) → waits_at cursors i ≡ Some waiting → (h : InputView) × slice_get cursors i ≡ Some h
+    × h.waiting ≡ waiting
 waits-is [] i waiting is = absurd (cc)
 waits-is (x ∷ xs) zero waiting is = (x, refl, (cc))
 waits-is (x ∷ xs) (suc i) waiting is = waits-is xs i waiting is
 
-at-turn : (turn : ℕ) (cursors : List InputView) (i : ℕ) (waiting : Bool) → EachAt (IsOfTurn turn) cursors → i ≡ turn → waits_at cursors turn ≡ Some waiting → IsAtTurn cursors i waiting
+at-turn : (turn : ℕ) (cursors : List InputView) (i : ℕ) (waiting : Bool) → EachAt (IsOfTurn turn) cursors → i ≡ turn → waits_at cursors turn ≡ Some
+    waiting → IsAtTurn cursors i waiting
 at-turn turn cursors i waiting placed here waits =
     let found = waits-is cursors i waiting (rw here waits) in
     let a = input-at cursors i found.0 found.1 in
@@ -92,7 +105,8 @@ all-ended [] none ready = tt
 all-ended (h ∷ hs) none ready = (elim ready.0 [ inl w ↦ absurd (let e = none.0 in cc (w, e)) | inr e ↦ e ], all-ended hs none.1 ready.1)
 
 -- what is next at the cursor is next of the inputs
-pub next-is : (schedule : Schedule) (cursors : List InputView) (r : Next) → IsScheduled schedule cursors → IsNextAt schedule cursors r → IsNextIn (ordering_of schedule) cursors r
+pub next-is : (schedule : Schedule) (cursors : List InputView) (r : Next) → IsScheduled schedule cursors → IsNextAt schedule cursors r
+    → IsNextIn (ordering_of schedule) cursors r
 next-is (Turn turn) cursors (Next.Read i) placed tells = at-turn turn cursors i false placed tells.0 tells.1
 next-is (Turn turn) cursors (Next.Decide i) placed tells = at-turn turn cursors i true placed tells.0 tells.1
 next-is (Turn turn) cursors Next.Finish placed tells = all-of _ cursors (λ j k is. (placed j k is).0 (omega (arith, tells, slice_get_within cursors j k is)))
@@ -101,16 +115,25 @@ next-is (Merge n u) cursors (Next.Read i) placed tells =
     let found = some-at cursors i (rw same tells.2) in
     let a = input-at cursors i found.0 found.1 in
     let here = (placed i found.0 found.1).0 (omega (arith, same)) (rw same tells.1) in
-    record { cursor = found.0; among = a; waits = here.0; unended = here.1; front = front-of cursors i found.0 a _ (λ j k less is. (placed j k is).1 (inl (rw same at less))) }
+    record {
+      cursor = found.0;
+      among = a;
+      waits = here.0;
+      unended = here.1;
+      front = front-of cursors i found.0 a _
+          (λ j k less is. (placed j k is).1 (inl (rw same at less)));
+    }
 next-is (Merge n u) cursors (Next.Decide i) placed tells = (all-ready n u cursors placed tells.0, tells.1)
 next-is (Merge n u) cursors Next.Finish placed tells = (tells.1, all-ended cursors tells.1 (all-ready n u cursors placed tells.0))
 
 -- whether the packet of the next input waits
-pub read-idle : (order : PacketOrder) (cursors : List InputView) (i : ℕ) (h : InputView) → IsInput cursors i h → IsNextIn order cursors (Next.Read i) → h.waiting ≡ false
+pub read-idle : (order : PacketOrder) (cursors : List InputView) (i : ℕ) (h : InputView) → IsInput cursors i h → IsNextIn order cursors (Next.Read i)
+    → h.waiting ≡ false
 read-idle InTurn cursors i h a tells = ap (λ (v : InputView). v.waiting) (same-input cursors i h tells.cursor a tells.among) ∙ tells.waits
 read-idle ByTime cursors i h a tells = ap (λ (v : InputView). v.waiting) (same-input cursors i h tells.cursor a tells.among) ∙ tells.waits
 
-pub decided-waits : (order : PacketOrder) (cursors : List InputView) (i : ℕ) (h : InputView) → IsInput cursors i h → IsNextIn order cursors (Next.Decide i) → h.waiting ≡ true
+pub decided-waits : (order : PacketOrder) (cursors : List InputView) (i : ℕ) (h : InputView) → IsInput cursors i h → IsNextIn order cursors
+    (Next.Decide i) → h.waiting ≡ true
 decided-waits InTurn cursors i h a tells = ap (λ (v : InputView). v.waiting) (same-input cursors i h tells.cursor a tells.among) ∙ tells.waits
 decided-waits ByTime cursors i h a tells = ap (λ (v : InputView). v.waiting) (same-input cursors i h tells.1.cursor a tells.1.among) ∙ tells.1.waits
 
@@ -123,8 +146,10 @@ not-ready : (h : InputView) → h.waiting ≡ false → IsOpen h → IsReady h �
 not-ready h waits unended ready = elim ready [ inl w ↦ (cc (w, waits)) | inr e ↦ unended e ]
 
 -- an input is read on
-pub placed-read : (schedule : Schedule) (cursors : List InputView) (i : ℕ) (h' : InputView) (r : Result Bool Fault) → IsNextIn (ordering_of schedule) cursors (Next.Read i)
-    → h'.waiting ≡ is_packet_found r → h'.source.phase ≡ phase_after r → IsScheduled schedule cursors → IsScheduled (schedule_after schedule i r) (slice_set cursors i h')
+pub placed-read : (schedule : Schedule) (cursors : List InputView) (i : ℕ) (h' : InputView) (r : Result Bool Fault) → IsNextIn (ordering_of schedule)
+    cursors (Next.Read i)
+    → h'.waiting ≡ is_packet_found r → h'.source.phase ≡ phase_after r → IsScheduled schedule cursors → IsScheduled (schedule_after schedule i r)
+    (slice_set cursors i h')
 placed-read (Turn turn) cursors i h' r tells waits phase placed = by_result r phase
   where
     h : InputView
@@ -142,7 +167,10 @@ placed-read (Turn turn) cursors i h' r tells waits phase placed = by_result r ph
     by_result : (r : Result Bool Fault) → h'.source.phase ≡ phase_after r → IsScheduled (schedule_after (Turn turn) i r) (slice_set cursors i h')
     by_result (Ok true) phase = still (phase-unended h' Reading phase (λ e. (cc)))
     by_result (Ok false) phase = each-set _ (IsOfTurn (i + 1)) cursors i h h' tells.among placed ((λ less. phase), λ le. absurd (omega (arith, le)))
-        (λ j k other is was. ((λ less. front-at cursors i h tells.among _ j k tells.front (omega (arith, less, other)) is), λ le. was.1 (omega (arith, le, from))))
+        (λ j k other is was. (
+          (λ less. front-at cursors i h tells.among _ j k tells.front (omega (arith, less, other)) is),
+          λ le. was.1 (omega (arith, le, from)),
+        ))
     by_result (Err fault) phase = still (phase-unended h' (Failed fault) phase (λ e. (cc)))
 placed-read (Merge n u) cursors i h' r tells waits phase placed = by_result r waits phase
   where
@@ -165,22 +193,32 @@ placed-read (Merge n u) cursors i h' r tells waits phase placed = by_result r wa
           λ out. elim out [ inl less ↦ front-at cursors i h tells.among _ j k tells.front (omega (arith, less, other)) is | inr le ↦ was.1 (inr le) ],
         ))
 
-    by_result : (r : Result Bool Fault) → h'.waiting ≡ is_packet_found r → h'.source.phase ≡ phase_after r → IsScheduled (schedule_after (Merge n u) i r) (slice_set cursors i h')
+    by_result : (r : Result Bool Fault) → h'.waiting ≡ is_packet_found r → h'.source.phase ≡ phase_after r
+        → IsScheduled (schedule_after (Merge n u) i r) (slice_set cursors i h')
     by_result (Ok true) waits phase = on (inl waits)
     by_result (Ok false) waits phase = on (inr phase)
     by_result (Err fault) waits phase =
-        each-set _ _ cursors i h h' tells.among placed ((λ le less. (waits, phase-unended h' (Failed fault) phase (λ e. (cc)))), λ out. absurd (not out)) (λ j k other is was. was)
+        each-set _ _ cursors i h h' tells.among placed (
+          (λ le less. (waits, phase-unended h' (Failed fault) phase (λ e. (cc)))),
+          λ out. absurd (not out),
+        ) (λ j k other is was. was)
 
 -- an input is read on, and with it the queue
-pub goes-on : (schedule schedule' : Schedule) (cursors : List InputView) (i : ℕ) (h h' : InputView) (r : Result Bool Fault) (q q' : Queue) → IsInput cursors i h → IsNextIn (ordering_of schedule) cursors (Next.Read i)
+pub goes-on : (schedule schedule' : Schedule) (cursors : List InputView) (i : ℕ) (h h' : InputView) (r : Result Bool Fault) (q q' : Queue)
+    → IsInput cursors i h → IsNextIn (ordering_of schedule) cursors (Next.Read i)
     → h'.waiting ≡ is_packet_found r → h'.source.phase ≡ phase_after r → schedule' ≡ schedule_after schedule i r
-    → EntersQueue (is_packet_found r && is_merge schedule) (record { time = key_of h'; input = i }) q q' → HoldsQueue (ordering_of schedule) cursors q × IsScheduled schedule cursors
+    → EntersQueue (is_packet_found r && is_merge schedule) (record { time = key_of h'; input = i }) q q' → HoldsQueue (ordering_of schedule) cursors q
+    × IsScheduled schedule cursors
     → HoldsQueue (ordering_of schedule') (slice_set cursors i h') q' × IsScheduled schedule' (slice_set cursors i h')
 goes-on schedule schedule' cursors i h h' r q q' a tells waits phase is enters was =
-    rw (is, schedule-order) (queue-read schedule cursors i h h' r q q' a (read-idle (ordering_of schedule) cursors i h a tells) waits enters was.0, placed-read schedule cursors i h' r tells waits phase was.1)
+    rw (is, schedule-order) (
+      queue-read schedule cursors i h h' r q q' a (read-idle (ordering_of schedule) cursors i h a tells) waits enters was.0,
+      placed-read schedule cursors i h' r tells waits phase was.1,
+    )
 
 -- the current packet of an input is decided
-pub placed-decided : (schedule : Schedule) (cursors : List InputView) (i : ℕ) (h : InputView) → IsInput cursors i h → IsNextIn (ordering_of schedule) cursors (Next.Decide i)
+pub placed-decided : (schedule : Schedule) (cursors : List InputView) (i : ℕ) (h : InputView) → IsInput cursors i h → IsNextIn (ordering_of schedule)
+    cursors (Next.Decide i)
     → h.source.phase ≡ Reading → IsScheduled schedule cursors → IsScheduled (schedule_after_decided schedule i) (slice_set cursors i (input_after_decided h))
 placed-decided (Turn turn) cursors i h a tells phase placed =
     each-set _ _ cursors i h (input_after_decided h) a placed (placed i h (get-input cursors i h a)) (λ j k other is was. was)
@@ -195,7 +233,8 @@ fresh-all : {X : Type 0} (f : X → InputView) (Q : InputView → Type 0) (xs : 
 fresh-all f Q [] each = tt
 fresh-all f Q (x ∷ xs) each = (each x, fresh-all f Q xs each)
 
-pub placed-first : {X : Type 0} (f : X → InputView) (xs : List X) (order : PacketOrder) → ((x : X) → (f x).waiting ≡ false) → ((x : X) → (f x).source.phase ≡ Reading)
+pub placed-first : {X : Type 0} (f : X → InputView) (xs : List X) (order : PacketOrder) → ((x : X) → (f x).waiting ≡ false)
+    → ((x : X) → (f x).source.phase ≡ Reading)
     → IsScheduled (first_schedule order (length (map f xs))) (map f xs)
 placed-first {X = X} f xs order idle phase = by_order order
   where

@@ -1,5 +1,7 @@
 -- What comes out of the heap comes before what stays.
-use Rattle.cap_inputs.proofs.Common.{◌≡◌, ◌≢◌, ℕ, zero, suc, ◌<◌, inl, inr, false, IsTrue, length, get_or, nat_eq, List, [], ◌∷◌, map, sym, ap, ◌∙◌, arith, All, AllByRecursion, IsPermutation, IsUpperBound, lt_by_cmp, Reverse, IsPermutation-map, nat_tests, cases_order, Waiting, Precedes, NotAfter, inputs_of, IsOnceEach, IsFirstWaiting, is_entered}
+use Rattle.cap_inputs.proofs.Common.{◌≡◌, ◌≢◌, ℕ, zero, suc, ◌<◌, inl, inr, false, IsTrue, length, get_or, nat_eq, List, [], ◌∷◌, map, sym, ap, ◌∙◌, arith, All}
+use Rattle.cap_inputs.proofs.Common.{AllByRecursion, IsPermutation, IsUpperBound, lt_by_cmp, Reverse, IsPermutation-map, nat_tests, cases_order, Waiting}
+use Rattle.cap_inputs.proofs.Common.{Precedes, NotAfter, inputs_of, IsOnceEach, IsFirstWaiting, is_entered}
 use Rattle.std.specs.List.{IsDistinct}
 use Rattle.std.specs.{Ordering.is_lt, Ordering.nat_cmp, Ordering.ordering_then, declared.cmp.Ordering.Ordering}
 use Rattle.std.proofs.lemmas.Map.Keys.{IsDistinct-IsPermutation, IsDistinct-cons}
@@ -46,7 +48,10 @@ taken_first R x old rest means bound p once =
 
 all_others : (x : Waiting) (ws : List Waiting) → All (λ w. w.input ≢ x.input) ws → AllByRecursion (λ i. nat_eq x.input i ≡ false) (inputs_of ws)
 all_others x [] h = tt
-all_others x (w ∷ ws) h = (let apart : w.input ≢ x.input = h 0 x (omega arith) in grind (arith, nat_tests), all_others x ws (λ k d lt. h (suc k) d (omega arith)))
+all_others x (w ∷ ws) h = (
+  let apart : w.input ≢ x.input = h 0 x (omega arith) in grind (arith, nat_tests),
+  all_others x ws (λ k d lt. h (suc k) d (omega arith)),
+)
 
 pub once_added : (x : Waiting) (ws new : List Waiting) → All (λ w. w.input ≢ x.input) ws → IsOnceEach ws → IsPermutation (x ∷ ws) new → IsOnceEach new
 once_added x ws new alone once p = once_permuted (x ∷ ws) new p (IsDistinct-cons (λ a b. nat_eq a b) x.input (inputs_of ws) (all_others x ws alone) once)

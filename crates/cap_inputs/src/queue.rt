@@ -43,7 +43,7 @@ impl<A: Allocator> Queue<A> {
     ghost use Rattle.cap_inputs.specs.inside.Queue.{IsFirstWaiting, Precedes};
 
     /// An empty queue with room for `count` inputs, if they are merged; else with room for none,
-    /// since inputs in turn need no queue. It takes its memory here; `None` if there is none.
+    /// since inputs in turn need no queue. All of its memory is allocated here; `None` if that fails.
     pub fn new(alloc: A, merges: bool, count: usize) -> Option<Self>
         ensures { IfSome result (λ q. q ≡ queue [] (if merges then count else 0)) }
     {
@@ -54,8 +54,8 @@ impl<A: Allocator> Queue<A> {
         }
     }
 
-    /// Puts the entry of an input into the queue, which has none of it yet. There is room, so that
-    /// it takes no memory.
+    /// Puts the entry of an input into the queue, which has none of it yet. There is room, so it
+    /// allocates nothing.
     pub fn add(&mut self, entry: Waiting)
         requires room { length self.old.waiting < self.old.room }
         requires alone { All (λ w. w.input ≢ entry.input) self.old.waiting }

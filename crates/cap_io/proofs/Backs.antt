@@ -1,5 +1,7 @@
 -- Units that hold packets and end cleanly read back as them.
-use Rattle.cap_io.proofs.Common.{◌≡◌, ℕ, ◌+◌, List, [], ◌∷◌, ◌++◌, length, map, None, refl, sym, ap, ap₂, ◌∙◌, append_assoc, append-nil, map-append, AllByRecursion, Captured, Declared, Nothing, IsUnit, Placed, placed_at, AreUnits, no_unit, unit_then, NoUnit, front_of, Items, End, items, after_packets, ReadsBack}
+use Rattle.cap_io.proofs.Common.{◌≡◌, ℕ, ◌+◌, List, [], ◌∷◌, ◌++◌, length, map, None, refl, sym, ap, ap₂, ◌∙◌, append_assoc, append-nil, map-append}
+use Rattle.cap_io.proofs.Common.{AllByRecursion, Captured, Declared, Nothing, IsUnit, Placed, placed_at, AreUnits, no_unit, unit_then, NoUnit, front_of, Items}
+use Rattle.cap_io.proofs.Common.{End, items, after_packets, ReadsBack}
 use Rattle.cap_io.proofs.Cuts.{items_from-units, items_from-stops}
 
 -- what is declared, from a place on
@@ -17,7 +19,8 @@ packets-placed_at at (q ∷ qs) = ap (λ (l : List Captured). q ∷ l) (packets-
 pub holds-none : (declared : Declared) (at : ℕ) → front_of declared [] ≡ NoUnit None → Holds declared at [] []
 holds-none declared at ends = record { placed = []; after = declared; units = no_unit; packets = refl; ends = ends }
 
-pub holds-unit : {b c : Declared} {u : List ℕ} {qs : List Captured} → IsUnit b u qs c → (at : ℕ) (more : List ℕ) (ps : List Captured) → Holds c (at + length u) more ps → Holds b at (u ++ more) (qs ++ ps)
+pub holds-unit : {b c : Declared} {u : List ℕ} {qs : List Captured} → IsUnit b u qs c → (at : ℕ) (more : List ℕ) (ps : List Captured)
+    → Holds c (at + length u) more ps → Holds b at (u ++ more) (qs ++ ps)
 holds-unit {qs = qs} unit at more ps later = record {
   placed = placed_at at qs ++ later.placed;
   after = later.after;
@@ -35,12 +38,14 @@ reads-back text ps holds =
     ∙ items_from-units holds.units []
     ∙ ap (after_packets holds.placed) (items_from-stops holds.after (0 + length text) [] None holds.ends) in
     record {
-      packets = ap (λ (i : Items). map (λ (q : Placed). q.packet) i.packets) all ∙ ap (map (λ (q : Placed). q.packet)) (append-nil holds.placed) ∙ holds.packets;
+      packets = ap (λ (i : Items). map (λ (q : Placed). q.packet) i.packets) all ∙ ap (map (λ (q : Placed). q.packet)) (append-nil holds.placed)
+          ∙ holds.packets;
       ending = ap (λ (i : Items). i.ending) all;
     }
 
 -- what holds of each packet after those before it holds of those after some
-pub each-following : (Q : Captured → Type 0) (all : List Captured) → ((earlier : List Captured) (p : Captured) (later : List Captured) → all ≡ earlier ++ p ∷ later → Q p)
+pub each-following : (Q : Captured → Type 0) (all : List Captured) → ((earlier : List Captured) (p : Captured) (later : List Captured) → all ≡ earlier
+    ++ p ∷ later → Q p)
     → (earlier ps : List Captured) → all ≡ earlier ++ ps → AllByRecursion Q ps
 each-following Q all each earlier [] is = tt
 each-following Q all each earlier (p ∷ ps) is =

@@ -1,5 +1,12 @@
 -- What came of a block, from read to read.
-use Rattle.cap_io.proofs.Common.{◌≡◌, ℕ, true, ◌+◌, ◌<◌, ◌≤◌, ◌⊎◌, inl, inr, List, [], ◌∷◌, ◌++◌, length, take, drop, Option, Some, None, Result, Ok, Err, refl, sym, ap, ap₂, ◌∙◌, subst, arith, unwrap_or, option_to_list, append_assoc, length-append, length-take-le, drop_at, drop-drop, take-append-drop, checked, first_failing, Captured, Fault, NoMemory, ReadFailed, Order, checked_ok, checked_err, Parts, SectionParts, block_checks, parts_in, frame_checks, frame_fault, frame_in, most_block, Described, IsBlock, Section, block_size, checks_among, frame_after, interfaces_before, order_before, packet_by, packets_in, parts_after, section_after, section_by, unit_fault, passes, frame_checks-append, frame_in-append, unit_fault-frame, unit_fault-short, unit_fault-block, unit_fault-among, parts_in-append, block_checks-append, Frame, Enters, PacketIfAny, held_packet, section_of, AddsInterface, IsEntryFault, most_in_unit, block_length, RestMissing, span_bytes, is_interface, PacketSpans}
+use Rattle.cap_io.proofs.Common.{◌≡◌, ℕ, true, ◌+◌, ◌<◌, ◌≤◌, ◌⊎◌, inl, inr, List, [], ◌∷◌, ◌++◌, length, take, drop, Option, Some, None, Result, Ok, Err, refl}
+use Rattle.cap_io.proofs.Common.{sym, ap, ap₂, ◌∙◌, subst, arith, unwrap_or, option_to_list, append_assoc, length-append, length-take-le, drop_at, drop-drop}
+use Rattle.cap_io.proofs.Common.{take-append-drop, checked, first_failing, Captured, Fault, NoMemory, ReadFailed, Order, checked_ok, checked_err, Parts}
+use Rattle.cap_io.proofs.Common.{SectionParts, block_checks, parts_in, frame_checks, frame_fault, frame_in, most_block, Described, IsBlock, Section, block_size}
+use Rattle.cap_io.proofs.Common.{checks_among, frame_after, interfaces_before, order_before, packet_by, packets_in, parts_after, section_after, section_by}
+use Rattle.cap_io.proofs.Common.{unit_fault, passes, frame_checks-append, frame_in-append, unit_fault-frame, unit_fault-short, unit_fault-block}
+use Rattle.cap_io.proofs.Common.{unit_fault-among, parts_in-append, block_checks-append, Frame, Enters, PacketIfAny, held_packet, section_of, AddsInterface}
+use Rattle.cap_io.proofs.Common.{IsEntryFault, most_in_unit, block_length, RestMissing, span_bytes, is_interface, PacketSpans}
 use Rattle.cap_io.proofs.Fronts.{decisive_block_length, length_by_header-whole}
 use Rattle.cap_io.proofs.OwnFaults.{entry-not_failed, own-frame, own-not_failed, own-not_memory}
 
@@ -33,7 +40,8 @@ BlockPacketIfAny order before block None = packets_in before block ≡ []
 BlockPacketIfAny order before block (Some spans) = BlockPacket order before block spans
 
 -- a block came, and is at the start of the buffer
-pub record BlockCame (before : Option Section) (text buffer : List ℕ) (order : Order) (size : ℕ) (spans : Option PacketSpans) (interfaces' : List Described) (unread' : List ℕ) : Type 0 where
+pub record BlockCame (before : Option Section) (text buffer : List ℕ) (order : Order) (size : ℕ) (spans : Option PacketSpans)
+    (interfaces' : List Described) (unread' : List ℕ) : Type 0 where
   pub is_block : IsBlock before (take size buffer)
   pub section : section_after before (take size buffer) ≡ section_of order interfaces'
   pub packet : BlockPacketIfAny order before (take size buffer) spans
@@ -46,14 +54,16 @@ pub record FrontSays (section : Option Order) (front : List ℕ) (frame : Frame)
   pub passes : frame_fault section front ≡ None
   pub says : frame_in section front ≡ frame
 
-pub front_says : (section : Option Order) (front : List ℕ) (answer : Result Frame Fault) (frame : Frame) → answer ≡ checked (frame_fault section front) (frame_in section front) → answer ≡ Ok frame
+pub front_says : (section : Option Order) (front : List ℕ) (answer : Result Frame Fault) (frame : Frame)
+    → answer ≡ checked (frame_fault section front) (frame_in section front) → answer ≡ Ok frame
     → FrontSays section front frame
 front_says section front answer frame is ok =
     let both = checked_ok (frame_fault section front) (frame_in section front) frame (sym is ∙ ok) in
     record { passes = both.0; says = both.1 }
 
 -- the same of a text that begins with them
-pub says_after : (before : Option Section) (section : Option Order) (front more : List ℕ) (frame : Frame) → order_before before ≡ section → 12 ≤ length front → FrontSays section front frame
+pub says_after : (before : Option Section) (section : Option Order) (front more : List ℕ) (frame : Frame) → order_before before ≡ section
+    → 12 ≤ length front → FrontSays section front frame
     → (first_failing (frame_checks (order_before before) (front ++ more)) ≡ None) × (frame_after before (front ++ more) ≡ frame)
 says_after before section front more frame is enough said = (
   ap (λ o. first_failing (frame_checks o (front ++ more))) is ∙ ap first_failing (frame_checks-append section front more enough) ∙ said.passes,
@@ -80,7 +90,8 @@ block_missing before front unread unread' fault count upper_bound why within unf
   rest = taken_after front unread unread' count rest;
 }
 
-pub frame_refused : (before : Option Section) (section : Option Order) (front unread : List ℕ) (answer : Result Frame Fault) (fault : Fault) → order_before before ≡ section → length front ≡ 12
+pub frame_refused : (before : Option Section) (section : Option Order) (front unread : List ℕ) (answer : Result Frame Fault) (fault : Fault)
+    → order_before before ≡ section → length front ≡ 12
     → answer ≡ checked (frame_fault section front) (frame_in section front) → answer ≡ Err fault → BlockMissing before (front ++ unread) unread fault
 frame_refused before section front unread answer fault is upper_bound exact err =
     let fails : frame_fault section front ≡ Some fault = checked_err (frame_fault section front) (frame_in section front) fault (sym exact ∙ err) in
@@ -93,16 +104,20 @@ frame_refused before section front unread answer fault is upper_bound exact err 
 
 pub no_room_for_block : (before : Option Section) (front unread : List ℕ) → length front ≡ 12 → BlockMissing before (front ++ unread) unread NoMemory
 no_room_for_block before front unread upper_bound =
-    block_missing before front unread unread NoMemory 0 upper_bound (inr (inr refl)) (λ none. omega (arith, (passes before (front ++ unread) none).least)) (λ failed. (cc)) (omega arith) (omega arith) refl
+    block_missing before front unread unread NoMemory 0 upper_bound (inr (inr refl))
+    (λ none. omega (arith, (passes before (front ++ unread) none).least)) (λ failed. (cc)) (omega arith) (omega arith) refl
 
 -- the first 12 bytes tell a block's length, where they pass
-block_length-whole : (before : Option Section) (front unread : List ℕ) → 12 ≤ length front → first_failing (frame_checks (order_before before) (front ++ unread)) ≡ None
+block_length-whole : (before : Option Section) (front unread : List ℕ) → 12 ≤ length front
+    → first_failing (frame_checks (order_before before) (front ++ unread)) ≡ None
     → block_length before (front ++ unread) ≡ Some (block_size before (front ++ unread))
 block_length-whole before front unread enough none =
-    length_by_header-whole 12 (front ++ unread) (frame_checks (order_before before) (front ++ unread)) (block_size before (front ++ unread)) (omega (arith, enough, length-append front unread)) none
+    length_by_header-whole 12 (front ++ unread) (frame_checks (order_before before) (front ++ unread)) (block_size before (front ++ unread))
+    (omega (arith, enough, length-append front unread)) none
 
 -- a block whose first bytes pass takes memory where there is less room
-pub block-exceeds : (before : Option Section) (section : Option Order) (front unread : List ℕ) (frame : Frame) (room : ℕ) → order_before before ≡ section → length front ≡ 12
+pub block-exceeds : (before : Option Section) (section : Option Order) (front unread : List ℕ) (frame : Frame) (room : ℕ)
+    → order_before before ≡ section → length front ≡ 12
     → FrontSays section front frame → room < frame.length → room < unwrap_or (block_length before (front ++ unread)) 0
 block-exceeds before section front unread frame room is upper_bound said less =
     let both = says_after before section front unread frame is (omega arith) said in
@@ -111,11 +126,14 @@ block-exceeds before section front unread frame room is upper_bound said less =
     let long : unwrap_or (block_length before (front ++ unread)) 0 ≡ block_size before (front ++ unread) = ap (λ (o : Option ℕ). unwrap_or o 0) stated in
     omega (arith, less, size, long)
 
-pub frame-has_memory : (section : Option Order) (front : List ℕ) (answer : Result Frame Fault) (fault : Fault) → answer ≡ checked (frame_fault section front) (frame_in section front) → answer ≡ Err fault
+pub frame-has_memory : (section : Option Order) (front : List ℕ) (answer : Result Frame Fault) (fault : Fault)
+    → answer ≡ checked (frame_fault section front) (frame_in section front) → answer ≡ Err fault
     → fault ≡ NoMemory → ⊥
-frame-has_memory section front answer fault is err = own-not_memory fault (own-frame section front fault (checked_err (frame_fault section front) (frame_in section front) fault (sym is ∙ err)))
+frame-has_memory section front answer fault is err =
+    own-not_memory fault (own-frame section front fault (checked_err (frame_fault section front) (frame_in section front) fault (sym is ∙ err)))
 
-pub rest_of_block : (before : Option Section) (section : Option Order) (front unread unread' : List ℕ) (frame : Frame) (fault : Fault) → order_before before ≡ section → length front ≡ 12
+pub rest_of_block : (before : Option Section) (section : Option Order) (front unread unread' : List ℕ) (frame : Frame) (fault : Fault)
+    → order_before before ≡ section → length front ≡ 12
     → FrontSays section front frame → frame.length ≤ most_block → RestMissing (length front) frame.length unread unread' fault
     → BlockMissing before (front ++ unread) unread' fault
 rest_of_block before section front unread unread' frame fault is upper_bound said small missing =
@@ -137,11 +155,14 @@ pub whole_came : (section : Option Order) (front unread unread' unit buffer : Li
     → take frame.length buffer ≡ unit → take (length front) unit ≡ front → unread ≡ drop (length front) unit ++ unread'
     → WholeCame section (front ++ unread) buffer frame unread'
 whole_came section front unread unread' unit buffer frame upper_bound said there same rest =
-    let joined : front ++ drop (length front) unit ≡ unit = ap (λ (l : List ℕ). l ++ drop (length front) unit) (sym same) ∙ take-append-drop (length front) unit in
+    let joined : front ++ drop (length front) unit ≡ unit = ap (λ (l : List ℕ). l ++ drop (length front) unit) (sym same)
+    ∙ take-append-drop (length front) unit in
     record {
-      passes = rw there (ap (frame_fault section) (sym joined) ∙ ap first_failing (frame_checks-append section front (drop (length front) unit) (omega arith)) ∙ said.passes);
+      passes = rw there (ap (frame_fault section) (sym joined)
+          ∙ ap first_failing (frame_checks-append section front (drop (length front) unit) (omega arith)) ∙ said.passes);
       says = rw there (ap (frame_in section) (sym joined) ∙ frame_in-append section front (drop (length front) unit) (omega arith) ∙ said.says);
-      splits = rw there (ap (λ (l : List ℕ). front ++ l) rest ∙ sym (append_assoc front (drop (length front) unit) unread') ∙ ap (λ (l : List ℕ). l ++ unread') joined);
+      splits = rw there (ap (λ (l : List ℕ). front ++ l) rest ∙ sym (append_assoc front (drop (length front) unit) unread')
+          ∙ ap (λ (l : List ℕ). l ++ unread') joined);
     }
 
 -- the frame of a block is that of the text that begins with it
@@ -159,18 +180,21 @@ framed_block before section block more frame is enough none says = record {
 }
 
 -- a block that doesn't find its place
-pub entry_refused : (before : Option Section) (section : Option Order) (interfaces : List Described) (text unread' block buffer : List ℕ) (frame : Frame) (fault : Fault)
+pub entry_refused : (before : Option Section) (section : Option Order) (interfaces : List Described) (text unread' block buffer : List ℕ)
+    (frame : Frame) (fault : Fault)
     → order_before before ≡ section → interfaces_before before ≡ interfaces → 12 ≤ frame.length → frame.length ≤ most_in_unit → frame.length ≤ length buffer
     → WholeCame section text buffer frame unread' → block ≡ take frame.length buffer → IsEntryFault frame interfaces block fault
     → BlockMissing before text unread' fault
 entry_refused before section interfaces text unread' block buffer frame fault is same least small room came block_is entry =
     let size : length block ≡ frame.length = ap length block_is ∙ length-take-le frame.length buffer room in
     let splits : text ≡ block ++ unread' = came.splits ∙ ap (λ (l : List ℕ). l ++ unread') (sym block_is) in
-    let f = framed_block before section block unread' frame is (omega arith) (ap (frame_fault section) block_is ∙ came.passes) (ap (frame_in section) block_is ∙ came.says) in
+    let f = framed_block before section block unread' frame is (omega arith) (ap (frame_fault section) block_is ∙ came.passes)
+    (ap (frame_in section) block_is ∙ came.says) in
     let whole : block_size before (block ++ unread') ≡ frame.length = ap (λ (g : Frame). g.length) f.following in
     let long : length (block ++ unread') ≡ length block + length unread' = length-append block unread' in
     let blocked : first_failing (block_checks (frame_after before (block ++ unread')) (block ++ unread')) ≡ first_failing (block_checks frame block) =
-    ap (λ (g : Frame). first_failing (block_checks g (block ++ unread'))) f.following ∙ ap first_failing (block_checks-append frame block unread' least (omega arith)) in
+    ap (λ (g : Frame). first_failing (block_checks g (block ++ unread'))) f.following
+    ∙ ap first_failing (block_checks-append frame block unread' least (omega arith)) in
     let parts : parts_after before (block ++ unread') ≡ parts_in frame block =
     ap (λ (g : Frame). parts_in g (block ++ unread')) f.following ∙ parts_in-append frame block unread' least (omega arith) in
     let P : List ℕ → Type 0 = λ t. BlockMissing before t unread' fault in
@@ -202,11 +226,13 @@ pub adds-describes : (before : Option Section) (section : Option Order) (interfa
 adds-describes before section interfaces text unread' block buffer frame is same least room came block_is adds =
     let size : length block ≡ frame.length = ap length block_is ∙ length-take-le frame.length buffer room in
     let splits : text ≡ block ++ unread' = came.splits ∙ ap (λ (l : List ℕ). l ++ unread') (sym block_is) in
-    let f = framed_block before section block unread' frame is (omega arith) (ap (frame_fault section) block_is ∙ came.passes) (ap (frame_in section) block_is ∙ came.says) in
+    let f = framed_block before section block unread' frame is (omega arith) (ap (frame_fault section) block_is ∙ came.passes)
+    (ap (frame_in section) block_is ∙ came.says) in
     let whole : block_size before (block ++ unread') ≡ frame.length = ap (λ (g : Frame). g.length) f.following in
     let long : length (block ++ unread') ≡ length block + length unread' = length-append block unread' in
     let blocked : first_failing (block_checks (frame_after before (block ++ unread')) (block ++ unread')) ≡ first_failing (block_checks frame block) =
-    ap (λ (g : Frame). first_failing (block_checks g (block ++ unread'))) f.following ∙ ap first_failing (block_checks-append frame block unread' least (omega arith)) in
+    ap (λ (g : Frame). first_failing (block_checks g (block ++ unread'))) f.following
+    ∙ ap first_failing (block_checks-append frame block unread' least (omega arith)) in
     let parts : parts_after before (block ++ unread') ≡ parts_in frame block =
     ap (λ (g : Frame). parts_in g (block ++ unread')) f.following ∙ parts_in-append frame block unread' least (omega arith) in
     let P : List ℕ → Type 0 = λ t. Describes before t in
@@ -224,26 +250,32 @@ section_same : (before : Option Section) (order : Order) (interfaces : List Desc
 section_same before order interfaces SectionParts same = refl
 section_same before order interfaces _ same = rw same refl
 
-packet_if_any : (order : Order) (before : Option Section) (interfaces : List Described) (block : List ℕ) (parts : Parts) (spans : Option PacketSpans) → interfaces_before before ≡ interfaces → parts_after before block ≡ parts
+packet_if_any : (order : Order) (before : Option Section) (interfaces : List Described) (block : List ℕ) (parts : Parts) (spans : Option PacketSpans)
+    → interfaces_before before ≡ interfaces → parts_after before block ≡ parts
     → PacketIfAny order interfaces parts block spans → BlockPacketIfAny order before block spans
-packet_if_any order before interfaces block parts None same is none = ap₂ (λ (i : List Described) (p : Parts). option_to_list (packet_by i p)) same is ∙ ap option_to_list none
+packet_if_any order before interfaces block parts None same is none = ap₂ (λ (i : List Described) (p : Parts). option_to_list (packet_by i p)) same is
+    ∙ ap option_to_list none
 packet_if_any order before interfaces block parts (Some spans) same is stands = record {
   packet = stands.packet;
   stands = ap₂ (λ (i : List Described) (p : Parts). option_to_list (packet_by i p)) same is ∙ ap option_to_list stands.stands;
   is_lent = ap (λ (i : List Described). held_packet order i spans (span_bytes spans.bytes block) (span_bytes spans.options block)) same ∙ stands.is_lent;
 }
 
-pub block_came : (before : Option Section) (section : Option Order) (interfaces interfaces' : List Described) (text unread' block buffer : List ℕ) (frame : Frame) (spans : Option PacketSpans)
+pub block_came : (before : Option Section) (section : Option Order) (interfaces interfaces' : List Described) (text unread' block buffer : List ℕ)
+    (frame : Frame) (spans : Option PacketSpans)
     → order_before before ≡ section → interfaces_before before ≡ interfaces → 12 ≤ frame.length → frame.length ≤ length buffer
     → WholeCame section text buffer frame unread' → block ≡ take frame.length buffer → Enters frame interfaces block spans interfaces'
     → BlockCame before text buffer frame.order frame.length spans interfaces' unread'
 block_came before section interfaces interfaces' text unread' block buffer frame spans is same least room came block_is enters =
     let size : length block ≡ frame.length = ap length block_is ∙ length-take-le frame.length buffer room in
-    let f = framed_block before section block [] frame is (omega arith) (ap (frame_fault section) block_is ∙ came.passes) (ap (frame_in section) block_is ∙ came.says) in
-    let framed : first_failing (frame_checks (order_before before) block) ≡ None = ap (λ o. frame_fault o block) is ∙ ap (frame_fault section) block_is ∙ came.passes in
+    let f = framed_block before section block [] frame is (omega arith) (ap (frame_fault section) block_is ∙ came.passes)
+    (ap (frame_in section) block_is ∙ came.says) in
+    let framed : first_failing (frame_checks (order_before before) block) ≡ None = ap (λ o. frame_fault o block) is ∙ ap (frame_fault section)
+    block_is ∙ came.passes in
     let whole : block_size before block ≡ frame.length = ap (λ (g : Frame). g.length) f.alone in
     let parts : parts_after before block ≡ parts_in frame block = ap (λ (g : Frame). parts_in g block) f.alone in
-    let blocked : first_failing (block_checks (frame_after before block) block) ≡ None = ap (λ (g : Frame). first_failing (block_checks g block)) f.alone ∙ enters.passes in
+    let blocked : first_failing (block_checks (frame_after before block) block) ≡ None = ap (λ (g : Frame). first_failing (block_checks g block))
+    f.alone ∙ enters.passes in
     let among : unit_fault before block ≡ None =
     unit_fault-among before block (omega arith) framed (omega arith) blocked
     ∙ ap₂ (λ (i : List Described) (p : Parts). first_failing (checks_among i p)) same parts ∙ enters.among in

@@ -2,8 +2,19 @@
 use Rattle.std.proofs.lemmas.Bool.{cases_lt}
 use Rattle.cap_io.proofs.BlocksCame.{BlockCame, BlockMissing, Describes}
 use Rattle.cap_io.proofs.Came.{Taken-following, error_is, most_taken-file}
-use Rattle.cap_io.proofs.Common.{◌≡◌, ℕ, ◌+◌, ◌<◌, ◌≤◌, ◌^◌, IsTrue, Result, Ok, Err, inl, inr, Bool, true, false, List, [], ◌∷◌, ◌++◌, length, take, Option, Some, None, is_some, refl, sym, ap, ◌∙◌, subst, arith, unwrap_or, if◌then◌else◌, nat_le, slice_get, option_map, option_or, option_to_list, length-append, length-take-le, All-nil, Captured, Fault, ReadFailed, Truncated, Order, Little, u32_in, Head, Parts, SectionParts, EnhancedParts, SimpleParts, body_in, parts_in, parts_in_body, frame_in, is_section, magic_order, order_in, type_in, type_of_block, Described, FitSection, IsBlock, Section, frame_after, interfaces_before, order_before, packet_by, packets_in, parts_after, section_after, section_by, unit_fault, passes, unit_fault-few, Frame, PacketSpans, FileState, Enters, KnowsIfAny, held_packet, section_of, Declared, Nothing, PcapFile, PcapngFile, Front, IsUnit, a_pcap_header, a_first_block, a_block, file_after, first_link_after, front_of, is_pcapng, TakesMemory, declared_by, NoMemory, most_in_unit, read_failures, most_taken, packet_in_unit, decisive_length, block_length, BeginsBlock, FrontMissing, HasInterface, HeaderCame, IsSized, IsConsistent, PacketCame, ReadsUnit, NoUnitCame, RestMissing, UnitCame, UnitPassed, known_first_link, known_order, section_before, unit_size, span_bytes, is_interface}
-use Rattle.cap_io.proofs.Fronts.{block_unless, front_of-following, front_of-pcapng, front_of_block-none, is_pcapng-append, most_taken-block, decisive_length-pcapng, decisive_block_length, decisive_block_length-few, is_section-append}
+use Rattle.cap_io.proofs.Common.{◌≡◌, ℕ, ◌+◌, ◌<◌, ◌≤◌, ◌^◌, IsTrue, Result, Ok, Err, inl, inr, Bool, true, false, List, [], ◌∷◌, ◌++◌, length, take, Option}
+use Rattle.cap_io.proofs.Common.{Some, None, is_some, refl, sym, ap, ◌∙◌, subst, arith, unwrap_or, if◌then◌else◌, nat_le, slice_get, option_map, option_or}
+use Rattle.cap_io.proofs.Common.{option_to_list, length-append, length-take-le, All-nil, Captured, Fault, ReadFailed, Truncated, Order, Little, u32_in, Head}
+use Rattle.cap_io.proofs.Common.{Parts, SectionParts, EnhancedParts, SimpleParts, body_in, parts_in, parts_in_body, frame_in, is_section, magic_order, order_in}
+use Rattle.cap_io.proofs.Common.{type_in, type_of_block, Described, FitSection, IsBlock, Section, frame_after, interfaces_before, order_before, packet_by}
+use Rattle.cap_io.proofs.Common.{packets_in, parts_after, section_after, section_by, unit_fault, passes, unit_fault-few, Frame, PacketSpans, FileState, Enters}
+use Rattle.cap_io.proofs.Common.{KnowsIfAny, held_packet, section_of, Declared, Nothing, PcapFile, PcapngFile, Front, IsUnit, a_pcap_header, a_first_block}
+use Rattle.cap_io.proofs.Common.{a_block, file_after, first_link_after, front_of, is_pcapng, TakesMemory, declared_by, NoMemory, most_in_unit, read_failures}
+use Rattle.cap_io.proofs.Common.{most_taken, packet_in_unit, decisive_length, block_length, BeginsBlock, FrontMissing, HasInterface, HeaderCame, IsSized}
+use Rattle.cap_io.proofs.Common.{IsConsistent, PacketCame, ReadsUnit, NoUnitCame, RestMissing, UnitCame, UnitPassed, known_first_link, known_order}
+use Rattle.cap_io.proofs.Common.{section_before, unit_size, span_bytes, is_interface}
+use Rattle.cap_io.proofs.Fronts.{block_unless, front_of-following, front_of-pcapng, front_of_block-none, is_pcapng-append, most_taken-block}
+use Rattle.cap_io.proofs.Fronts.{decisive_length-pcapng, decisive_block_length, decisive_block_length-few, is_section-append}
 use Rattle.cap_io.proofs.Units.{and_second, first-section}
 use Rattle.cap_pcapng.specs.declared.frames.BlockType.{BlockType}
 use Rattle.cap_octet.specs.declared.device.Input.{Ghosts}
@@ -47,11 +58,13 @@ stands_at (state.Pcap head) interfaces front more enough begins = absurd begins
 stands_at (state.Pcapng order first) interfaces front more enough begins =
     record { front = front_of-following first (section_of order interfaces) (front ++ more) (omega (arith, length-append front more)); reads = refl }
 
-pub refused-block : (file : FileState) (interfaces : List Described) (front unread unread' : List ℕ) (fault : Fault) → length front ≡ 12 → BeginsBlock file front
+pub refused-block : (file : FileState) (interfaces : List Described) (front unread unread' : List ℕ) (fault : Fault) → length front ≡ 12
+    → BeginsBlock file front
     → BlockMissing (section_before file interfaces) (front ++ unread) unread' fault → NoUnitCame (declared_by file interfaces) (front ++ unread) unread' fault
 refused-block file interfaces front unread unread' fault upper_bound begins m =
     let stands = stands_at file interfaces front unread (omega arith) begins in
-    missing-refuses (declared_by file interfaces) (known_first_link file) (section_before file interfaces) (front ++ unread) unread' fault stands.front stands.reads m
+    missing-refuses (declared_by file interfaces) (known_first_link file) (section_before file interfaces) (front ++ unread) unread' fault
+    stands.front stands.reads m
 
 -- a section header holds no packet
 section-parts : (before : Option Section) (block : List ℕ) → is_section block ≡ true → parts_after before block ≡ SectionParts
@@ -72,13 +85,15 @@ block-takes (state.Pcapng order first) interfaces front unread room enough begin
 pub interface-takes : (file : FileState) (interfaces : List Described) (front unread : List ℕ) (room : ℕ) → 12 ≤ length front → BeginsBlock file front
     → Describes (section_before file interfaces) (front ++ unread) → TakesMemory room (declared_by file interfaces) (front ++ unread)
 interface-takes state.Unknown interfaces front unread room enough begins d =
-    let none : is_interface (parts_after None (front ++ unread)) ≡ false = ap is_interface (section-parts None (front ++ unread) (is_section-append front unread (omega arith) ∙ begins)) in
+    let none : is_interface (parts_after None (front ++ unread)) ≡ false =
+    ap is_interface (section-parts None (front ++ unread) (is_section-append front unread (omega arith) ∙ begins)) in
     absurd (let both : true ≡ false = sym d.is ∙ none in cc)
 interface-takes (state.Pcap head) interfaces front unread room enough begins d = absurd begins
 interface-takes (state.Pcapng order first) interfaces front unread room enough begins d = inr (d.passes, d.is)
 
 -- the front of the first block didn't come
-pub rest_of_front : (first unread unread' : List ℕ) (fault : Fault) (size : ℕ) → size ≡ 12 → length first ≡ 4 → is_section first ≡ true → RestMissing (length first) size unread unread' fault
+pub rest_of_front : (first unread unread' : List ℕ) (fault : Fault) (size : ℕ) → size ≡ 12 → length first ≡ 4 → is_section first ≡ true
+    → RestMissing (length first) size unread unread' fault
     → NoUnitCame Nothing (first ++ unread) unread' fault
 rest_of_front first unread unread' fault size twelve four is missing =
     let kind : is_pcapng (first ++ unread) ≡ true = is_pcapng-append first unread (omega arith) ∙ is in
@@ -91,7 +106,8 @@ rest_of_front first unread unread' fault size twelve four is missing =
       ];
       taken = Taken-following Nothing (first ++ unread) unread unread' first fault missing.count refl missing.there missing.rest
           (most_taken-file (first ++ unread) (length first + missing.count) (omega (arith, missing.within)))
-          (λ failed. rw (decisive_length-pcapng (first ++ unread) kind) (decisive_block_length-few None (first ++ unread) (length first + missing.count) (omega (arith, missing.within))));
+          (λ failed. rw (decisive_length-pcapng (first ++ unread) kind)
+          (decisive_block_length-few None (first ++ unread) (length first + missing.count) (omega (arith, missing.within))));
     }
 
 front-taken : (link : Option ℕ) (section : Section) (text : List ℕ) (count : ℕ) → count ≤ 12 → count ≤ most_taken (front_of (PcapngFile link section) text)
@@ -104,18 +120,19 @@ block_front : (link : Option ℕ) (section : Section) (unread unread' : List ℕ
     → NoUnitCame (PcapngFile link section) unread unread' fault
 block_front link section unread unread' fault m =
     elim m.some [
-      | inl some ↦ missing-refuses (PcapngFile link section) link (Some section) unread unread' fault (front_of-following link section unread some) refl (record {
-        why = elim m.missing.why [
-          | inl short ↦ inl (rw short.0 (unit_fault-few (Some section) unread (omega (arith, short.1))))
-          | inr failed ↦ inr (inl failed)
-        ];
-        count = m.missing.count;
-        within = λ none. omega (arith, m.missing.within, (passes (Some section) unread none).least);
-        upper_bound = omega (arith, m.missing.within);
-        unfinished = λ failed. decisive_block_length-few (Some section) unread m.missing.count (omega (arith, m.missing.within));
-        there = m.missing.there;
-        rest = m.missing.rest;
-      })
+      | inl some ↦ missing-refuses (PcapngFile link section) link (Some section) unread unread' fault (front_of-following link section unread some)
+          refl (record {
+            why = elim m.missing.why [
+              | inl short ↦ inl (rw short.0 (unit_fault-few (Some section) unread (omega (arith, short.1))))
+              | inr failed ↦ inr (inl failed)
+            ];
+            count = m.missing.count;
+            within = λ none. omega (arith, m.missing.within, (passes (Some section) unread none).least);
+            upper_bound = omega (arith, m.missing.within);
+            unfinished = λ failed. decisive_block_length-few (Some section) unread m.missing.count (omega (arith, m.missing.within));
+            there = m.missing.there;
+            rest = m.missing.rest;
+          })
       | inr failed ↦ record {
         why = inr (inl failed);
         taken = record {
@@ -136,18 +153,21 @@ first-packets block is =
     ap (λ p. option_to_list (packet_by [] p)) (section-parts None block kind)
 
 -- a block with a packet leaves its section
-kept_by : (section : Section) (order : Order) (parts : Parts) (packet : Captured) → order ≡ section.order → option_to_list (packet_by section.interfaces parts) ≡ packet ∷ []
+kept_by : (section : Section) (order : Order) (parts : Parts) (packet : Captured) → order ≡ section.order
+    → option_to_list (packet_by section.interfaces parts) ≡ packet ∷ []
     → section_by (Some section) order parts ≡ section
 kept_by section order (EnhancedParts number ticks captured orig own rest) packet same is = ap (λ o. section_of o section.interfaces) same
 kept_by section order (SimpleParts orig rest) packet same is = ap (λ o. section_of o section.interfaces) same
 kept_by section order _ packet same is = (cc)
 
-pub section-kept : (section : Section) (block : List ℕ) (packet : Captured) → packets_in (Some section) block ≡ packet ∷ [] → section_after (Some section) block ≡ section
+pub section-kept : (section : Section) (block : List ℕ) (packet : Captured) → packets_in (Some section) block ≡ packet ∷ []
+    → section_after (Some section) block ≡ section
 section-kept section block packet is = by_kind (is_section block) refl
   where
     by_kind : (b : Bool) → is_section block ≡ b → section_after (Some section) block ≡ section
     by_kind true kind =
-        let none : [] ≡ packet ∷ [] = sym (ap (λ p. option_to_list (packet_by section.interfaces p)) (section-parts (Some section) block kind)) ∙ is in absurd (cc)
+        let none : [] ≡ packet ∷ [] = sym (ap (λ p. option_to_list (packet_by section.interfaces p)) (section-parts (Some section) block kind)) ∙ is
+        in absurd (cc)
     by_kind false kind =
         kept_by section (order_in (Some section.order) block) (parts_after (Some section) block) packet
         (ap (λ (b : Bool). unwrap_or (if b then magic_order block else Some section.order) Little) kind) is
@@ -163,15 +183,22 @@ first-again link section = by_link link (option_map (λ (i : Described). i.link)
 -- ---- a block as a unit
 
 pub header_passed : (unread unread' : List ℕ) (head : Head) → HeaderCame unread head unread' → UnitPassed Nothing unread 24 (PcapFile head) unread'
-header_passed unread unread' head came = record { bytes = came.bytes; unit = a_pcap_header came.bytes head came.header; sized = came.header.whole; splits = came.splits }
+header_passed unread unread' head came = record {
+  bytes = came.bytes;
+  unit = a_pcap_header came.bytes head came.header;
+  sized = came.header.whole;
+  splits = came.splits;
+}
 
 -- the same units after equal bytes
-pub UnitPassed-following : (unread unread1 unread' first : List ℕ) (size : ℕ) (declared : Declared) → unread ≡ first ++ unread1 → UnitPassed Nothing (first ++ unread1) size declared unread' → UnitPassed Nothing unread size declared unread'
+pub UnitPassed-following : (unread unread1 unread' first : List ℕ) (size : ℕ) (declared : Declared) → unread ≡ first ++ unread1
+    → UnitPassed Nothing (first ++ unread1) size declared unread' → UnitPassed Nothing unread size declared unread'
 UnitPassed-following unread unread1 unread' first size declared splits came =
     record { bytes = came.bytes; unit = came.unit; sized = came.sized; splits = splits ∙ came.splits }
 
 -- a packet whose unit has a given number of bytes
-packet_at_size : (link : Option ℕ) (section : Section) (unread buffer : List ℕ) (spans : PacketSpans) (packet : Captured) (declared' : Declared) (size : ℕ) (unread' : List ℕ) → spans.size ≡ size
+packet_at_size : (link : Option ℕ) (section : Section) (unread buffer : List ℕ) (spans : PacketSpans) (packet : Captured) (declared' : Declared)
+    (size : ℕ) (unread' : List ℕ) → spans.size ≡ size
     → packet_in_unit (PcapngFile link section) spans (take size buffer) ≡ Some packet
     → IsUnit (PcapngFile link section) (take size buffer) (packet ∷ []) (PcapngFile link section)
     → declared' ≡ PcapngFile link section
@@ -188,9 +215,11 @@ packet_at_size link section unread buffer spans packet declared' size unread' wh
     }
 
 -- what is known of a file after a block without a packet
-pub passed-block : (file : FileState) (interfaces interfaces' : List Described) (front unread buffer unread' : List ℕ) (order : Order) (size : ℕ) → BeginsBlock file front → size ≤ length buffer
+pub passed-block : (file : FileState) (interfaces interfaces' : List Described) (front unread buffer unread' : List ℕ) (order : Order) (size : ℕ)
+    → BeginsBlock file front → size ≤ length buffer
     → BlockCame (section_before file interfaces) (front ++ unread) buffer order size None interfaces' unread'
-    → UnitPassed (declared_by file interfaces) (front ++ unread) size (PcapngFile (first_link_after (known_first_link file) (section_of order interfaces')) (section_of order interfaces')) unread'
+    → UnitPassed (declared_by file interfaces) (front ++ unread) size
+    (PcapngFile (first_link_after (known_first_link file) (section_of order interfaces')) (section_of order interfaces')) unread'
 passed-block state.Unknown interfaces interfaces' front unread buffer unread' order size begins there came =
     let block : List ℕ = take size buffer in
     let Q : List Captured → Type 0 = λ qs. IsUnit Nothing block qs (file_after None None block) in
@@ -215,7 +244,8 @@ passed-block (state.Pcapng own link) interfaces interfaces' front unread buffer 
     }
 
 -- after a block with a packet the same is known
-pub packet-block : (file : FileState) (interfaces interfaces' : List Described) (front unread buffer unread' : List ℕ) (order : Order) (size : ℕ) (spans : PacketSpans) → BeginsBlock file front → size ≤ length buffer
+pub packet-block : (file : FileState) (interfaces interfaces' : List Described) (front unread buffer unread' : List ℕ) (order : Order) (size : ℕ)
+    (spans : PacketSpans) → BeginsBlock file front → size ≤ length buffer
     → IsConsistent file interfaces → spans.size ≡ size → interfaces' ≡ interfaces
     → BlockCame (section_before file interfaces) (front ++ unread) buffer order size (Some spans) interfaces' unread'
     → PacketCame (declared_by file interfaces) (front ++ unread) buffer spans (declared_by file interfaces') unread'
@@ -240,17 +270,21 @@ packet-block (state.Pcapng own link) interfaces interfaces' front unread buffer 
 -- ---- what holds on any device
 
 -- a block with a packet leaves the interfaces
-pub interfaces-kept : (frame : Frame) (interfaces interfaces' : List Described) (block : List ℕ) (spans : PacketSpans) → Enters frame interfaces block (Some spans) interfaces' → interfaces' ≡ interfaces
+pub interfaces-kept : (frame : Frame) (interfaces interfaces' : List Described) (block : List ℕ) (spans : PacketSpans) → Enters frame interfaces block
+    (Some spans) interfaces' → interfaces' ≡ interfaces
 interfaces-kept frame interfaces interfaces' block spans enters =
     ap (λ (s : Section). s.interfaces) (sym enters.section
     ∙ kept_by (section_of frame.order interfaces) frame.order (parts_in frame block) enters.packet.packet refl (ap option_to_list enters.packet.stands))
 
 -- a section header has none
-pub has-section : (file : FileState) (front block : List ℕ) (frame : Frame) (interfaces interfaces' : List Described) (spans : PacketSpans) → BeginsBlock file front
-    → frame_in (known_order file) front ≡ frame → Enters frame interfaces block (Some spans) interfaces' → KnowsIfAny interfaces' (Some spans) → HasInterface (declared_by file interfaces') spans
+pub has-section : (file : FileState) (front block : List ℕ) (frame : Frame) (interfaces interfaces' : List Described) (spans : PacketSpans)
+    → BeginsBlock file front
+    → frame_in (known_order file) front ≡ frame → Enters frame interfaces block (Some spans) interfaces' → KnowsIfAny interfaces' (Some spans)
+    → HasInterface (declared_by file interfaces') spans
 has-section state.Unknown front block frame interfaces interfaces' spans begins is enters knows =
     let kind : frame.block_type ≡ BlockType.Section =
-    ap (λ (f : Frame). f.block_type) (sym is) ∙ ap (λ (b : Bool). if b then BlockType.Section else type_of_block (u32_in (order_in None front) front 0)) begins in
+    ap (λ (f : Frame). f.block_type) (sym is)
+    ∙ ap (λ (b : Bool). if b then BlockType.Section else type_of_block (u32_in (order_in None front) front 0)) begins in
     let none : parts_in frame block ≡ SectionParts = ap (λ k. parts_in_body k frame.order (body_in frame block)) kind in
     let no_packet : None ≡ Some enters.packet.packet = sym (ap (packet_by interfaces) none) ∙ enters.packet.stands in absurd (cc)
 has-section (state.Pcap head) front block frame interfaces interfaces' spans begins is enters knows = absurd begins
@@ -260,13 +294,15 @@ none-fit : FitSection []
 none-fit = record { count = omega arith; names = All-nil (λ (i : Described). length i.name ≤ 255) }
 
 -- the interfaces of a section that a block follows are no more than may be
-pub section-fits : (file : FileState) (interfaces : List Described) (front : List ℕ) → BeginsBlock file front → IsConsistent file interfaces → FitSection interfaces
+pub section-fits : (file : FileState) (interfaces : List Described) (front : List ℕ) → BeginsBlock file front → IsConsistent file interfaces
+    → FitSection interfaces
 section-fits state.Unknown interfaces front begins none = rw none none-fit
 section-fits (state.Pcap head) interfaces front begins known = absurd begins
 section-fits (state.Pcapng order first) interfaces front begins known = known.1
 
 -- the bytes that a device gave stay few after a block, though it be no longer than its front
-pub small-following : (before following front size : ℕ) → front ≡ 12 → following + front ≡ before + size → 12 ≤ size → (front < size → following < 2 ^ 63) → before < 2 ^ 63 → following < 2 ^ 63
+pub small-following : (before following front size : ℕ) → front ≡ 12 → following + front ≡ before + size → 12 ≤ size
+    → (front < size → following < 2 ^ 63) → before < 2 ^ 63 → following < 2 ^ 63
 small-following before following front size twelve counted least longer small =
     elim (cases_lt front size) [ inl less ↦ longer less | inr most ↦ omega (arith, twelve, counted, least, most, small) ]
 
@@ -275,14 +311,16 @@ order-held state.Unknown interfaces = refl
 order-held (state.Pcap head) interfaces = refl
 order-held (state.Pcapng order first) interfaces = refl
 
-pub interfaces-held : (file : FileState) (interfaces : List Described) (front : List ℕ) → BeginsBlock file front → IsConsistent file interfaces → interfaces_before (section_before file interfaces) ≡ interfaces
+pub interfaces-held : (file : FileState) (interfaces : List Described) (front : List ℕ) → BeginsBlock file front → IsConsistent file interfaces
+    → interfaces_before (section_before file interfaces) ≡ interfaces
 interfaces-held state.Unknown interfaces front begins exact = sym exact
 interfaces-held (state.Pcap head) interfaces front begins exact = absurd begins
 interfaces-held (state.Pcapng order first) interfaces front begins exact = refl
 
 -- ---- a block of a file that has begun
 
-pub begun-front : (file : FileState) (interfaces : List Described) (unread unread' : List ℕ) (fault : Fault) → IsTrue (is_some (known_order file)) → FrontMissing 12 unread unread' fault
+pub begun-front : (file : FileState) (interfaces : List Described) (unread unread' : List ℕ) (fault : Fault) → IsTrue (is_some (known_order file))
+    → FrontMissing 12 unread unread' fault
     → NoUnitCame (declared_by file interfaces) unread unread' fault
 begun-front (state.Pcapng order first) interfaces unread unread' fault begun m = block_front first (section_of order interfaces) unread unread' fault m
 begun-front _ interfaces unread unread' fault begun m = absurd (cc)
@@ -295,41 +333,106 @@ pub no-error : {X E : Type 0} {x : X} {e : E} → Ok x ≡ Err e → ⊥
 no-error e = (cc)
 
 -- a call that failed while it read a unit moved its device as the whole did
-pub moves-failed : {I X Y : Type 0} {device : Ghosts I} {old new : I} {front most most' : ℕ} {count : X → ℕ} {count' : Y → ℕ} (fault : Fault) → Moves device old new front count most (Err fault) → most ≤ most'
+pub moves-failed : {I X Y : Type 0} {device : Ghosts I} {old new : I} {front most most' : ℕ} {count : X → ℕ} {count' : Y → ℕ} (fault : Fault)
+    → Moves device old new front count most (Err fault) → most ≤ most'
     → Moves device old new front count' most' (Err fault)
 moves-failed {X = X} {Y = Y} {device = device} {old = old} fault moves less =
-    record { counted = tt; grown = moves.grown; bounded = tt; at_most = omega (arith, moves.at_most, less); failed = moves.failed ∙ ap (λ n. device.failures old + n) (same_failures X Y fault); sure = moves.sure; enough = moves.enough; told = moves.told }
+    record {
+      counted = tt;
+      grown = moves.grown;
+      bounded = tt;
+      at_most = omega (arith, moves.at_most, less);
+      failed = moves.failed
+          ∙ ap (λ n. device.failures old + n) (same_failures X Y fault);
+      sure = moves.sure;
+      enough = moves.enough;
+      told = moves.told;
+    }
 
 -- two reads of one unit, of which the first one succeeded, moved the device as one
-pub moves-then : {I X Y : Type 0} {device : Ghosts I} {old mid new : I} {front least most : ℕ} {first : Y → ℕ} {count : X → ℕ} (y : Y) (r : Result X Fault) → first y ≡ front → Moves device old mid 0 first least (Ok y)
+pub moves-then : {I X Y : Type 0} {device : Ghosts I} {old mid new : I} {front least most : ℕ} {first : Y → ℕ} {count : X → ℕ} (y : Y)
+    (r : Result X Fault) → first y ≡ front → Moves device old mid 0 first least (Ok y)
     → Moves device mid new front count most r → Moves device old new 0 count most r
-moves-then {front = front} {count = count} y (Ok x) is one two = record { counted = omega (arith, is, one.counted, two.counted); grown = omega (arith, one.grown, two.grown); at_most = tt; failed = omega (arith, one.failed, two.failed); sure = two.sure ∙ one.sure; enough = two.enough; told = λ t. two.told t ∙ one.told t; bounded = λ some. elim (cases_lt front (count x)) [ inl less ↦ two.bounded less | inr all ↦ omega (arith, some, all, one.bounded (omega (arith, is, some, all)), two.counted) ] }
-moves-then y (Err fault) is one two = record { counted = tt; grown = omega (arith, one.grown, two.grown); bounded = tt; at_most = omega (arith, is, one.counted, two.at_most); failed = omega (arith, one.failed, two.failed); sure = two.sure ∙ one.sure; enough = two.enough; told = λ t. two.told t ∙ one.told t }
+moves-then {front = front} {count = count} y (Ok x) is one two = record {
+  counted = omega (arith, is, one.counted, two.counted);
+  grown =
+      omega (arith, one.grown, two.grown);
+  at_most = tt;
+  failed = omega (arith, one.failed, two.failed);
+  sure = two.sure ∙ one.sure;
+  enough =
+      two.enough;
+  told = λ t. two.told t ∙ one.told t;
+  bounded = λ some. elim (cases_lt front (count x)) [
+    | inl less ↦ two.bounded less
+    | inr all ↦
+        omega (arith, some, all, one.bounded (omega (arith, is, some, all)), two.counted)
+  ];
+}
+moves-then y (Err fault) is one two = record {
+  counted = tt;
+  grown = omega (arith, one.grown, two.grown);
+  bounded = tt;
+  at_most =
+      omega (arith, is, one.counted, two.at_most);
+  failed = omega (arith, one.failed, two.failed);
+  sure = two.sure ∙ one.sure;
+  enough = two.enough;
+  told = λ t. two.told t ∙ one.told t;
+}
 
 -- after a read that succeeded no unit came
-pub moves-ended : {I X Y : Type 0} {device : Ghosts I} {old mid : I} {least most : ℕ} {first : Y → ℕ} {count : X → ℕ} (y : Y) (fault : Fault) → read_failures {X = X} (Err fault) ≡ 0 → first y ≤ most → Moves device old mid 0 first least (Ok y)
+pub moves-ended : {I X Y : Type 0} {device : Ghosts I} {old mid : I} {least most : ℕ} {first : Y → ℕ} {count : X → ℕ} (y : Y) (fault : Fault)
+    → read_failures {X = X} (Err fault) ≡ 0 → first y ≤ most → Moves device old mid 0 first least (Ok y)
     → Moves device old mid 0 count most (Err fault)
 moves-ended y fault none less one =
-    record { counted = tt; grown = one.grown; bounded = tt; at_most = omega (arith, one.counted, less); failed = omega (arith, one.failed, none); sure = one.sure; enough = one.enough; told = one.told }
+    record {
+      counted = tt;
+      grown = one.grown;
+      bounded = tt;
+      at_most = omega (arith, one.counted, less);
+      failed = omega (arith, one.failed, none);
+      sure = one.sure;
+      enough = one.enough;
+      told = one.told;
+    }
 
 -- no unit was read
-pub reads-no_unit : {I A : Type 0} (device : Ghosts I) (old : UnitReader I A) (front : List ℕ) (fault : Fault) (new : UnitReader I A) → Moves device old.input new.input (length front) (unit_size new.spans) most_in_unit (Err fault)
+pub reads-no_unit : {I A : Type 0} (device : Ghosts I) (old : UnitReader I A) (front : List ℕ) (fault : Fault) (new : UnitReader I A)
+    → Moves device old.input new.input (length front) (unit_size new.spans) most_in_unit (Err fault)
     → (IsTrue device.tells → NoUnitCame (declared_by old.file old.table) (front ++ device.unread old.input) (device.unread new.input) fault)
-    → (new.file ≡ old.file) × (new.table ≡ old.table) → length old.buffer.items ≤ length new.buffer.items → (length old.buffer.items ≤ most_in_unit → length new.buffer.items ≤ most_in_unit)
-    → (fault ≡ NoMemory → IsTrue device.tells → TakesMemory (length new.buffer.items) (declared_by old.file old.table) (front ++ device.unread old.input)) → ReadsUnit device old front (Err fault) new
+    → (new.file ≡ old.file) × (new.table ≡ old.table) → length old.buffer.items ≤ length new.buffer.items
+    → (length old.buffer.items ≤ most_in_unit → length new.buffer.items ≤ most_in_unit)
+    → (fault ≡ NoMemory → IsTrue device.tells → TakesMemory (length new.buffer.items) (declared_by old.file old.table)
+    (front ++ device.unread old.input)) → ReadsUnit device old front (Err fault) new
 reads-no_unit device old front fault new moves err kept grown bounded memory =
-    record { moves = moves; sized = tt; consistent = tt; known = tt; ok = tt; err = err; kept = kept; grown = grown; bounded = bounded; fits = tt; memory = λ e. memory (error_is e) }
+    record {
+      moves = moves;
+      sized = tt;
+      consistent = tt;
+      known = tt;
+      ok = tt;
+      err = err;
+      kept = kept;
+      grown = grown;
+      bounded = bounded;
+      fits = tt;
+      memory = λ e. memory (error_is e);
+    }
 
 -- what reading after the first bytes of a unit did is what reading it all did
-pub ReadsUnit-following : {I A : Type 0} (device : Ghosts I) (old : UnitReader I A) (mid : I) (front : List ℕ) (r : Result NextUnit Fault) (new : UnitReader I A)
+pub ReadsUnit-following : {I A : Type 0} (device : Ghosts I) (old : UnitReader I A) (mid : I) (front : List ℕ) (r : Result NextUnit Fault)
+    (new : UnitReader I A)
     → device.given mid ≡ device.given old.input + length front → device.failures mid ≡ device.failures old.input → device.sure mid ≡ device.sure old.input
     → (IsTrue device.tells → device.given mid + length (device.unread mid) ≡ device.given old.input + length (device.unread old.input))
     → (0 < length front → device.given mid < 2 ^ 63)
     → (IsTrue device.tells → device.unread old.input ≡ front ++ device.unread mid)
-    → ReadsUnit device (record { input = mid; file = old.file; buffer = old.buffer; table = old.table; spans = old.spans }) front r new → ReadsUnit device old [] r new
+    → ReadsUnit device (record { input = mid; file = old.file; buffer = old.buffer; table = old.table; spans = old.spans }) front r new
+    → ReadsUnit device old [] r new
 ReadsUnit-following device old mid front (Ok c) new given failed sure told small splits reads =
     let m = reads.moves in
-    let P : List ℕ → Type 0 = λ t. UnitCame (declared_by old.file old.table) t new.buffer.items new.spans c (declared_by new.file new.table) (device.unread new.input) in
+    let P : List ℕ → Type 0 = λ t. UnitCame (declared_by old.file old.table) t new.buffer.items new.spans c (declared_by new.file new.table)
+    (device.unread new.input) in
     record {
       moves = record {
         counted = omega (arith, given, m.counted);
@@ -380,5 +483,6 @@ ReadsUnit-following device old mid front (Err fault) new given failed sure told 
       grown = reads.grown;
       bounded = reads.bounded;
       fits = tt;
-      memory = λ e t. subst (λ (text : List ℕ). TakesMemory (length new.buffer.items) (declared_by old.file old.table) text) (sym (splits t)) (reads.memory e t);
+      memory = λ e t. subst (λ (text : List ℕ). TakesMemory (length new.buffer.items) (declared_by old.file old.table) text) (sym (splits t))
+          (reads.memory e t);
     }

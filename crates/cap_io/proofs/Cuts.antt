@@ -1,5 +1,8 @@
 -- Each text has one cut into units.
-use Rattle.cap_io.proofs.Common.{◌≡◌, ℕ, zero, suc, ◌+◌, ◌<◌, ◌≤◌, List, [], ◌++◌, length, take, drop, Option, refl, sym, ◌∙◌, ap, ap₂, arith, zero-add, append_assoc, append-nil, length-drop, take_at, drop_at, take-append-drop, Captured, Fault, Declared, Nothing, IsUnit, Placed, placed_at, AreUnits, no_unit, unit_then, Front, Whole, NoUnit, front_of, items, after_packets, ending_by, EachHasCut, EachHasOneCut, CutTellsItems, add-zero, length-append, Items, no_items, items_with}
+use Rattle.cap_io.proofs.Common.{◌≡◌, ℕ, zero, suc, ◌+◌, ◌<◌, ◌≤◌, List, [], ◌++◌, length, take, drop, Option, refl, sym, ◌∙◌, ap, ap₂, arith, zero-add}
+use Rattle.cap_io.proofs.Common.{append_assoc, append-nil, length-drop, take_at, drop_at, take-append-drop, Captured, Fault, Declared, Nothing, IsUnit, Placed}
+use Rattle.cap_io.proofs.Common.{placed_at, AreUnits, no_unit, unit_then, Front, Whole, NoUnit, front_of, items, after_packets, ending_by, EachHasCut}
+use Rattle.cap_io.proofs.Common.{EachHasOneCut, CutTellsItems, add-zero, length-append, Items, no_items, items_with}
 use Rattle.cap_io.proofs.Units.{front_of-unit, front_of-is}
 use Rattle.cap_io.specs.Capture.{items_within, items_from}
 
@@ -17,7 +20,8 @@ enough-at : (m n : ℕ) (f : Front) (b : Declared) (at : ℕ) (text : List ℕ) 
 enough-at m n (NoUnit why) b at text l r sized same = refl
 enough-at m n (Whole size ps d) b at text l r sized same =
     let p = sized size ps d refl in
-    ap (after_packets (placed_at at ps)) (same d (at + size) (drop size text) (simp length-drop (omega (arith, p.0, p.1))) (simp length-drop (omega (arith, p.0, p.1))))
+    ap (after_packets (placed_at at ps)) (same d (at + size) (drop size text) (simp length-drop (omega (arith, p.0, p.1)))
+    (simp length-drop (omega (arith, p.0, p.1))))
 
 enough : (m n : ℕ) (b : Declared) (at : ℕ) (text : List ℕ) → length text < m → length text < n → items_within m b at text ≡ items_within n b at text
 unfolding items_within
@@ -76,12 +80,14 @@ AreUnits-append {at = at} {ys = ys} {qs = qs'} (unit_then {u = u} {more = more} 
     rw (append_assoc u more ys, append_assoc (placed_at at qs) ps qs') (unit_then one (AreUnits-append units (rw place at later)))
 
 -- nothing of a rest is a unit where it stops
-pub no_unit_in : (declared : Declared) (rest : List ℕ) (why : Option Fault) → front_of declared rest ≡ NoUnit why → (u more : List ℕ) (qs : List Captured) (d : Declared) → IsUnit declared u qs d → rest ≡ u ++ more → ⊥
+pub no_unit_in : (declared : Declared) (rest : List ℕ) (why : Option Fault) → front_of declared rest ≡ NoUnit why
+    → (u more : List ℕ) (qs : List Captured) (d : Declared) → IsUnit declared u qs d → rest ≡ u ++ more → ⊥
 no_unit_in declared rest why stops u more qs d one splits =
     let e : NoUnit why ≡ Whole (length u) qs d = sym stops ∙ ap (front_of declared) splits ∙ front_of-unit one more in cc
 
 -- a rest without a unit stops
-pub stops_for : (declared : Declared) (rest : List ℕ) (front : Front) → front_of declared rest ≡ front → ((u more : List ℕ) (qs : List Captured) (d : Declared) → IsUnit declared u qs d → rest ≡ u ++ more → ⊥)
+pub stops_for : (declared : Declared) (rest : List ℕ) (front : Front) → front_of declared rest ≡ front
+    → ((u more : List ℕ) (qs : List Captured) (d : Declared) → IsUnit declared u qs d → rest ≡ u ++ more → ⊥)
     → (why : Option Fault) × (front_of declared rest ≡ NoUnit why)
 stops_for declared rest (NoUnit why) is last = (why, is)
 stops_for declared rest (Whole size packets after) is last =
@@ -97,7 +103,8 @@ record Same {X : Type 0} (one other following following' : List ℕ) (ps qs : Li
   declared : c ≡ d
 
 -- Two units in front of one text are the same.
-same_unit : {b c d : Declared} {u v : List ℕ} {ps qs : List Captured} → IsUnit b u ps c → IsUnit b v qs d → (x y : List ℕ) → u ++ x ≡ v ++ y → Same u v x y ps qs c d
+same_unit : {b c d : Declared} {u v : List ℕ} {ps qs : List Captured} → IsUnit b u ps c → IsUnit b v qs d → (x y : List ℕ) → u ++ x ≡ v ++ y
+    → Same u v x y ps qs c d
 same_unit {b = b} {c = c} {d = d} {u = u} {v = v} {ps = ps} {qs = qs} one other x y same =
     let e : Whole (length u) ps c ≡ Whole (length v) qs d = sym (front_of-unit one x) ∙ ap (front_of b) same ∙ front_of-unit other y in
     let size : length u ≡ length v = cc in
@@ -111,14 +118,17 @@ same_unit {b = b} {c = c} {d = d} {u = u} {v = v} {ps = ps} {qs = qs} one other 
 abbrev Last : Declared → List ℕ → Type 0
 Last declared rest = (u more : List ℕ) (qs : List Captured) (d : Declared) → IsUnit declared u qs d → rest ≡ u ++ more → ⊥
 
-same_units : {b c d : Declared} {at : ℕ} {us vs : List ℕ} {ps qs : List Placed} → AreUnits b at us ps c → AreUnits b at vs qs d → (x y : List ℕ) → us ++ x ≡ vs ++ y → Last c x → Last d y → Same us vs x y ps qs c d
+same_units : {b c d : Declared} {at : ℕ} {us vs : List ℕ} {ps qs : List Placed} → AreUnits b at us ps c → AreUnits b at vs qs d → (x y : List ℕ) → us
+    ++ x ≡ vs ++ y → Last c x → Last d y → Same us vs x y ps qs c d
 same_units no_unit no_unit x y same last_x last_y = record { bytes = refl; rest = same; packets = refl; declared = refl }
 same_units no_unit (unit_then {u = v} {more = more} one units) x y same last_x last_y =
     absurd (last_x v (more ++ y) _ _ one (same ∙ append_assoc v more y))
 same_units (unit_then {u = u} {more = more} one units) no_unit x y same last_x last_y =
     absurd (last_y u (more ++ x) _ _ one (sym same ∙ append_assoc u more x))
-same_units {at = at} (unit_then {c = c} {u = u} {more = more} {qs = qs} {ps = ps} one units) (unit_then {c = c'} {u = v} {more = more'} {qs = rs} {ps = ps'} other units') x y same last_x last_y =
-    let front : Same u v (more ++ x) (more' ++ y) qs rs c c' = same_unit one other (more ++ x) (more' ++ y) (sym (append_assoc u more x) ∙ same ∙ append_assoc v more' y) in
+same_units {at = at} (unit_then {c = c} {u = u} {more = more} {qs = qs} {ps = ps} one units)
+    (unit_then {c = c'} {u = v} {more = more'} {qs = rs} {ps = ps'} other units') x y same last_x last_y =
+    let front : Same u v (more ++ x) (more' ++ y) qs rs c c' = same_unit one other (more ++ x) (more' ++ y)
+    (sym (append_assoc u more x) ∙ same ∙ append_assoc v more' y) in
     let later = same_units units (rw (front.declared, front.bytes) units') x y front.rest last_x last_y in
     record {
       bytes = ap₂ (λ (a b : List ℕ). a ++ b) front.bytes later.bytes;
@@ -142,7 +152,8 @@ cut_tells text c =
       stops = stop.1;
       items = ap items c.cut.joined ∙ items_from-units c.cut.units c.rest
           ∙ ap (after_packets c.packets) (items_from-stops c.declared (0 + length c.done) c.rest stop.0 stop.1)
-          ∙ ap₂ (λ (l : List Placed) (n : ℕ). record { packets = l; declared = c.declared; ending = ending_by stop.0 n }) (append-nil c.packets) (zero-add (length c.done));
+          ∙ ap₂ (λ (l : List Placed) (n : ℕ). record { packets = l; declared = c.declared; ending = ending_by stop.0 n }) (append-nil c.packets)
+          (zero-add (length c.done));
     }
 
 -- ---- some
@@ -176,7 +187,8 @@ units_by most declared at text (Whole size packets after) is enough following =
       rest = more.rest;
       packets = placed_at at packets ++ more.packets;
       after = more.after;
-      joined = sym (take-append-drop size text) ∙ ap (λ (l : List ℕ). take size text ++ l) more.joined ∙ sym (append_assoc (take size text) more.done more.rest);
+      joined = sym (take-append-drop size text) ∙ ap (λ (l : List ℕ). take size text ++ l) more.joined
+          ∙ sym (append_assoc (take size text) more.done more.rest);
       units = unit_then f.unit more.units;
       last = more.last;
     }
@@ -188,4 +200,11 @@ units_within (suc most) declared at text enough = units_by most declared at text
 pub has_cut : EachHasCut
 has_cut text =
     let all = units_within (length text + 1) Nothing 0 text (omega arith) in
-    record { done = all.done; rest = all.rest; packets = all.packets; declared = all.after; cut = record { joined = all.joined; units = all.units; last = all.last } }
+    record {
+      done = all.done;
+      rest = all.rest;
+      packets = all.packets;
+      declared = all.after;
+      cut =
+          record { joined = all.joined; units = all.units; last = all.last };
+    }

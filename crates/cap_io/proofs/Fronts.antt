@@ -1,5 +1,9 @@
 -- What a text begins with, told by its first bytes.
-use Rattle.cap_io.proofs.Common.{◌≡◌, ℕ, ◌<◌, ◌≤◌, Bool, List, [], ◌∷◌, ◌++◌, length, take, Option, Some, None, true, false, refl, sym, ap, ◌∙◌, subst, arith, ◌&&◌, and_from, le-leb, length-append, Fault, Little, Head, first_failing, form_in, header_fault, header_in, record_size, record_fault, record_packet, frame_checks, is_section, Section, block_size, order_before, packets_in, unit_fault, least_length, is_some, is_none, nat_le, unwrap_or, if◌then◌else◌, Nothing, PcapFile, PcapngFile, Front, Whole, NoUnit, file_after, front_of, front_of_block, is_pcapng, unit_unless, most_in_unit, most_taken, length_by_header, block_length, decisive_length}
+use Rattle.cap_io.proofs.Common.{◌≡◌, ℕ, ◌<◌, ◌≤◌, Bool, List, [], ◌∷◌, ◌++◌, length, take, Option, Some, None, true, false, refl, sym, ap, ◌∙◌, subst, arith}
+use Rattle.cap_io.proofs.Common.{◌&&◌, and_from, le-leb, length-append, Fault, Little, Head, first_failing, form_in, header_fault, header_in, record_size}
+use Rattle.cap_io.proofs.Common.{record_fault, record_packet, frame_checks, is_section, Section, block_size, order_before, packets_in, unit_fault, least_length}
+use Rattle.cap_io.proofs.Common.{is_some, is_none, nat_le, unwrap_or, if◌then◌else◌, Nothing, PcapFile, PcapngFile, Front, Whole, NoUnit, file_after, front_of}
+use Rattle.cap_io.proofs.Common.{front_of_block, is_pcapng, unit_unless, most_in_unit, most_taken, length_by_header, block_length, decisive_length}
 use Rattle.cap_octet.proofs.Numbers.{number_in-append}
 use Rattle.cap_pcap.proofs.Records.{passes}
 
@@ -13,7 +17,8 @@ record_unless fault head text = unit_unless fault (Whole (record_size head text)
 
 abbrev pub block_unless : Option Fault → Option ℕ → Option Section → List ℕ → Front
 block_unless fault first before text =
-    unit_unless fault (Whole (block_size before text) (packets_in before (take (block_size before text) text)) (file_after first before (take (block_size before text) text)))
+    unit_unless fault (Whole (block_size before text) (packets_in before (take (block_size before text) text))
+    (file_after first before (take (block_size before text) text)))
 
 -- ---- which kind of file
 
@@ -40,7 +45,8 @@ front_of-pcapng text is = ap (λ (b : Bool). front_of_file b text) is
 pub front_of-no_header : (text : List ℕ) (fault : Fault) → is_pcapng text ≡ false → header_fault text ≡ Some fault → front_of Nothing text ≡ NoUnit (Some fault)
 front_of-no_header text fault other fails = front_of-pcap text other ∙ ap (λ (f : Option Fault). header_unless f text) fails
 
-pub front_of-no_record : (head : Head) (text : List ℕ) (fault : Fault) → 0 < length text → record_fault head text ≡ Some fault → front_of (PcapFile head) text ≡ NoUnit (Some fault)
+pub front_of-no_record : (head : Head) (text : List ℕ) (fault : Fault) → 0 < length text → record_fault head text ≡ Some fault
+    → front_of (PcapFile head) text ≡ NoUnit (Some fault)
 front_of-no_record head [] fault some fails = absurd (omega arith)
 front_of-no_record head (b ∷ bytes) fault some fails = ap (λ (f : Option Fault). record_unless f head (b ∷ bytes)) fails
 
@@ -74,9 +80,11 @@ front_of_block-none first before text fault fails = ap (λ (f : Option Fault). b
 
 pub most_taken-header : (text : List ℕ) (count : ℕ) → is_pcapng text ≡ false → count ≤ 24 → count ≤ most_taken (front_of Nothing text)
 most_taken-header text count other upper_bound = let P : Front → Type 0 = λ f. count ≤ most_taken f in
-    subst P (sym (front_of-pcap text other)) (elim (header_fault text) as (λ fault. count ≤ most_taken (header_unless fault text)) [ None ↦ upper_bound | Some fault ↦ omega arith ])
+    subst P (sym (front_of-pcap text other)) (elim (header_fault text) as (λ fault. count ≤ most_taken (header_unless fault text))
+    [ None ↦ upper_bound | Some fault ↦ omega arith ])
 
-pub most_taken-record : (head : Head) (text : List ℕ) (count : ℕ) → count ≤ record_size head text → count ≤ most_in_unit → count ≤ most_taken (front_of (PcapFile head) text)
+pub most_taken-record : (head : Head) (text : List ℕ) (count : ℕ) → count ≤ record_size head text → count ≤ most_in_unit
+    → count ≤ most_taken (front_of (PcapFile head) text)
 most_taken-record head [] count within upper_bound = upper_bound
 most_taken-record head (b ∷ bytes) count within upper_bound =
     elim (record_fault head (b ∷ bytes)) as (λ fault. count ≤ most_taken (record_unless fault head (b ∷ bytes))) [ None ↦ within | Some fault ↦ upper_bound ]
@@ -85,20 +93,25 @@ most_taken-record head (b ∷ bytes) count within upper_bound =
 pub most_taken-front : (head : Head) (text : List ℕ) (count : ℕ) → count ≤ 16 → count ≤ most_taken (front_of (PcapFile head) text)
 most_taken-front head text count upper_bound = most_taken-record head text count (omega arith) (omega arith)
 
-pub most_taken-block : (first : Option ℕ) (before : Option Section) (text : List ℕ) (count : ℕ) → (unit_fault before text ≡ None → count ≤ block_size before text)
+pub most_taken-block : (first : Option ℕ) (before : Option Section) (text : List ℕ) (count : ℕ)
+    → (unit_fault before text ≡ None → count ≤ block_size before text)
     → count ≤ most_in_unit → count ≤ most_taken (block_unless (unit_fault before text) first before text)
 most_taken-block first before text count within upper_bound =
-    elim (unit_fault before text) as (λ fault. (fault ≡ None → count ≤ block_size before text) → count ≤ most_taken (block_unless fault first before text)) [ None ↦ λ within. within refl | Some fault ↦ λ within. upper_bound ] within
+    elim (unit_fault before text) as (λ fault. (fault ≡ None → count ≤ block_size before text)
+    → count ≤ most_taken (block_unless fault first before text)) [ None ↦ λ within. within refl | Some fault ↦ λ within. upper_bound ] within
 
 -- ---- how many bytes decide it
 
 -- by a header that came whole and fails no check
-pub length_by_header-whole : (header : ℕ) (text : List ℕ) (checks : List (Bool × Fault)) (size : ℕ) → header ≤ length text → first_failing checks ≡ None → length_by_header header text checks size ≡ Some size
+pub length_by_header-whole : (header : ℕ) (text : List ℕ) (checks : List (Bool × Fault)) (size : ℕ) → header ≤ length text → first_failing checks ≡
+    None → length_by_header header text checks size ≡ Some size
 length_by_header-whole header text checks size whole none =
-    ap (λ (b : Bool). if b then Some size else None) (and_from (nat_le header (length text)) (is_none (first_failing checks)) (le-leb header (length text) whole) (ap (λ (f : Option Fault). is_none f) none))
+    ap (λ (b : Bool). if b then Some size else None) (and_from (nat_le header (length text)) (is_none (first_failing checks))
+    (le-leb header (length text) whole) (ap (λ (f : Option Fault). is_none f) none))
 
 -- fewer bytes than a header has don't decide anything
-length_by_header-few : (header : ℕ) (text : List ℕ) (checks : List (Bool × Fault)) (size count : ℕ) → (first_failing checks ≡ None → header ≤ size) → count < header → count < unwrap_or (length_by_header header text checks size) header
+length_by_header-few : (header : ℕ) (text : List ℕ) (checks : List (Bool × Fault)) (size count : ℕ) → (first_failing checks ≡ None → header ≤ size)
+    → count < header → count < unwrap_or (length_by_header header text checks size) header
 length_by_header-few header text checks size count least few = by_case (nat_le header (length text)) (first_failing checks) least
   where
     by_case : (b : Bool) (fault : Option Fault) → (fault ≡ None → header ≤ size) → count < unwrap_or (if b && is_none fault then Some size else None) header
@@ -111,11 +124,14 @@ decisive_block_length before text = unwrap_or (block_length before text) 12
 
 pub decisive_block_length-few : (before : Option Section) (text : List ℕ) (count : ℕ) → count < 12 → count < decisive_block_length before text
 decisive_block_length-few before text count few =
-    length_by_header-few 12 text (frame_checks (order_before before) text) (block_size before text) count (λ none. least_length (order_before before) text none) few
+    length_by_header-few 12 text (frame_checks (order_before before) text) (block_size before text) count
+    (λ none. least_length (order_before before) text none) few
 
 pub decisive_length-pcapng : (text : List ℕ) → is_pcapng text ≡ true → decisive_length Nothing text ≡ decisive_block_length None text
-decisive_length-pcapng text is = ap (λ (b : Bool). unwrap_or (if b then block_length None text else None) (if b then 12 else (if is_some (form_in text) then 24 else 4))) is
+decisive_length-pcapng text is =
+    ap (λ (b : Bool). unwrap_or (if b then block_length None text else None) (if b then 12 else (if is_some (form_in text) then 24 else 4))) is
 
 pub decisive_length-header : (text : List ℕ) → is_pcapng text ≡ false → is_some (form_in text) ≡ true → decisive_length Nothing text ≡ 24
 decisive_length-header text other some =
-    ap (λ (b : Bool). unwrap_or (if b then block_length None text else None) (if b then 12 else (if is_some (form_in text) then 24 else 4))) other ∙ ap (λ (b : Bool). if b then 24 else 4) some
+    ap (λ (b : Bool). unwrap_or (if b then block_length None text else None) (if b then 12 else (if is_some (form_in text) then 24 else 4))) other
+    ∙ ap (λ (b : Bool). if b then 24 else 4) some

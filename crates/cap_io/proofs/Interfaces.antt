@@ -1,5 +1,9 @@
 -- The different interfaces of packets, in the order of first use.
-use Rattle.cap_io.proofs.Common.{◌≡◌, ◌≤◌, ◌&&◌, ◌||◌, ◌+◌, suc, Bool, true, false, not, cond, if◌then◌else◌, Some, number_among, is_among, refl, ap, List, [], ◌∷◌, ◌++◌, length, nat_eq, sym, arith, fold, fold-append, and_parts, eqb-true, Captured, Format, Pcapng, Interface, interface_of, is_same, new_among, interfaces_after_packet, kept_interfaces, ℕ, map, nat_le, ◌∙◌, ◌<◌, list_any, position_or_len, append-nil, map-append, length-append, le-leb, lt-leb, most_output_interfaces, interface_in, zero, All-append, All-nil, All-push, All, HasNumber, IsFirst, FitFile, InterfaceNumber}
+use Rattle.cap_io.proofs.Common.{◌≡◌, ◌≤◌, ◌&&◌, ◌||◌, ◌+◌, suc, Bool, true, false, not, cond, if◌then◌else◌, Some, number_among, is_among, refl, ap, List, []}
+use Rattle.cap_io.proofs.Common.{◌∷◌, ◌++◌, length, nat_eq, sym, arith, fold, fold-append, and_parts, eqb-true, Captured, Format, Pcapng, Interface}
+use Rattle.cap_io.proofs.Common.{interface_of, is_same, new_among, interfaces_after_packet, kept_interfaces, ℕ, map, nat_le, ◌∙◌, ◌<◌, list_any}
+use Rattle.cap_io.proofs.Common.{position_or_len, append-nil, map-append, length-append, le-leb, lt-leb, most_output_interfaces, interface_in, zero, All-append}
+use Rattle.cap_io.proofs.Common.{All-nil, All-push, All, HasNumber, IsFirst, FitFile, InterfaceNumber}
 use Rattle.std.proofs.{Common.length-append, Common.slice_get, Math.Bool.or-true}
 use Rattle.std.proofs.lemmas.Cmp.{nat_eq_equiv, nat_list_eq_equiv}
 use Rattle.std.specs.Cmp.Lexicographic.{pointwise, same_text}
@@ -18,7 +22,8 @@ same_interface i j same =
 
 -- ---- one more
 
-pub kept-push : (format : Format) (ps : List Captured) (p : Captured) → kept_interfaces format (ps ++ p ∷ []) ≡ interfaces_after_packet format (kept_interfaces format ps) p
+pub kept-push : (format : Format) (ps : List Captured) (p : Captured) → kept_interfaces format (ps ++ p ∷ []) ≡ interfaces_after_packet format
+    (kept_interfaces format ps) p
 kept-push format ps p = fold-append (interfaces_after_packet format) [] ps (p ∷ [])
 
 -- no interface is given up
@@ -54,13 +59,16 @@ pub number-keys : (keys : List InterfaceKey) (k : InterfaceKey) → position_or_
 number-keys [] k = refl
 number-keys (x ∷ keys) k = ap (λ (n : ℕ). cond (not (same_key k x)) (1 + n) 0) (number-keys keys k)
 
-push-key : (b : Bool) (keys : List InterfaceKey) (k : InterfaceKey) → map interface_in (if b then keys else keys ++ k ∷ []) ≡ map interface_in keys ++ (if b then [] else interface_in k ∷ [])
+push-key : (b : Bool) (keys : List InterfaceKey) (k : InterfaceKey) → map interface_in (if b then keys else keys ++ k ∷ []) ≡ map interface_in keys
+    ++ (if b then [] else interface_in k ∷ [])
 push-key true keys k = sym (append-nil (map interface_in keys))
 push-key false keys k = map-append interface_in keys (k ∷ [])
 
 pub insert-keys : (keys : List InterfaceKey) (k : InterfaceKey)
-    → map interface_in (if list_any (same_key k) keys then keys else keys ++ k ∷ []) ≡ map interface_in keys ++ new_among (map interface_in keys) (interface_in k)
-insert-keys keys k = push-key (list_any (same_key k) keys) keys k ∙ ap (λ (b : Bool). map interface_in keys ++ (if b then [] else interface_in k ∷ [])) (among-keys keys k)
+    → map interface_in (if list_any (same_key k) keys then keys else keys ++ k ∷ []) ≡ map interface_in keys ++ new_among (map interface_in keys)
+    (interface_in k)
+insert-keys keys k = push-key (list_any (same_key k) keys) keys k
+    ∙ ap (λ (b : Bool). map interface_in keys ++ (if b then [] else interface_in k ∷ [])) (among-keys keys k)
 
 -- ---- room
 
@@ -69,15 +77,18 @@ fewer true n keys i upper_bound = simp append-nil (omega arith)
 fewer false n keys i upper_bound = simp length-append (omega arith)
 
 -- one more may be had where there are fewer
-pub room-below : (keys : List Interface) (i : Interface) → length keys < most_output_interfaces → nat_le (length (keys ++ new_among keys i)) most_output_interfaces ≡ true
-room-below keys i upper_bound = le-leb (length (keys ++ new_among keys i)) most_output_interfaces (fewer (is_among keys i) most_output_interfaces keys i upper_bound)
+pub room-below : (keys : List Interface) (i : Interface) → length keys < most_output_interfaces → nat_le (length (keys ++ new_among keys i))
+    most_output_interfaces ≡ true
+room-below keys i upper_bound = le-leb (length (keys ++ new_among keys i)) most_output_interfaces
+    (fewer (is_among keys i) most_output_interfaces keys i upper_bound)
 
 full-by : (b : Bool) (n : ℕ) (keys : List Interface) (i : Interface) → length keys ≡ n → nat_le (length (keys ++ (if b then [] else i ∷ []))) n ≡ b
 full-by true n keys i full = le-leb (length (keys ++ [])) n (simp append-nil (omega arith))
 full-by false n keys i full = lt-leb (length (keys ++ i ∷ [])) n (simp length-append (omega arith))
 
 -- where there are as many as there may be, only one of them has room
-pub room-full : (keys : List Interface) (i : Interface) → length keys ≡ most_output_interfaces → nat_le (length (keys ++ new_among keys i)) most_output_interfaces ≡ is_among keys i
+pub room-full : (keys : List Interface) (i : Interface) → length keys ≡ most_output_interfaces → nat_le (length (keys ++ new_among keys i))
+    most_output_interfaces ≡ is_among keys i
 room-full keys i full = full-by (is_among keys i) most_output_interfaces keys i full
 
 some_is : (i j : Interface) → Some i ≡ Some j → i ≡ j
@@ -113,7 +124,8 @@ unfolding IsShort
 new-short true i short = All-nil IsShort
 new-short false i short = All-push IsShort [] i (All-nil IsShort) short
 
-pub few-following : (old new : List Interface) (i : Interface) (place : InterfaceNumber) → FitFile old → length (old ++ new_among old i) ≤ most_output_interfaces → length i.name ≤ 255
+pub few-following : (old new : List Interface) (i : Interface) (place : InterfaceNumber) → FitFile old → length (old ++ new_among old i) ≤
+    most_output_interfaces → length i.name ≤ 255
     → HasNumber old i place new → FitFile new
 unfolding IsShort
 few-following old new i place upper_bound room short has =

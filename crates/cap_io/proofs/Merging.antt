@@ -1,11 +1,13 @@
 -- The order of a merge is sorted, has each packet once, and keeps those of each input in their
 -- places.
-use Rattle.cap_io.proofs.Common.{◌≡◌, inl, inr, ℕ, ◌+◌, ◌<◌, ◌≤◌, Bool, true, false, if◌then◌else◌, max, List, [], ◌∷◌, ◌++◌, refl, sym, ◌∙◌, ap, arith, nat_eq, IsPermutation, Placed, Ending}
+use Rattle.cap_io.proofs.Common.{◌≡◌, inl, inr, ℕ, ◌+◌, ◌<◌, ◌≤◌, Bool, true, false, if◌then◌else◌, max, List, [], ◌∷◌, ◌++◌, refl, sym, ◌∙◌, ap, arith, nat_eq}
+use Rattle.cap_io.proofs.Common.{subst, IsPermutation, Placed, Ending}
 use Rattle.std.proofs.lemmas.Bool.{cases_order, Decides.nat_tests}
 use Rattle.std.specs.List.{AllByRecursion}
 use Rattle.std.proofs.lemmas.List.Sorted.{IsPermutation-refl, IsPermutation-trans, IsPermutation-cons, IsPermutation-middle}
-use Rattle.cap_io.specs.Merging.{AreSorted, IsNoLater, IsNoLaterThan, MergesSort, events_of, of_input}
-use Rattle.cap_io.specs.Sequence.{Entry, Event, Packet, SequenceEnd, Complete, FaultIn, Sequence, InputItems, all_entries, comes_before, end_after, entries_of, fault_without_packets, insert_entry, sequence_of_entries, sort_entries, unless_fault, with_front}
+use Rattle.cap_io.specs.Merging.{AreSorted, IsNoLater, IsNoLaterThan, MergesSort, StopAtFault, StopsBy, events_of, of_input}
+use Rattle.cap_io.specs.Sequence.{Entry, Event, Packet, SequenceEnd, Complete, FaultIn, Sequence, InputItems, all_entries, comes_before, end_after, entries_of}
+use Rattle.cap_io.specs.Sequence.{fault_without_packets, insert_entry, sequence_of_entries, sort_entries, unless_fault, with_front}
 
 -- ---- before and after
 
@@ -38,7 +40,8 @@ no-later-all e x (y ∷ ys) first all = (no-later-trans e x y first all.0, no-la
 no-later-insert : (e x : Entry) (xs : List Entry) → IsNoLater e x → IsNoLaterThan e xs → IsNoLaterThan e (insert_entry x xs)
 no-later-insert e x [] first all = (first, tt)
 no-later-insert e x (y ∷ ys) first all =
-    elim (comes_before y x) as (λ b. IsNoLaterThan e (if b then y ∷ insert_entry x ys else x ∷ y ∷ ys)) [ true ↦ (all.0, no-later-insert e x ys first all.1) | false ↦ (first, all) ]
+    elim (comes_before y x) as (λ b. IsNoLaterThan e (if b then y ∷ insert_entry x ys else x ∷ y ∷ ys))
+    [ true ↦ (all.0, no-later-insert e x ys first all.1) | false ↦ (first, all) ]
 
 sorted-insert : (e : Entry) (es : List Entry) → AreSorted es → AreSorted (insert_entry e es)
 sorted-insert e [] all = (tt, tt)
@@ -57,8 +60,10 @@ sorted (e ∷ es) = sorted-insert e (sort_entries es) (sorted es)
 permuted-insert : (e : Entry) (es : List Entry) → IsPermutation (e ∷ es) (insert_entry e es)
 permuted-insert e [] = IsPermutation-refl (e ∷ [])
 permuted-insert e (x ∷ xs) =
-    let later : IsPermutation (e ∷ x ∷ xs) (x ∷ insert_entry e xs) = IsPermutation-trans _ _ _ (IsPermutation-middle (e ∷ []) x xs) (IsPermutation-cons x _ _ (permuted-insert e xs)) in
-    elim (comes_before x e) as (λ b. IsPermutation (e ∷ x ∷ xs) (if b then x ∷ insert_entry e xs else e ∷ x ∷ xs)) [ true ↦ later | false ↦ IsPermutation-refl (e ∷ x ∷ xs) ]
+    let later : IsPermutation (e ∷ x ∷ xs) (x ∷ insert_entry e xs) = IsPermutation-trans _ _ _ (IsPermutation-middle (e ∷ []) x xs)
+    (IsPermutation-cons x _ _ (permuted-insert e xs)) in
+    elim (comes_before x e) as (λ b. IsPermutation (e ∷ x ∷ xs) (if b then x ∷ insert_entry e xs else e ∷ x ∷ xs))
+    [ true ↦ later | false ↦ IsPermutation-refl (e ∷ x ∷ xs) ]
 
 permuted : (es : List Entry) → IsPermutation es (sort_entries es)
 permuted [] = IsPermutation-refl []
@@ -74,7 +79,8 @@ each-append P (x ∷ xs) ys a b = (a.0, each-append P xs ys a.1 b)
 each-insert : (P : Entry → Type 0) (e : Entry) (xs : List Entry) → P e → AllByRecursion P xs → AllByRecursion P (insert_entry e xs)
 each-insert P e [] p h = (p, tt)
 each-insert P e (x ∷ xs) p h =
-    elim (comes_before x e) as (λ b. AllByRecursion P (if b then x ∷ insert_entry e xs else e ∷ x ∷ xs)) [ true ↦ (h.0, each-insert P e xs p h.1) | false ↦ (p, h) ]
+    elim (comes_before x e) as (λ b. AllByRecursion P (if b then x ∷ insert_entry e xs else e ∷ x ∷ xs))
+    [ true ↦ (h.0, each-insert P e xs p h.1) | false ↦ (p, h) ]
 
 pub each-sorted : (P : Entry → Type 0) (xs : List Entry) → AllByRecursion P xs → AllByRecursion P (sort_entries xs)
 each-sorted P [] h = tt
@@ -106,19 +112,26 @@ leads-other e input ending greatest (p ∷ ps) less =
 leads-others : (e : Entry) (input : ℕ) (rs : List InputItems) → e.input < input → Leads e (all_entries input rs)
 leads-others e input [] less = tt
 leads-others e input (r ∷ rs) less =
-    each-append (IsLed e) (entries_of input r.items.ending r.greatest r.items.packets) (all_entries (input + 1) rs) (leads-other e input r.items.ending r.greatest r.items.packets less) (leads-others e (input + 1) rs (omega (arith, less)))
+    each-append (IsLed e) (entries_of input r.items.ending r.greatest r.items.packets) (all_entries (input + 1) rs)
+    (leads-other e input r.items.ending r.greatest r.items.packets less) (leads-others e (input + 1) rs (omega (arith, less)))
 
-each-leads-own : (input : ℕ) (ending : Ending) (greatest : ℕ) (ps : List Placed) (rest : List Entry) → ((e : Entry) → e.input ≡ input → Leads e rest) → EachLeads rest → EachLeads (entries_of input ending greatest ps ++ rest)
+each-leads-own : (input : ℕ) (ending : Ending) (greatest : ℕ) (ps : List Placed) (rest : List Entry) → ((e : Entry) → e.input ≡ input → Leads e rest)
+    → EachLeads rest → EachLeads (entries_of input ending greatest ps ++ rest)
 each-leads-own input ending greatest [] rest others each = each
 each-leads-own input ending greatest (p ∷ ps) rest others each =
     let e : Entry = record { key = max greatest p.packet.time; input = input; p = p; end = end_after input ending ps } in
-    let same : max greatest p.packet.time ≤ max greatest p.packet.time = omega arith in
-    (each-append (IsLed e) (entries_of input ending (max greatest p.packet.time) ps) rest (leads-own e input ending (max greatest p.packet.time) ps same) (others e refl), each-leads-own input ending (max greatest p.packet.time) ps rest others each)
+    let same : max greatest p.packet.time ≤ max greatest p.packet.time = omega arith in (
+      each-append (IsLed e) (entries_of input ending (max greatest p.packet.time) ps) rest
+          (leads-own e input ending (max greatest p.packet.time) ps same) (others e refl),
+      each-leads-own input ending (max greatest p.packet.time) ps
+          rest others each,
+    )
 
 each-leads : (input : ℕ) (rs : List InputItems) → EachLeads (all_entries input rs)
 each-leads input [] = tt
 each-leads input (r ∷ rs) =
-    each-leads-own input r.items.ending r.greatest r.items.packets (all_entries (input + 1) rs) (λ e is. leads-others e (input + 1) rs (omega (arith, is))) (each-leads (input + 1) rs)
+    each-leads-own input r.items.ending r.greatest r.items.packets (all_entries (input + 1) rs)
+    (λ e is. leads-others e (input + 1) rs (omega (arith, is))) (each-leads (input + 1) rs)
 
 abbrev if_of : ℕ → Entry → List Entry → List Entry
 if_of input e es = if nat_eq e.input input then e ∷ es else es
@@ -128,7 +141,8 @@ exchanged : (input : ℕ) (e x : Entry) (es : List Entry) → (e.input ≡ x.inp
 exchanged input e x es other = by_both (nat_eq x.input input) (nat_eq e.input input) refl refl
   where
     by_both : (a b : Bool) → nat_eq x.input input ≡ a → nat_eq e.input input ≡ b
-        → (if a then x ∷ (if b then e ∷ es else es) else (if b then e ∷ es else es)) ≡ (if b then e ∷ (if a then x ∷ es else es) else (if a then x ∷ es else es))
+        → (if a then x ∷ (if b then e ∷ es else es) else (if b then e ∷ es else es)) ≡
+        (if b then e ∷ (if a then x ∷ es else es) else (if a then x ∷ es else es))
     by_both true true a b = absurd (other (grind (arith, nat_tests, a, b)))
     by_both _ _ a b = refl
 
@@ -143,7 +157,8 @@ places-insert : (input : ℕ) (e : Entry) (es : List Entry) → Leads e es → o
 places-insert input e [] leads = refl
 places-insert input e (x ∷ xs) leads = by_place (places-insert input e xs leads.1) (comes_before x e) refl
   where
-    by_place : of_input input (insert_entry e xs) ≡ of_input input (e ∷ xs) → (b : Bool) → comes_before x e ≡ b → of_input input (if b then x ∷ insert_entry e xs else e ∷ x ∷ xs) ≡ of_input input (e ∷ x ∷ xs)
+    by_place : of_input input (insert_entry e xs) ≡ of_input input (e ∷ xs) → (b : Bool) → comes_before x e ≡ b
+        → of_input input (if b then x ∷ insert_entry e xs else e ∷ x ∷ xs) ≡ of_input input (e ∷ x ∷ xs)
     by_place more true is = ap (if_of input x) more ∙ exchanged input e x (of_input input xs) (is-other e x leads.0 is)
     by_place more false is = refl
 
@@ -153,33 +168,46 @@ places input (e ∷ es) each = places-insert input e (sort_entries es) (each-sor
 
 -- ---- those that come
 
-record Come (es : List Entry) (s : Sequence) : Type 0 where
+-- those of sorted entries that come in a sequence, unless the order ends so before it
+record Come (c : SequenceEnd) (es : List Entry) (s : Sequence) : Type 0 where
   come : List Entry
   later : List Entry
   parts : es ≡ come ++ later
   events : s.events ≡ events_of come
   whole : s.end ≡ Complete → later ≡ []
+  stops : StopsBy c come s.end (StopAtFault come later s.end)
 
-comes : (es : List Entry) → Come es (sequence_of_entries es)
-comes [] = record { come = []; later = []; parts = refl; events = refl; whole = λ is. refl }
-comes (e ∷ es) = by_end (comes es) e.end
+comes : (es : List Entry) → Come Complete es (sequence_of_entries es)
+comes [] = record { come = []; later = []; parts = refl; events = refl; whole = λ is. refl; stops = (refl, refl) }
+comes (e ∷ es) = by_end (comes es) e.end refl
   where
-    by_end : Come es (sequence_of_entries es) → (c : SequenceEnd) → Come (e ∷ es) (with_front (Packet e.input e.p ∷ []) (unless_fault c (sequence_of_entries es)))
-    by_end more Complete =
+    by_end : Come Complete es (sequence_of_entries es) → (c : SequenceEnd) → e.end ≡ c
+        → Come Complete (e ∷ es) (with_front (Packet e.input e.p ∷ []) (unless_fault c (sequence_of_entries es)))
+    by_end more Complete is =
+        let end = (sequence_of_entries es).end in
         record {
           come = e ∷ more.come;
           later = more.later;
           parts = ap (λ (l : List Entry). e ∷ l) more.parts;
           events = ap (λ (l : List Event). Packet e.input e.p ∷ l) more.events;
           whole = more.whole;
+          stops = subst (λ (x : SequenceEnd). StopsBy x more.come end (StopAtFault more.come more.later end)) (sym is) more.stops;
         }
-    by_end more (FaultIn input fault offset) =
-        record { come = e ∷ []; later = es; parts = refl; events = refl; whole = λ is. (cc) }
+    by_end more (FaultIn input fault offset) is =
+        let end = FaultIn input fault offset in
+        record {
+          come = e ∷ [];
+          later = es;
+          parts = refl;
+          events = refl;
+          whole = λ is. (cc);
+          stops = subst (λ (x : SequenceEnd). StopsBy x [] end (StopAtFault [] es end)) (sym is) (refl, refl);
+        }
 
-comes-unless : (c : SequenceEnd) (es : List Entry) → Come es (unless_fault c (sequence_of_entries es))
+comes-unless : (c : SequenceEnd) (es : List Entry) → Come c es (unless_fault c (sequence_of_entries es))
 comes-unless Complete es = comes es
 comes-unless (FaultIn input fault offset) es =
-    record { come = []; later = es; parts = refl; events = refl; whole = λ is. (cc) }
+    record { come = []; later = es; parts = refl; events = refl; whole = λ is. (cc); stops = (refl, refl) }
 
 pub merges-sort : MergesSort
 merges-sort rs =
@@ -195,4 +223,5 @@ merges-sort rs =
       parts = c.parts;
       events = c.events;
       whole = c.whole;
+      stops = c.stops;
     }

@@ -1,5 +1,9 @@
 -- Which faults checks tell: none of them that the device failed, or that memory ran out.
-use Rattle.cap_io.proofs.Common.{◌≡◌, ◌<◌, ◌++◌, [], ◌∷◌, length, None, ap, length-append, ltb-true, most_interfaces, is_interface, section_by, section_of, Section, Enters, ℕ, inl, inr, Bool, true, false, List, Option, Some, Err, refl, arith, first_failing, Fault, NoMemory, ReadFailed, Order, Parts, SectionParts, InterfaceParts, EnhancedParts, SimpleParts, SkippedParts, block_checks, body_checks, body_in, parts_in, Head, header_checks, header_fault, field_checks, frame_checks, Described, checks_among, Frame, IsBlockFault, AddsInterface, IsEntryFault, read_failures}
+use Rattle.cap_io.proofs.Common.{◌≡◌, ◌<◌, ◌++◌, [], ◌∷◌, length, None, ap, length-append, ltb-true, most_interfaces, is_interface, section_by, section_of}
+use Rattle.cap_io.proofs.Common.{Section, Enters, ℕ, inl, inr, Bool, true, false, List, Option, Some, Err, refl, arith, first_failing, Fault, NoMemory}
+use Rattle.cap_io.proofs.Common.{ReadFailed, Order, Parts, SectionParts, InterfaceParts, EnhancedParts, SimpleParts, SkippedParts, block_checks, body_checks}
+use Rattle.cap_io.proofs.Common.{body_in, parts_in, Head, header_checks, header_fault, field_checks, frame_checks, Described, checks_among, Frame, IsBlockFault}
+use Rattle.cap_io.proofs.Common.{AddsInterface, IsEntryFault, read_failures}
 use Rattle.cap_octet.specs.declared.fault.Fault.TheVariants.{TooManyInterfaces}
 use Rattle.cap_pcapng.specs.{Block.option_checks, declared.frames.BlockType.BlockType}
 use Rattle.cap_pcapng.proofs.Faults.{AreAll, all_failing, all_of_options}
@@ -40,8 +44,10 @@ own_body _ order body = (refl, tt)
 own-block : (frame : Frame) (block : List ℕ) (fault : Fault) → first_failing (block_checks frame block) ≡ Some fault → IsOwn fault
 own-block frame block fault fails = all_failing IsOwn (block_checks frame block) fault (refl, own_body frame.block_type frame.order (body_in frame block)) fails
 
-own-entered : (frame : Frame) (interfaces : List Described) (block : List ℕ) (fault : Fault) → first_failing (checks_among interfaces (parts_in frame block)) ≡ Some fault → IsOwn fault
-own-entered frame interfaces block fault fails = all_failing IsOwn (checks_among interfaces (parts_in frame block)) fault (own_among interfaces (parts_in frame block)) fails
+own-entered : (frame : Frame) (interfaces : List Described) (block : List ℕ) (fault : Fault)
+    → first_failing (checks_among interfaces (parts_in frame block)) ≡ Some fault → IsOwn fault
+own-entered frame interfaces block fault fails = all_failing IsOwn (checks_among interfaces (parts_in frame block)) fault
+    (own_among interfaces (parts_in frame block)) fails
 
 own-fault : (frame : Frame) (interfaces : List Described) (block : List ℕ) (fault : Fault) → IsBlockFault frame interfaces block fault → IsOwn fault
 own-fault frame interfaces block fault is =
@@ -50,7 +56,8 @@ own-fault frame interfaces block fault is =
       | inr among ↦ own-entered frame interfaces block fault among.1
     ]
 
-pub entry-own : (frame : Frame) (interfaces : List Described) (block : List ℕ) (fault : Fault) → IsEntryFault frame interfaces block fault → read_failures {X = ℕ} (Err fault) ≡ 0
+pub entry-own : (frame : Frame) (interfaces : List Described) (block : List ℕ) (fault : Fault) → IsEntryFault frame interfaces block fault
+    → read_failures {X = ℕ} (Err fault) ≡ 0
 entry-own frame interfaces block fault is =
     elim is [
       | inl fails ↦ own-unfailed ℕ fault (own-fault frame interfaces block fault fails)
@@ -64,7 +71,8 @@ pub own-not_memory : (fault : Fault) → IsOwn fault → fault ≡ NoMemory → 
 own-not_memory fault own memory = let exact : IsOwn NoMemory = rw memory at own in (cc)
 
 -- memory runs out for an interface alone
-pub entry-adds : (frame : Frame) (interfaces : List Described) (block : List ℕ) (fault : Fault) → IsEntryFault frame interfaces block fault → fault ≡ NoMemory → AddsInterface frame interfaces block
+pub entry-adds : (frame : Frame) (interfaces : List Described) (block : List ℕ) (fault : Fault) → IsEntryFault frame interfaces block fault
+    → fault ≡ NoMemory → AddsInterface frame interfaces block
 entry-adds frame interfaces block fault is memory =
     elim is [
       | inl fails ↦ absurd (own-not_memory fault (own-fault frame interfaces block fault fails) memory)
@@ -80,8 +88,10 @@ own-frame section text fault fails = all_failing IsOwn (frame_checks section tex
 pub own-header : (text : List ℕ) (fault : Fault) → header_fault text ≡ Some fault → IsOwn fault
 own-header text fault fails = all_failing IsOwn (header_checks text) fault (refl, (refl, (refl, (refl, tt)))) fails
 
-pub entry-not_failed : (frame : Frame) (interfaces : List Described) (block : List ℕ) (fault : Fault) → IsEntryFault frame interfaces block fault → fault ≡ ReadFailed → ⊥
-entry-not_failed frame interfaces block fault is failed = let own : read_failures {X = ℕ} (Err ReadFailed) ≡ 0 = rw failed at (entry-own frame interfaces block fault is) in omega (arith, own)
+pub entry-not_failed : (frame : Frame) (interfaces : List Described) (block : List ℕ) (fault : Fault) → IsEntryFault frame interfaces block fault
+    → fault ≡ ReadFailed → ⊥
+entry-not_failed frame interfaces block fault is failed = let own : read_failures {X = ℕ} (Err ReadFailed) ≡ 0 =
+    rw failed at (entry-own frame interfaces block fault is) in omega (arith, own)
 
 -- ---- a fault of an interface that passed all checks
 
@@ -89,13 +99,16 @@ first_met : (met : Bool) (fault : Fault) (rows : List (Bool × Fault)) → first
 first_met true fault rows none = refl
 first_met false fault rows none = (cc)
 
-one_more : (order : Order) (interfaces : List Described) (d : Described) (parts : Parts) → section_by (Some (section_of order interfaces)) order parts ≡ section_of order (interfaces ++ d ∷ [])
+one_more : (order : Order) (interfaces : List Described) (d : Described) (parts : Parts) → section_by (Some (section_of order interfaces)) order
+    parts ≡ section_of order (interfaces ++ d ∷ [])
     → first_failing (checks_among interfaces parts) ≡ None → (length interfaces < most_interfaces) × (is_interface parts ≡ true)
-one_more order interfaces d (InterfaceParts link snap own options) section among = (ltb-true _ _ (first_met _ TooManyInterfaces (option_checks (InterfaceParts link snap own options)) among), refl)
+one_more order interfaces d (InterfaceParts link snap own options) section among =
+    (ltb-true _ _ (first_met _ TooManyInterfaces (option_checks (InterfaceParts link snap own options)) among), refl)
 one_more order interfaces d parts section among =
     absurd (omega (arith, ap (λ (s : Section). length s.interfaces) section, length-append interfaces (d ∷ [])))
 
-pub adds-one : (frame : Frame) (interfaces : List Described) (block : List ℕ) (d : Described) (fault : Fault) → Enters frame interfaces block None (interfaces ++ d ∷ []) → (length interfaces < most_interfaces → fault ≡ NoMemory)
+pub adds-one : (frame : Frame) (interfaces : List Described) (block : List ℕ) (d : Described) (fault : Fault) → Enters frame interfaces block None
+    (interfaces ++ d ∷ []) → (length interfaces < most_interfaces → fault ≡ NoMemory)
     → IsEntryFault frame interfaces block fault
 adds-one frame interfaces block d fault enters memory =
     let one = one_more frame.order interfaces d (parts_in frame block) enters.section enters.among in

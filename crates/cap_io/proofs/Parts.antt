@@ -1,12 +1,17 @@
 -- Parts that are written one after another, and what a sink adds by them.
-use Rattle.cap_io.proofs.Common.{◌≡◌, ◌⊎◌, inl, inr, ℕ, ◌+◌, ◌<◌, Bool, true, false, not, if◌then◌else◌, List, [], ◌∷◌, ◌++◌, length, take, Option, Some, None, Result, is_ok, Ok, Err, refl, sym, ap, ap₂, subst, ◌∙◌, arith, flat_map, append_assoc, append-nil, take-append-le, checked, AppendsOrStops, Stops, Captured, Fault, WriteFailed, Format, Pcap, NsecPcap, Pcapng, InterfaceNumber, SinkState, HasNumber, WritesPacket, file_start_in, appended_packet, Interface, interface_of, is_among, number_among, file_start, record_text, Appends, packet_block_text, description_text}
+use Rattle.cap_io.proofs.Common.{◌≡◌, ◌⊎◌, inl, inr, ℕ, ◌+◌, ◌<◌, Bool, true, false, not, if◌then◌else◌, List, [], ◌∷◌, ◌++◌, length, take, Option, Some, None}
+use Rattle.cap_io.proofs.Common.{Result, is_ok, Ok, Err, refl, sym, ap, ap₂, subst, ◌∙◌, arith, flat_map, append_assoc, append-nil, take-append-le, checked}
+use Rattle.cap_io.proofs.Common.{AppendsOrStops, Stops, Captured, Fault, WriteFailed, Format, Pcap, NsecPcap, Pcapng, InterfaceNumber, SinkState, HasNumber}
+use Rattle.cap_io.proofs.Common.{WritesPacket, file_start_in, appended_packet, Interface, interface_of, is_among, number_among, file_start, record_text}
+use Rattle.cap_io.proofs.Common.{Appends, packet_block_text, description_text}
 use Rattle.std.proofs.{Common.length-append, Math.Seq.take-append-add}
 use Rattle.cap_octet.specs.Writer.{WritesExactly}
 use Rattle.cap_octet.specs.declared.device.{DeviceFault.DeviceFault, Output.Ghosts, Stopped.Stopped}
 use Rattle.cap_pcap.specs.Encoding.{IsPcap, file_header as pcap_header, resolution_of}
 use Rattle.cap_pcapng.specs.Encoding.{interface_text, packet_block as pcapng_packet}
 
-pub appends-as : {E : Type 0} (r : Result (Unit {0}) E) (written bytes bytes' written' : List ℕ) → bytes ≡ bytes' → AppendsOrStops r written bytes written' → AppendsOrStops r written bytes' written'
+pub appends-as : {E : Type 0} (r : Result (Unit {0}) E) (written bytes bytes' written' : List ℕ) → bytes ≡ bytes' → AppendsOrStops r written bytes
+    written' → AppendsOrStops r written bytes' written'
 appends-as r written bytes bytes' written' same appends = let P : List ℕ → Type 0 = λ b. AppendsOrStops r written b written' in subst P same appends
 
 pub stops-front : (written part more written' : List ℕ) → Stops written part written' → Stops written (part ++ more) written'
@@ -29,7 +34,8 @@ stops-following written done part mid written' first stops =
     )
 
 -- a part after one that was written
-pub appends-following : {E : Type 0} (r : Result (Unit {0}) E) (written done part mid written' : List ℕ) → mid ≡ written ++ done → AppendsOrStops r mid part written' → AppendsOrStops r written (done ++ part) written'
+pub appends-following : {E : Type 0} (r : Result (Unit {0}) E) (written done part mid written' : List ℕ) → mid ≡ written ++ done
+    → AppendsOrStops r mid part written' → AppendsOrStops r written (done ++ part) written'
 appends-following (Ok value) written done part mid written' first appends =
     appends ∙ ap (λ (l : List ℕ). l ++ part) first ∙ append_assoc written done part
 appends-following (Err fault) written done part mid written' first stops = stops-following written done part mid written' first stops
@@ -37,7 +43,8 @@ appends-following (Err fault) written done part mid written' first stops = stops
 -- ---- what a device did
 
 -- by an error that doesn't report where it stopped
-pub appends-exactly : {Device : Type 0} (d : Ghosts Device) (old new : Device) (bytes : List ℕ) (r : Result (Unit {0}) Stopped) (r' : Result (Unit {0}) DeviceFault)
+pub appends-exactly : {Device : Type 0} (d : Ghosts Device) (old new : Device) (bytes : List ℕ) (r : Result (Unit {0}) Stopped)
+    (r' : Result (Unit {0}) DeviceFault)
     → is_ok r' ≡ is_ok r → WritesExactly d old bytes r new → Appends d old bytes r' new
 appends-exactly d old new bytes (Ok done) (Ok done') same writes = record { appended = writes.exact; failed = writes.failed; room = writes.room }
 appends-exactly d old new bytes (Err stopped) (Err fault) same writes = record {
@@ -51,14 +58,16 @@ appends-exactly d old new bytes (Err stopped) (Ok done) same writes = absurd (cc
 pub appends-nothing : {Device : Type 0} (d : Ghosts Device) (old : Device) → Appends d old [] (Ok tt) old
 appends-nothing d old = record { appended = λ tells. sym (append-nil (d.written old)); failed = omega arith; room = refl }
 
-pub appends-stopped : {Device : Type 0} (d : Ghosts Device) (old new : Device) (part more : List ℕ) (fault : DeviceFault) → Appends d old part (Err fault) new → Appends d old (part ++ more) (Err fault) new
+pub appends-stopped : {Device : Type 0} (d : Ghosts Device) (old new : Device) (part more : List ℕ) (fault : DeviceFault)
+    → Appends d old part (Err fault) new → Appends d old (part ++ more) (Err fault) new
 appends-stopped d old new part more fault appends = record {
   appended = λ tells. stops-front (d.written old) part more (d.written new) (appends.appended tells);
   failed = appends.failed;
   room = appends.room;
 }
 
-pub appends-then : {Device : Type 0} (d : Ghosts Device) (old mid new : Device) (done part : List ℕ) (r : Result (Unit {0}) DeviceFault) → Appends d old done (Ok tt) mid → Appends d mid part r new → Appends d old (done ++ part) r new
+pub appends-then : {Device : Type 0} (d : Ghosts Device) (old mid new : Device) (done part : List ℕ) (r : Result (Unit {0}) DeviceFault)
+    → Appends d old done (Ok tt) mid → Appends d mid part r new → Appends d old (done ++ part) r new
 appends-then d old mid new done part r first second = record {
   appended = λ tells. appends-following r (d.written old) done part (d.written mid) (d.written new) (first.appended tells) (second.appended tells);
   failed = omega arith;
@@ -77,36 +86,45 @@ pcap-file_header Pcap link is = refl
 pcap-file_header NsecPcap link is = refl
 pcap-file_header Pcapng link is = absurd is
 
-pub packet-record : (format : Format) (interfaces : List Interface) (p : Captured) → IsPcap format → record_text (resolution_of format) p ≡ appended_packet format interfaces p
+pub packet-record : (format : Format) (interfaces : List Interface) (p : Captured) → IsPcap format → record_text (resolution_of format) p ≡
+    appended_packet format interfaces p
 packet-record Pcap interfaces p is = refl
 packet-record NsecPcap interfaces p is = refl
 packet-record Pcapng interfaces p is = absurd is
 
-described : (b : Bool) (p : Captured) → description_text (not b) p ≡ flat_map (λ (i : Interface). interface_text i.link i.snap i.name) (if b then [] else interface_of p ∷ [])
+described : (b : Bool) (p : Captured) → description_text (not b) p ≡ flat_map (λ (i : Interface). interface_text i.link i.snap i.name)
+    (if b then [] else interface_of p ∷ [])
 described true p = refl
 described false p = sym (append-nil (interface_text p.link p.snap p.name))
 
-pub block-place : (old : List Interface) (p : Captured) (place : InterfaceNumber) (new : List Interface) → HasNumber old (interface_of p) place new → packet_block_text place p ≡ appended_packet Pcapng old p
+pub block-place : (old : List Interface) (p : Captured) (place : InterfaceNumber) (new : List Interface) → HasNumber old (interface_of p) place new
+    → packet_block_text place p ≡ appended_packet Pcapng old p
 block-place old p place new has =
     ap₂ (λ (b : Bool) (n : ℕ). description_text b p ++ pcapng_packet n p) has.is_new has.number
     ∙ ap (λ (l : List ℕ). l ++ pcapng_packet (number_among old (interface_of p)) p) (described (is_among old (interface_of p)) p)
 
 -- ---- what a sink adds
 
-pub record-adds : (r : Result (Unit {0}) DeviceFault) (format : Format) (state : SinkState) (interfaces : List Interface) (p : Captured) (written written' : List ℕ) → (format ≡ Pcap) ⊎ (format ≡ NsecPcap)
-    → AppendsOrStops r written (file_start_in format state p.link ++ record_text (resolution_of format) p) written' → AppendsOrStops r written (file_start_in format state p.link ++ appended_packet format interfaces p) written'
+pub record-adds : (r : Result (Unit {0}) DeviceFault) (format : Format) (state : SinkState) (interfaces : List Interface) (p : Captured)
+    (written written' : List ℕ) → (format ≡ Pcap) ⊎ (format ≡ NsecPcap)
+    → AppendsOrStops r written (file_start_in format state p.link ++ record_text (resolution_of format) p) written' → AppendsOrStops r written
+    (file_start_in format state p.link ++ appended_packet format interfaces p) written'
 record-adds r format state interfaces p written written' form appends =
     let same = ap (λ (l : List ℕ). file_start_in format state p.link ++ l) (packet-record format interfaces p (is-pcap format form)) in
     appends-as r written _ _ written' same appends
 
-pub block-adds : (r : Result (Unit {0}) DeviceFault) (format : Format) (state : SinkState) (interfaces : List Interface) (p : Captured) (place : InterfaceNumber) (new : List Interface) (written written' : List ℕ)
+pub block-adds : (r : Result (Unit {0}) DeviceFault) (format : Format) (state : SinkState) (interfaces : List Interface) (p : Captured)
+    (place : InterfaceNumber) (new : List Interface) (written written' : List ℕ)
     → format ≡ Pcapng → HasNumber interfaces (interface_of p) place new
-    → AppendsOrStops r written (file_start_in Pcapng state p.link ++ packet_block_text place p) written' → AppendsOrStops r written (file_start_in format state p.link ++ appended_packet format interfaces p) written'
+    → AppendsOrStops r written (file_start_in Pcapng state p.link ++ packet_block_text place p) written' → AppendsOrStops r written
+    (file_start_in format state p.link ++ appended_packet format interfaces p) written'
 block-adds r format state interfaces p place new written written' form has appends =
     let P : Format → Type 0 = λ f. AppendsOrStops r written (file_start_in f state p.link ++ appended_packet f interfaces p) written' in
-    subst P (sym form) (appends-as r written _ _ written' (ap (λ (l : List ℕ). file_start_in Pcapng state p.link ++ l) (block-place interfaces p place new has)) appends)
+    subst P (sym form) (appends-as r written _ _ written' (ap (λ (l : List ℕ). file_start_in Pcapng state p.link ++ l)
+    (block-place interfaces p place new has)) appends)
 
 -- a packet that isn't refused, where the device failed
-pub adds-failed : (refusal : Option Fault) (bytes written written' : List ℕ) → Ok (tt {0}) ≡ checked refusal (tt {0}) → Stops written bytes written' → WritesPacket refusal bytes written (Err WriteFailed) written'
+pub adds-failed : (refusal : Option Fault) (bytes written written' : List ℕ) → Ok (tt {0}) ≡ checked refusal (tt {0}) → Stops written bytes written'
+    → WritesPacket refusal bytes written (Err WriteFailed) written'
 adds-failed None bytes written written' allowed stops = stops
 adds-failed (Some fault) bytes written written' allowed stops = absurd (cc)

@@ -1,5 +1,10 @@
 -- From one place in a file to a later one.
-use Rattle.cap_io.proofs.Common.{◌≡◌, ℕ, ◌+◌, ◌-◌, ◌≤◌, ◌<◌, ◌^◌, Bool, false, Result, Ok, Err, HasGiven, most_in_unit, read_failures, List, [], ◌++◌, length, take, drop, Option, Some, None, is_some, true, refl, sym, ap, ap₂, ◌∙◌, subst, arith, slice_get, option_map, append_assoc, drop-take, take-take, length-append, length-take-le, Order, Head, Described, packet_of, Fault, NoMemory, PacketSpans, Declared, Nothing, PcapFile, PcapngFile, AreUnits, no_unit, TakesMemory, held_length, no_unit_fits, packet_in_unit, EndCame, HasInterface, PacketCame, NoUnitCame, UnitPassed, span_bytes, SourceView, Reading, Ended, Failed, SkipsUnits, IsBroken, FindsPacket, FindsEnd, FindsFault, block_at, end_offset, phase_at, IsBetween, HoldsIfAny}
+use Rattle.cap_io.proofs.Common.{◌≡◌, ℕ, ◌+◌, ◌-◌, ◌≤◌, ◌<◌, ◌^◌, Bool, false, Result, Ok, Err, HasGiven, most_in_unit, read_failures, List, [], ◌++◌, length}
+use Rattle.cap_io.proofs.Common.{take, drop, Option, Some, None, is_some, true, refl, sym, ap, ap₂, ◌∙◌, subst, arith, slice_get, option_map, append_assoc}
+use Rattle.cap_io.proofs.Common.{drop-take, take-take, length-append, length-take-le, Order, Head, Described, packet_of, Fault, NoMemory, PacketSpans, Declared}
+use Rattle.cap_io.proofs.Common.{Nothing, PcapFile, PcapngFile, AreUnits, no_unit, TakesMemory, held_length, no_unit_fits, packet_in_unit, EndCame}
+use Rattle.cap_io.proofs.Common.{HasInterface, PacketCame, NoUnitCame, UnitPassed, span_bytes, SourceView, Reading, Ended, Failed, SkipsUnits, IsBroken}
+use Rattle.cap_io.proofs.Common.{FindsPacket, FindsEnd, FindsFault, block_at, end_offset, phase_at, IsBetween, HoldsIfAny}
 use Rattle.cap_io.proofs.Cuts.{AreUnits-append}
 use Rattle.cap_io.proofs.Units.{FitUnits-append, FitUnits-wider, one_unit_fits, one_unit}
 use Rattle.cap_pcapng.specs.{Comment.comment_in, declared.effect.Span.Span}
@@ -10,13 +15,21 @@ use Rattle.std.specs.Result.{OnErr, OnOk}
 -- ---- no unit is gone over
 
 pub stays : (old new : SourceView) → new.declared ≡ old.declared → new.offset ≡ end_offset old → old.room ≤ new.room → SkipsUnits old new old.unread
-stays old new declared place room = record { passed = []; splits = refl; units = rw declared no_unit; offset = omega (arith, place); room = room; fit = rw declared no_unit_fits }
+stays old new declared place room = record {
+  passed = [];
+  splits = refl;
+  units = rw declared no_unit;
+  offset = omega (arith, place);
+  room = room;
+  fit = rw declared no_unit_fits;
+}
 
 -- without a current unit it ends at its offset
 pub no-unit-end : (old : SourceView) (offset : ℕ) → IsBetween old → offset ≡ old.offset → offset ≡ end_offset old
 no-unit-end old offset between place = omega (arith, place, ap length between.block)
 
-pub IsBroken-next : (old new : SourceView) (fault : Fault) → IsBetween old → NoUnitCame old.declared old.unread new.unread fault → new.declared ≡ old.declared → new.offset ≡ old.offset → old.room ≤ new.room
+pub IsBroken-next : (old new : SourceView) (fault : Fault) → IsBetween old → NoUnitCame old.declared old.unread new.unread fault
+    → new.declared ≡ old.declared → new.offset ≡ old.offset → old.room ≤ new.room
     → (fault ≡ NoMemory → TakesMemory new.room old.declared old.unread) → new.given + length new.unread ≡ old.given + length old.unread
     → new.block ≡ [] → new.packet ≡ None → IsBroken old new fault
 IsBroken-next old new fault between refuses declared place room memory counted block packet = record {
@@ -30,10 +43,12 @@ IsBroken-next old new fault between refuses declared place room memory counted b
   packet = packet;
 }
 
-pub FindsEnd-next : (old new : SourceView) → IsBetween old → EndCame old.declared old.unread new.declared new.unread → new.offset ≡ old.offset → old.room ≤ new.room
+pub FindsEnd-next : (old new : SourceView) → IsBetween old → EndCame old.declared old.unread new.declared new.unread → new.offset ≡ old.offset
+    → old.room ≤ new.room
     → new.block ≡ [] → new.packet ≡ None → new.phase ≡ Ended → FindsEnd old new
 FindsEnd-next old new between came place room block packet phase = record {
-  passes = let P : List ℕ → Type 0 = λ rest. SkipsUnits old new rest in subst P came.over (stays old new came.same (no-unit-end old new.offset between place) room);
+  passes = let P : List ℕ → Type 0 = λ rest. SkipsUnits old new rest in
+      subst P came.over (stays old new came.same (no-unit-end old new.offset between place) room);
   ends = rw came.same came.ends;
   unread = came.rest;
   block = block;
@@ -43,7 +58,8 @@ FindsEnd-next old new between came place room block packet phase = record {
 
 -- ---- one unit
 
-pub SkipsUnits-next : (old new : SourceView) (size : ℕ) → IsBetween old → UnitPassed old.declared old.unread size new.declared new.unread → new.offset ≡ old.offset + size
+pub SkipsUnits-next : (old new : SourceView) (size : ℕ) → IsBetween old → UnitPassed old.declared old.unread size new.declared new.unread
+    → new.offset ≡ old.offset + size
     → old.room ≤ new.room → held_length old.declared new.declared size ≤ new.room → SkipsUnits old new new.unread
 SkipsUnits-next old new size between came place room fits = record {
   passed = came.bytes;
@@ -55,7 +71,8 @@ SkipsUnits-next old new size between came place room fits = record {
 }
 
 pub FindsPacket-next : (old new : SourceView) (spans : PacketSpans) (buffer : List ℕ) → PacketCame old.declared old.unread buffer spans new.declared new.unread
-    → new.block ≡ take spans.size buffer → new.packet ≡ packet_in_unit new.declared spans (take spans.size buffer) → new.offset ≡ end_offset old → old.room ≤ new.room → length (take spans.size buffer) ≤ new.room → new.phase ≡ Reading
+    → new.block ≡ take spans.size buffer → new.packet ≡ packet_in_unit new.declared spans (take spans.size buffer) → new.offset ≡ end_offset old
+    → old.room ≤ new.room → length (take spans.size buffer) ≤ new.room → new.phase ≡ Reading
     → FindsPacket old new
 FindsPacket-next old new spans buffer came block packet place room fits phase =
     let P : List ℕ → Type 0 = λ rest. SkipsUnits old new rest in record {
@@ -69,7 +86,8 @@ FindsPacket-next old new spans buffer came block packet place room fits phase =
 
 -- ---- units after the unit in hand, and after others
 
-pub SkipsUnits-then : (old mid new : SourceView) (rest : List ℕ) → SkipsUnits old mid mid.unread → mid.block ≡ [] → SkipsUnits mid new rest → SkipsUnits old new rest
+pub SkipsUnits-then : (old mid new : SourceView) (rest : List ℕ) → SkipsUnits old mid mid.unread → mid.block ≡ [] → SkipsUnits mid new rest
+    → SkipsUnits old new rest
 SkipsUnits-then old mid new rest first none more =
     let place : mid.offset + length mid.block ≡ old.offset + length old.block + length first.passed = rw none (omega (arith, first.offset)) in
     let units : AreUnits old.declared (old.offset + length old.block) (first.passed ++ more.passed) [] new.declared =
@@ -103,13 +121,15 @@ FindsEnd-then old mid new first none finds = record {
   phase = finds.phase;
 }
 
-counted_so_far : (old mid : SourceView) → (first : SkipsUnits old mid mid.unread) → mid.block ≡ [] → mid.given + end_offset old ≡ old.given + end_offset mid → mid.given + length mid.unread ≡ old.given + length old.unread
+counted_so_far : (old mid : SourceView) → (first : SkipsUnits old mid mid.unread) → mid.block ≡ [] → mid.given + end_offset old ≡ old.given +
+    end_offset mid → mid.given + length mid.unread ≡ old.given + length old.unread
 counted_so_far old mid first none counted =
     let split : length old.unread ≡ length first.passed + length mid.unread = ap length first.splits ∙ length-append first.passed mid.unread in
     let empty : length mid.block ≡ 0 = ap length none in
     omega (arith, split, empty, counted, first.offset)
 
-pub IsBroken-then : (old mid new : SourceView) (fault : Fault) → SkipsUnits old mid mid.unread → mid.block ≡ [] → mid.given + end_offset old ≡ old.given + end_offset mid → IsBroken mid new fault → IsBroken old new fault
+pub IsBroken-then : (old mid new : SourceView) (fault : Fault) → SkipsUnits old mid mid.unread → mid.block ≡ [] → mid.given + end_offset old ≡
+    old.given + end_offset mid → IsBroken mid new fault → IsBroken old new fault
 IsBroken-then old mid new fault first none counted broken = record {
   rest = broken.rest;
   passes = SkipsUnits-then old mid new broken.rest first none broken.passes;
@@ -122,7 +142,8 @@ IsBroken-then old mid new fault first none counted broken = record {
 }
 
 -- a source that tells a fault stays where it is
-pub IsBroken-failed : (old mid new : SourceView) (fault : Fault) → IsBroken old mid fault → new.declared ≡ mid.declared → new.offset ≡ mid.offset → new.unread ≡ mid.unread → new.given ≡ mid.given → new.room ≡ mid.room
+pub IsBroken-failed : (old mid new : SourceView) (fault : Fault) → IsBroken old mid fault → new.declared ≡ mid.declared → new.offset ≡ mid.offset
+    → new.unread ≡ mid.unread → new.given ≡ mid.given → new.room ≡ mid.room
     → new.block ≡ [] → new.packet ≡ None → new.phase ≡ Failed fault → FindsFault old new fault
 IsBroken-failed old mid new fault broken declared offset unread given room block packet phase = record {
   broken = record {
@@ -153,25 +174,141 @@ found_by (Ok NextUnit.Packet) = Ok true
 found_by (Ok other) = Ok false
 found_by (Err fault) = Err fault
 
-pub bounds-then : (first old new : SourceView) (read : Result NextUnit Fault) → first.given ≤ old.given → old.failures ≡ first.failures → old.sure ≡ first.sure → first.room ≤ old.room
+pub bounds-then : (first old new : SourceView) (read : Result NextUnit Fault) → first.given ≤ old.given → old.failures ≡ first.failures
+    → old.sure ≡ first.sure → first.room ≤ old.room
     → old.given + end_offset first ≡ first.given + end_offset old → NextBounds old read new → KeepsBounds first (found_by read) new
-bounds-then first old new (Ok NextUnit.Packet) given failures sure room counted next = record { given = omega (arith, given, next.given); failures = omega (arith, failures, next.failures); sure = next.sure ∙ sure; enough = next.enough; block = next.block; held = next.held; room = omega (arith, room, next.room); progress = λ e. omega (arith, given, (next.packet refl).0); bounded = λ e. (next.packet refl).1; packet = λ e. (next.packet refl).2; counted = omega (arith, counted, next.counted); broken = tt }
-bounds-then first old new (Ok unit) given failures sure room counted next = record { given = omega (arith, given, next.given); failures = omega (arith, failures, next.failures); sure = next.sure ∙ sure; enough = next.enough; block = next.block; held = next.held; room = omega (arith, room, next.room); progress = λ e. absurd (cc); bounded = λ e. absurd (cc); packet = λ e. absurd (cc); counted = omega (arith, counted, next.counted); broken = tt }
-bounds-then first old new (Err fault) given failures sure room counted next = record { given = omega (arith, given, next.given); failures = omega (arith, failures, next.failures); sure = next.sure ∙ sure; enough = next.enough; block = next.block; held = next.held; room = omega (arith, room, next.room); progress = λ e. absurd (cc); bounded = λ e. absurd (cc); packet = λ e. absurd (cc); counted = tt; broken = (omega (arith, counted, next.broken.0), omega (arith, counted, next.broken.1)) }
+bounds-then first old new (Ok NextUnit.Packet) given failures sure room counted next = record {
+  given = omega (arith, given, next.given);
+  failures =
+      omega (arith, failures, next.failures);
+  sure = next.sure ∙ sure;
+  enough = next.enough;
+  block = next.block;
+  held = next.held;
+  room =
+      omega (arith, room, next.room);
+  progress = λ e. omega (arith, given, (next.packet refl).0);
+  bounded = λ e. (next.packet refl).1;
+  packet =
+      λ e. (next.packet refl).2;
+  counted = omega (arith, counted, next.counted);
+  broken = tt;
+}
+bounds-then first old new (Ok unit) given failures sure room counted next = record {
+  given = omega (arith, given, next.given);
+  failures =
+      omega (arith, failures, next.failures);
+  sure = next.sure ∙ sure;
+  enough = next.enough;
+  block = next.block;
+  held = next.held;
+  room =
+      omega (arith, room, next.room);
+  progress = λ e. absurd (cc);
+  bounded = λ e. absurd (cc);
+  packet = λ e. absurd (cc);
+  counted =
+      omega (arith, counted, next.counted);
+  broken = tt;
+}
+bounds-then first old new (Err fault) given failures sure room counted next = record {
+  given = omega (arith, given, next.given);
+  failures =
+      omega (arith, failures, next.failures);
+  sure = next.sure ∙ sure;
+  enough = next.enough;
+  block = next.block;
+  held = next.held;
+  room =
+      omega (arith, room, next.room);
+  progress = λ e. absurd (cc);
+  bounded = λ e. absurd (cc);
+  packet = λ e. absurd (cc);
+  counted = tt;
+  broken =
+      (omega (arith, counted, next.broken.0), omega (arith, counted, next.broken.1));
+}
 
 -- what `read_unit` knows of the unit that it read
 abbrev IsRead : SourceView → Result NextUnit Fault → SourceView → Type 0
 IsRead old (Ok NextUnit.Packet) new = ((old.given < new.given) × (new.given < 2 ^ 63) × (is_some new.packet ≡ true)) × (new.phase ≡ Reading)
 IsRead old (Ok (NextUnit.Other size)) new = (old.given < new.given) × (new.given < 2 ^ 63) × IsBetween new
 IsRead old (Ok NextUnit.End) new = new.phase ≡ Ended
-IsRead old (Err fault) new = (old.given + end_offset new ≤ new.given + end_offset old) × (new.given + end_offset old ≤ old.given + end_offset new + most_in_unit)
+IsRead old (Err fault) new = (old.given + end_offset new ≤ new.given + end_offset old)
+    × (new.given + end_offset old ≤ old.given + end_offset new + most_in_unit)
 
-pub bounds-next : (old new : SourceView) (read : Result NextUnit Fault) → old.given ≤ new.given → new.failures ≡ old.failures + read_failures read → new.sure ≡ old.sure → (0 < new.failures → HasGiven new.sure new.given)
-    → length new.block ≤ new.room → new.room ≤ most_in_unit → old.room ≤ new.room → OnOk read (new.given + end_offset old ≡ old.given + end_offset new) → IsRead old read new → NextBounds old read new
-bounds-next old new (Ok NextUnit.Packet) given failures sure enough block held room counted is = record { given = given; failures = failures; sure = sure; enough = enough; block = block; held = held; room = room; counted = counted; broken = tt; packet = λ e. is.0; ended = λ e. absurd (cc); found = λ e. is.1; passed = λ size e. absurd (cc) }
-bounds-next old new (Ok (NextUnit.Other size)) given failures sure enough block held room counted is = record { given = given; failures = failures; sure = sure; enough = enough; block = block; held = held; room = room; counted = counted; broken = tt; packet = λ e. absurd (cc); ended = λ e. absurd (cc); found = λ e. absurd (cc); passed = λ size e. is }
-bounds-next old new (Ok NextUnit.End) given failures sure enough block held room counted is = record { given = given; failures = failures; sure = sure; enough = enough; block = block; held = held; room = room; counted = counted; broken = tt; packet = λ e. absurd (cc); ended = λ e. is; found = λ e. absurd (cc); passed = λ size e. absurd (cc) }
-bounds-next old new (Err fault) given failures sure enough block held room counted is = record { given = given; failures = failures; sure = sure; enough = enough; block = block; held = held; room = room; counted = counted; broken = is; packet = λ e. absurd (cc); ended = λ e. absurd (cc); found = λ e. absurd (cc); passed = λ size e. absurd (cc) }
+pub bounds-next : (old new : SourceView) (read : Result NextUnit Fault) → old.given ≤ new.given → new.failures ≡ old.failures + read_failures read
+    → new.sure ≡ old.sure → (0 < new.failures → HasGiven new.sure new.given)
+    → length new.block ≤ new.room → new.room ≤ most_in_unit → old.room ≤ new.room
+    → OnOk read (new.given + end_offset old ≡ old.given + end_offset new) → IsRead old read new → NextBounds old read new
+bounds-next old new (Ok NextUnit.Packet) given failures sure enough block held room counted is =
+    record {
+      given = given;
+      failures = failures;
+      sure = sure;
+      enough = enough;
+      block = block;
+      held = held;
+      room = room;
+      counted = counted;
+      broken =
+          tt;
+      packet = λ e. is.0;
+      ended = λ e. absurd (cc);
+      found = λ e. is.1;
+      passed = λ size e. absurd (cc);
+    }
+bounds-next old new (Ok (NextUnit.Other size)) given failures sure enough block held room counted is =
+    record {
+      given = given;
+      failures = failures;
+      sure = sure;
+      enough = enough;
+      block = block;
+      held = held;
+      room = room;
+      counted = counted;
+      broken =
+          tt;
+      packet = λ e. absurd (cc);
+      ended = λ e. absurd (cc);
+      found = λ e. absurd (cc);
+      passed = λ size e. is;
+    }
+bounds-next old new (Ok NextUnit.End) given failures sure enough block held room counted is =
+    record {
+      given = given;
+      failures = failures;
+      sure = sure;
+      enough = enough;
+      block = block;
+      held = held;
+      room = room;
+      counted = counted;
+      broken =
+          tt;
+      packet = λ e. absurd (cc);
+      ended = λ e. is;
+      found = λ e. absurd (cc);
+      passed = λ size e. absurd (cc);
+    }
+bounds-next old new (Err fault) given failures sure enough block held room counted is =
+    record {
+      given = given;
+      failures = failures;
+      sure = sure;
+      enough = enough;
+      block = block;
+      held = held;
+      room = room;
+      counted = counted;
+      broken =
+          is;
+      packet = λ e. absurd (cc);
+      ended = λ e. absurd (cc);
+      found = λ e. absurd (cc);
+      passed = λ size e. absurd (cc);
+    }
 
 -- ---- from past the current unit
 
@@ -181,7 +318,8 @@ past-between old between reading is = rw is (record { phase = reading; block = r
 pub past-continues : (old between new : SourceView) (r : Result Bool Fault) → between ≡ past_unit old → Continues between r new → Continues old r new
 past-continues old between new (Ok true) is c = FindsPacket-then old (past_unit old) new (stays old (past_unit old) refl refl (omega arith)) refl (rw is at c)
 past-continues old between new (Ok false) is c = FindsEnd-then old (past_unit old) new (stays old (past_unit old) refl refl (omega arith)) refl (rw is at c)
-past-continues old between new (Err fault) is c = IsBroken-then old (past_unit old) new fault (stays old (past_unit old) refl refl (omega arith)) refl (omega arith) (rw is at c)
+past-continues old between new (Err fault) is c = IsBroken-then old (past_unit old) new fault (stays old (past_unit old) refl refl (omega arith)) refl
+    (omega arith) (rw is at c)
 
 pub past-bounds : (old between new : SourceView) (r : Result Bool Fault) → between ≡ past_unit old → KeepsBounds between r new → KeepsBounds old r new
 past-bounds old between new r is kept =
@@ -189,7 +327,21 @@ past-bounds old between new r is kept =
     let place : end_offset (past_unit old) ≡ end_offset old = omega arith in
     let P : ℕ → Type 0 = λ e. OnOk r (new.given + e ≡ old.given + end_offset new) in
     let Q : ℕ → Type 0 = λ e. OnErr r ((old.given + end_offset new ≤ new.given + e) × (new.given + e ≤ old.given + end_offset new + most_in_unit)) in
-    record { given = k.given; failures = k.failures; sure = k.sure; enough = k.enough; block = k.block; held = k.held; room = k.room; progress = k.progress; bounded = k.bounded; packet = k.packet; counted = subst P place k.counted; broken = subst Q place k.broken }
+    record {
+      given = k.given;
+      failures = k.failures;
+      sure = k.sure;
+      enough = k.enough;
+      block = k.block;
+      held = k.held;
+      room = k.room;
+      progress =
+          k.progress;
+      bounded = k.bounded;
+      packet = k.packet;
+      counted = subst P place k.counted;
+      broken = subst Q place k.broken;
+    }
 
 -- ---- the packet in hand
 
@@ -205,29 +357,37 @@ part-lent span size bytes buffer within same =
     ∙ ap (take span.length) (sym rest)
 
 pub pcap-lent : (head : Head) (spans : PacketSpans) (bytes block : List ℕ) → bytes ≡ span_bytes spans.bytes block
-    → Some (record { link = head.link; snap = head.snap; name = []; time = spans.time; orig = spans.orig; bytes = bytes; comment = [] }) ≡ packet_in_unit (PcapFile head) spans block
-pcap-lent head spans bytes block same = ap (λ (l : List ℕ). Some (record { link = head.link; snap = head.snap; name = []; time = spans.time; orig = spans.orig; bytes = l; comment = [] })) same
+    → Some (record { link = head.link; snap = head.snap; name = []; time = spans.time; orig = spans.orig; bytes = bytes; comment = [] }) ≡
+    packet_in_unit (PcapFile head) spans block
+pcap-lent head spans bytes block same =
+    ap (λ (l : List ℕ). Some (record { link = head.link; snap = head.snap; name = []; time = spans.time; orig = spans.orig; bytes = l; comment = [] })) same
 
-pub pcapng-lent : (order : Order) (first : Option ℕ) (interfaces : List Described) (i : Described) (spans : PacketSpans) (bytes comment options block : List ℕ) → slice_get interfaces spans.interface ≡ Some i
+pub pcapng-lent : (order : Order) (first : Option ℕ) (interfaces : List Described) (i : Described) (spans : PacketSpans)
+    (bytes comment options block : List ℕ) → slice_get interfaces spans.interface ≡ Some i
     → bytes ≡ span_bytes spans.bytes block → comment ≡ comment_in order options → options ≡ span_bytes spans.options block
     → Some (packet_of i spans.time spans.orig bytes comment) ≡ packet_in_unit (PcapngFile first (record { order = order; interfaces = interfaces })) spans block
 pcapng-lent order first interfaces i spans bytes comment options block known same commented optional =
     ap₂ (λ (l m : List ℕ). Some (packet_of i spans.time spans.orig l m)) same (commented ∙ ap (comment_in order) optional)
-    ∙ ap (option_map (λ (j : Described). packet_of j spans.time spans.orig (span_bytes spans.bytes block) (comment_in order (span_bytes spans.options block)))) (sym known)
+    ∙ ap (option_map (λ (j : Described). packet_of j spans.time spans.orig (span_bytes spans.bytes block)
+    (comment_in order (span_bytes spans.options block)))) (sym known)
 
-pub time-held : (declared : Declared) (spans : PacketSpans) (block : List ℕ) → HasInterface declared spans → Some spans.time ≡ option_map (λ p. p.time) (packet_in_unit declared spans block)
+pub time-held : (declared : Declared) (spans : PacketSpans) (block : List ℕ) → HasInterface declared spans → Some spans.time ≡ option_map
+    (λ p. p.time) (packet_in_unit declared spans block)
 time-held Nothing spans block known = absurd known
 time-held (PcapFile head) spans block known = refl
 time-held (PcapngFile first section) spans block known = by_interface (slice_get section.interfaces spans.interface) known
   where
     by_interface : (found : Option Described) → is_some found ≡ true
-        → Some spans.time ≡ option_map (λ p. p.time) (option_map (λ (i : Described). packet_of i spans.time spans.orig (span_bytes spans.bytes block) (comment_in section.order (span_bytes spans.options block))) found)
+        → Some spans.time ≡ option_map (λ p. p.time)
+        (option_map (λ (i : Described). packet_of i spans.time spans.orig (span_bytes spans.bytes block)
+        (comment_in section.order (span_bytes spans.options block))) found)
     by_interface None known = (cc)
     by_interface (Some i) known = refl
 
 -- ---- nothing is in hand
 
-pub stage_between : (now : Stage) (spans : PacketSpans) (buffer : List ℕ) → phase_at now ≡ Reading → block_at now spans buffer ≡ [] → HoldsIfAny now spans buffer → now ≡ Stage.Between
+pub stage_between : (now : Stage) (spans : PacketSpans) (buffer : List ℕ) → phase_at now ≡ Reading → block_at now spans buffer ≡ []
+    → HoldsIfAny now spans buffer → now ≡ Stage.Between
 stage_between Stage.Between spans buffer phase none holds = refl
 stage_between Stage.Current spans buffer phase none holds =
     absurd (omega (arith, holds.some, holds.there, sym (length-take-le spans.size buffer holds.there) ∙ ap length none))

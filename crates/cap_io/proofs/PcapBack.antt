@@ -1,6 +1,10 @@
 -- What is written in a pcap form reads back.
 use Rattle.cap_io.proofs.Backs.{Holds, each-following, holds-none, holds-unit, reads-back}
-use Rattle.cap_io.proofs.Common.{◌≡◌, ℕ, ◌+◌, ◌*◌, ◌/◌, ◌%◌, ◌^◌, ◌<◌, ◌≤◌, Bool, List, [], ◌∷◌, ◌++◌, length, drop, nat_lt, None, refl, sym, ap, subst, ◌∙◌, arith, leb-true, lt-ltb, AllByRecursion, flat_map, eqb-true, ltb-true, first_failing, u32_in, Captured, Fault, LinkTypesDiffer, Pcap, NsecPcap, Little, all_met, none_failing, IsHeader, header_checks, IsRecord, field_checks, most_captured, nanoseconds_of_part, record_packet, parts_of_second, Head, Resolution, Microseconds, Nanoseconds, record_fault-whole, PcapFile, a_pcap_header, a_pcap_record, Back, InRange, IsPlain, ReadsBack, has_link, record_text, state_after}
+use Rattle.cap_io.proofs.Common.{◌≡◌, ℕ, ◌+◌, ◌*◌, ◌/◌, ◌%◌, ◌^◌, ◌<◌, ◌≤◌, Bool, List, [], ◌∷◌, ◌++◌, length, drop, nat_lt, None, refl, sym, ap, subst, ◌∙◌}
+use Rattle.cap_io.proofs.Common.{arith, leb-true, lt-ltb, AllByRecursion, flat_map, eqb-true, ltb-true, first_failing, u32_in, Captured, Fault, LinkTypesDiffer}
+use Rattle.cap_io.proofs.Common.{Pcap, NsecPcap, Little, all_met, none_failing, IsHeader, header_checks, IsRecord, field_checks, most_captured}
+use Rattle.cap_io.proofs.Common.{nanoseconds_of_part, record_packet, parts_of_second, Head, Resolution, Microseconds, Nanoseconds, record_fault-whole, PcapFile}
+use Rattle.cap_io.proofs.Common.{a_pcap_header, a_pcap_record, Back, InRange, IsPlain, ReadsBack, has_link, record_text, state_after}
 use Rattle.cap_io.proofs.Texts.{bare_text, text-start}
 use Rattle.std.proofs.Common.{le-leb}
 use Rattle.cap_octet.specs.Number.{number_in}
@@ -25,7 +29,8 @@ part-small : (r : Resolution) (time : ℕ) → time % 1000000000 / nanoseconds_o
 part-small Microseconds time = omega arith
 part-small Nanoseconds time = omega arith
 
-time-back : (r : Resolution) (time : ℕ) → IsWhole r time → time / 1000000000 * 1000000000 + time % 1000000000 / nanoseconds_of_part r * nanoseconds_of_part r ≡ time
+time-back : (r : Resolution) (time : ℕ) → IsWhole r time → time / 1000000000 * 1000000000 + time % 1000000000 / nanoseconds_of_part r *
+    nanoseconds_of_part r ≡ time
 time-back Microseconds time whole = omega arith
 time-back Nanoseconds time whole = omega arith
 
@@ -48,12 +53,19 @@ record-back r link p kept =
     let bytes : List ℕ = record_text r p in
     let head : Head = written_head r link in
     let seconds_are : u32_in Little bytes 0 ≡ p.time / 1000000000 = number_at 4 bytes 0 (p.time / 1000000000) (drop 4 bytes) refl kept.seconds in
-    let part_is : u32_in Little bytes 4 ≡ p.time % 1000000000 / nanoseconds_of_part r = number_at 4 bytes 4 (p.time % 1000000000 / nanoseconds_of_part r) (drop 8 bytes) refl (part-small r p.time) in
+    let part_is : u32_in Little bytes 4 ≡ p.time % 1000000000 / nanoseconds_of_part r =
+    number_at 4 bytes 4 (p.time % 1000000000 / nanoseconds_of_part r) (drop 8 bytes) refl (part-small r p.time) in
     let captured_is : u32_in Little bytes 8 ≡ length p.bytes = number_at 4 bytes 8 (length p.bytes) (drop 12 bytes) refl (omega (arith, kept.upper_bound)) in
     let orig_is : u32_in Little bytes 12 ≡ p.orig = number_at 4 bytes 12 p.orig (drop 16 bytes) refl kept.orig in
     let size : length bytes ≡ 16 + length p.bytes = omega arith in
     let fields : first_failing (field_checks head bytes) ≡ None =
-    rw (captured_is, part_is, le-leb (length p.bytes) most_captured kept.upper_bound, lt-ltb (p.time % 1000000000 / nanoseconds_of_part r) (parts_of_second r) (part-fits r p.time)) refl in
+    rw (
+      captured_is,
+      part_is,
+      le-leb (length p.bytes) most_captured kept.upper_bound,
+      lt-ltb (p.time % 1000000000 / nanoseconds_of_part r)
+          (parts_of_second r) (part-fits r p.time),
+    ) refl in
     let time_is : u32_in Little bytes 0 * 1000000000 + u32_in Little bytes 4 * nanoseconds_of_part r ≡ p.time =
     ap (λ (n : ℕ). n * 1000000000 + u32_in Little bytes 4 * nanoseconds_of_part r) seconds_are
     ∙ ap (λ (n : ℕ). p.time / 1000000000 * 1000000000 + n * nanoseconds_of_part r) part_is
@@ -63,7 +75,16 @@ record-back r link p kept =
         passes = record_fault-whole head bytes (omega arith) fields (omega (arith, captured_is));
         whole = omega (arith, captured_is);
       };
-      packet = λ k. record { link = sym kept.link_is k; snap = sym kept.plain.snap k; name = sym kept.plain.name k; time = time_is k; orig = orig_is k; bytes = p.bytes; comment = sym kept.plain.comment k };
+      packet = λ k. record {
+        link = sym kept.link_is k;
+        snap = sym kept.plain.snap k;
+        name = sym kept.plain.name k;
+        time = time_is k;
+        orig =
+            orig_is k;
+        bytes = p.bytes;
+        comment = sym kept.plain.comment k;
+      };
     }
 
 -- ---- the file header
@@ -89,12 +110,14 @@ header-back Nanoseconds link upper_bound =
 
 -- ---- records
 
-records-hold : (r : Resolution) (link at : ℕ) (ps : List Captured) → AllByRecursion (IsKept r link) ps → Holds (PcapFile (written_head r link)) at (flat_map (record_text r) ps) ps
+records-hold : (r : Resolution) (link at : ℕ) (ps : List Captured) → AllByRecursion (IsKept r link) ps
+    → Holds (PcapFile (written_head r link)) at (flat_map (record_text r) ps) ps
 records-hold r link at [] kept = holds-none (PcapFile (written_head r link)) at refl
 records-hold r link at (p ∷ ps) kept =
     let back = record-back r link p kept.0 in
     let unit = a_pcap_record (written_head r link) (record_text r p) back.is_record in
-    let all : Holds (PcapFile (written_head r link)) at (record_text r p ++ flat_map (record_text r) ps) (record_packet (written_head r link) (record_text r p) ∷ ps) =
+    let all : Holds (PcapFile (written_head r link)) at (record_text r p ++ flat_map (record_text r) ps)
+    (record_packet (written_head r link) (record_text r p) ∷ ps) =
     holds-unit unit at (flat_map (record_text r) ps) ps (records-hold r link (at + length (record_text r p)) ps kept.1) in
     rw back.packet at all
 
@@ -106,7 +129,8 @@ text-nanoseconds : (earlier ps : List Captured) → bare_text NsecPcap earlier p
 text-nanoseconds earlier [] = refl
 text-nanoseconds earlier (p ∷ ps) = ap (λ (l : List ℕ). record_text Nanoseconds p ++ l) (text-nanoseconds (earlier ++ p ∷ []) ps)
 
-file-back : (r : Resolution) (link : ℕ) (ps : List Captured) → link < 2 ^ 16 → AllByRecursion (IsKept r link) ps → ReadsBack (pcap.file_header r link ++ flat_map (record_text r) ps) ps
+file-back : (r : Resolution) (link : ℕ) (ps : List Captured) → link < 2 ^ 16 → AllByRecursion (IsKept r link) ps
+    → ReadsBack (pcap.file_header r link ++ flat_map (record_text r) ps) ps
 file-back r link ps upper_bound kept =
     let unit = a_pcap_header (pcap.file_header r link) (written_head r link) (header-back r link upper_bound) in
     reads-back (pcap.file_header r link ++ flat_map (record_text r) ps) ps
@@ -123,13 +147,15 @@ link_check earlier p = (has_first_link earlier p, LinkTypesDiffer) ∷ []
 abbrev form_checks : List Captured → Captured → List (Bool × Fault)
 form_checks earlier p = (has_first_link earlier p, LinkTypesDiffer) ∷ pcap.record_fit_checks p
 
-same-first : (first p : Captured) (rest earlier later : List Captured) → first ∷ rest ≡ earlier ++ p ∷ later → first_failing (link_check earlier p) ≡ None → p.link ≡ first.link
+same-first : (first p : Captured) (rest earlier later : List Captured) → first ∷ rest ≡ earlier ++ p ∷ later → first_failing (link_check earlier p) ≡
+    None → p.link ≡ first.link
 same-first first p rest [] later is none = let e : first ≡ p = cc in ap (λ (q : Captured). q.link) (sym e)
 same-first first p rest (q ∷ qs) later is none =
     let e : first ≡ q = cc in
     sym (eqb-true q.link p.link (all_met (link_check (q ∷ qs) p) none).0) ∙ ap (λ (x : Captured). x.link) (sym e)
 
-kept-of : (r : Resolution) (first p : Captured) (rest earlier later : List Captured) → first ∷ rest ≡ earlier ++ p ∷ later → InRange p → IsPlain p → IsWhole r p.time
+kept-of : (r : Resolution) (first p : Captured) (rest earlier later : List Captured) → first ∷ rest ≡ earlier ++ p ∷ later → InRange p → IsPlain p
+    → IsWhole r p.time
     → first_failing (form_checks earlier p) ≡ None → IsKept r first.link p
 kept-of r first p rest earlier later is in_range plain whole none =
     let met = all_met (form_checks earlier p) none in
@@ -145,7 +171,8 @@ kept-of r first p rest earlier later is in_range plain whole none =
 pub pcap-back : Back Pcap
 pcap-back p ps carries =
     let kept = each-following (IsKept Microseconds p.link) (p ∷ ps)
-    (λ earlier q later is. let one = carries.each earlier q later is in kept-of Microseconds p q ps earlier later is one.in_range one.kept.0 one.kept.1 one.taken) [] (p ∷ ps) refl in
+    (λ earlier q later is. let one = carries.each earlier q later is in kept-of Microseconds p q ps earlier later is one.in_range one.kept.0
+    one.kept.1 one.taken) [] (p ∷ ps) refl in
     let one = carries.each [] p ps refl in
     let R : List ℕ → Type 0 = λ t. ReadsBack t (p ∷ ps) in
     subst R (sym (text-start Pcap p ps ∙ ap (λ (l : List ℕ). pcap.file_header Microseconds p.link ++ l) (text-pcap [] (p ∷ ps))))
@@ -154,7 +181,8 @@ pcap-back p ps carries =
 pub nanoseconds-back : Back NsecPcap
 nanoseconds-back p ps carries =
     let kept = each-following (IsKept Nanoseconds p.link) (p ∷ ps)
-    (λ earlier q later is. let one = carries.each earlier q later is in kept-of Nanoseconds p q ps earlier later is one.in_range one.kept tt one.taken) [] (p ∷ ps) refl in
+    (λ earlier q later is. let one = carries.each earlier q later is in kept-of Nanoseconds p q ps earlier later is one.in_range one.kept tt
+    one.taken) [] (p ∷ ps) refl in
     let one = carries.each [] p ps refl in
     let R : List ℕ → Type 0 = λ t. ReadsBack t (p ∷ ps) in
     subst R (sym (text-start NsecPcap p ps ∙ ap (λ (l : List ℕ). pcap.file_header Nanoseconds p.link ++ l) (text-nanoseconds [] (p ∷ ps))))

@@ -1,6 +1,11 @@
 -- What is written in pcapng reads back.
 use Rattle.cap_io.proofs.Backs.{Holds, each-following, holds-none, holds-unit, reads-back}
-use Rattle.cap_io.proofs.Common.{◌≡◌, ℕ, ◌<◌, ◌≤◌, Bool, true, false, List, [], ◌∷◌, ◌++◌, length, map, if◌then◌else◌, Option, None, Some, refl, sym, ap, subst, ◌∙◌, arith, AllByRecursion, flat_map, fold, slice_get, option_map, fold-append, append_assoc, append-nil, length-map, map-append, slice_get-map, slice_get_within, first_failing, Captured, Pcapng, all_met, none_failing, Described, most_interfaces, Section, packets_in, Nothing, PcapngFile, IsUnit, a_first_block, a_block, first_link_after, Back, InRange, IsCarried, ReadsBack, Interface, checks_in, interface_of, interfaces_after_packet, is_among, kept_interfaces, new_among, number_among, state_after}
+use Rattle.cap_io.proofs.Common.{◌≡◌, ℕ, ◌<◌, ◌≤◌, Bool, true, false, List, [], ◌∷◌, ◌++◌, length, map, if◌then◌else◌, Option, None, Some, refl, sym, ap, subst}
+use Rattle.cap_io.proofs.Common.{◌∙◌, arith, AllByRecursion, flat_map, fold, slice_get, option_map, fold-append, append_assoc, append-nil, length-map}
+use Rattle.cap_io.proofs.Common.{map-append, slice_get-map, slice_get_within, first_failing, Captured, Pcapng, all_met, none_failing, Described}
+use Rattle.cap_io.proofs.Common.{most_interfaces, Section, packets_in, Nothing, PcapngFile, IsUnit, a_first_block, a_block, first_link_after, Back, InRange}
+use Rattle.cap_io.proofs.Common.{IsCarried, ReadsBack, Interface, checks_in, interface_of, interfaces_after_packet, is_among, kept_interfaces, new_among}
+use Rattle.cap_io.proofs.Common.{number_among, state_after}
 use Rattle.cap_io.proofs.Interfaces.{found, kept-grows, kept-push}
 use Rattle.cap_io.proofs.Texts.{bare_text, text-start}
 use Rattle.std.proofs.Common.{length-append}
@@ -23,7 +28,8 @@ unit-of first before after bytes ps reads =
     let Q : Section → Type 0 = λ s. IsUnit (PcapngFile first before) bytes (packets_in (Some before) bytes) (PcapngFile (first_link_after first s) s) in
     subst P reads.holds (subst Q reads.declares (a_block first before bytes reads.is_block))
 
-first-unit : (after : Section) (bytes : List ℕ) (ps : List Captured) → ReadsAs None bytes after ps → IsUnit Nothing bytes ps (PcapngFile (first_link_after None after) after)
+first-unit : (after : Section) (bytes : List ℕ) (ps : List Captured) → ReadsAs None bytes after ps → IsUnit Nothing bytes ps
+    (PcapngFile (first_link_after None after) after)
 first-unit after bytes ps reads =
     let P : List Captured → Type 0 = λ qs. IsUnit Nothing bytes qs (PcapngFile (first_link_after None after) after) in
     let Q : Section → Type 0 = λ s. IsUnit Nothing bytes (packets_in None bytes) (PcapngFile (first_link_after None s) s) in
@@ -40,7 +46,8 @@ abbrev HoldsAfter : List Interface → List ℕ → List Captured → Type 0
 HoldsAfter interfaces more ps = (first : Option ℕ) (at : ℕ) → Holds (PcapngFile first (section_of interfaces)) at more ps
 
 -- a packet whose interface has this number
-packet-holds : (interfaces : List Interface) (number : ℕ) (p : Captured) (more : List ℕ) (ps : List Captured) → slice_get interfaces number ≡ Some (interface_of p)
+packet-holds : (interfaces : List Interface) (number : ℕ) (p : Captured) (more : List ℕ) (ps : List Captured) → slice_get interfaces number ≡ Some
+    (interface_of p)
     → length interfaces ≤ most_interfaces → IsKept p → HoldsAfter interfaces more ps → HoldsAfter interfaces (pcapng.packet_block number p ++ more) (p ∷ ps)
 packet-holds interfaces number p more ps known upper_bound kept later first at =
     let within : number < length interfaces = slice_get_within interfaces number (interface_of p) known in
@@ -54,11 +61,13 @@ packet-holds interfaces number p more ps known upper_bound kept later first at =
 interface-holds : (interfaces : List Interface) (p : Captured) (more : List ℕ) (ps : List Captured) → length interfaces < most_interfaces → InRange p
     → HoldsAfter (interfaces ++ interface_of p ∷ []) more ps → HoldsAfter interfaces (pcapng.interface_text p.link p.snap p.name ++ more) ps
 interface-holds interfaces p more ps room in_range later first at =
-    let one = interface_back (map described interfaces) p.link p.snap p.name (omega (arith, length-map interfaces described)) in_range.link in_range.snap in_range.name in
+    let one = interface_back (map described interfaces) p.link p.snap p.name (omega (arith, length-map interfaces described)) in_range.link
+    in_range.snap in_range.name in
     let same : written_section (map described interfaces ++ written_interface p.link p.snap p.name ∷ []) ≡ section_of (interfaces ++ interface_of p ∷ []) =
     ap written_section (sym (map-append described interfaces (interface_of p ∷ []))) in
     let R : Section → Type 0 = λ s. ReadsAs (Some (section_of interfaces)) (pcapng.interface_text p.link p.snap p.name) s [] in
-    let unit = unit-of first (section_of interfaces) (section_of (interfaces ++ interface_of p ∷ [])) (pcapng.interface_text p.link p.snap p.name) [] (subst R same one) in
+    let unit = unit-of first (section_of interfaces) (section_of (interfaces ++ interface_of p ∷ [])) (pcapng.interface_text p.link p.snap p.name) []
+    (subst R same one) in
     holds-unit unit at more ps (later _ _)
 
 -- a packet, after the description of its interface where that is new
@@ -66,23 +75,27 @@ described-holds : (b : Bool) (interfaces : List Interface) (number : ℕ) (p : C
     → slice_get (interfaces ++ (if b then [] else interface_of p ∷ [])) number ≡ Some (interface_of p)
     → length (interfaces ++ (if b then [] else interface_of p ∷ [])) ≤ most_interfaces → IsKept p
     → HoldsAfter (interfaces ++ (if b then [] else interface_of p ∷ [])) more ps
-    → HoldsAfter interfaces ((flat_map (λ (i : Interface). pcapng.interface_text i.link i.snap i.name) (if b then [] else interface_of p ∷ []) ++ pcapng.packet_block number p) ++ more) (p ∷ ps)
+    → HoldsAfter interfaces ((flat_map (λ (i : Interface). pcapng.interface_text i.link i.snap i.name) (if b then [] else interface_of p ∷ [])
+    ++ pcapng.packet_block number p) ++ more) (p ∷ ps)
 described-holds true interfaces number p more ps known upper_bound kept later =
-    packet-holds interfaces number p more ps (rw (append-nil interfaces) at known) (rw (append-nil interfaces) at upper_bound) kept (rw (append-nil interfaces) at later)
+    packet-holds interfaces number p more ps (rw (append-nil interfaces) at known) (rw (append-nil interfaces) at upper_bound) kept
+    (rw (append-nil interfaces) at later)
 described-holds false interfaces number p more ps known upper_bound kept later =
     let bytes : List ℕ = pcapng.interface_text p.link p.snap p.name in
     let split : ((bytes ++ []) ++ pcapng.packet_block number p) ++ more ≡ bytes ++ (pcapng.packet_block number p ++ more) =
     ap (λ (l : List ℕ). (l ++ pcapng.packet_block number p) ++ more) (append-nil bytes) ∙ append_assoc bytes (pcapng.packet_block number p) more in
     let H : List ℕ → Type 0 = λ l. HoldsAfter interfaces l (p ∷ ps) in
     subst H (sym split)
-    (interface-holds interfaces p (pcapng.packet_block number p ++ more) (p ∷ ps) (omega (arith, upper_bound, length-append interfaces (interface_of p ∷ []))) kept.in_range
+    (interface-holds interfaces p (pcapng.packet_block number p ++ more) (p ∷ ps)
+    (omega (arith, upper_bound, length-append interfaces (interface_of p ∷ []))) kept.in_range
     (packet-holds (interfaces ++ interface_of p ∷ []) number p more ps known upper_bound kept later))
 
 -- ---- packets
 
 few-front : (xs ys : List Captured) (n : ℕ) → length (kept_interfaces Pcapng (xs ++ ys)) ≤ n → length (kept_interfaces Pcapng xs) ≤ n
 few-front xs ys n upper_bound =
-    let all : kept_interfaces Pcapng (xs ++ ys) ≡ fold (interfaces_after_packet Pcapng) (kept_interfaces Pcapng xs) ys = fold-append (interfaces_after_packet Pcapng) [] xs ys in
+    let all : kept_interfaces Pcapng (xs ++ ys) ≡ fold (interfaces_after_packet Pcapng) (kept_interfaces Pcapng xs) ys =
+    fold-append (interfaces_after_packet Pcapng) [] xs ys in
     let size = ap length all in
     let more = kept-grows (kept_interfaces Pcapng xs) ys in
     omega (arith, upper_bound, size, more)

@@ -1,5 +1,9 @@
 -- Where a source stands in its text, from one call to the next.
-use Rattle.cap_io.proofs.Common.{◌≡◌, ℕ, ◌+◌, ◌-◌, ◌<◌, ◌⊎◌, inl, inr, Bool, true, false, List, [], ◌∷◌, ◌++◌, length, Option, Some, refl, sym, ◌∙◌, ap, arith, add-zero, zero-add, Result, Ok, append_assoc, append-nil, length-append, length-drop, Fault, ReadFailed, NoMemory, Declared, Nothing, Placed, placed_at, AreUnits, no_unit, items, after_packets, ending_by, FaultAt, front_of, NoUnit, SourceView, Phase, Reading, Ended, Failed, source_at, SkipsUnits, FindsPacket, FindsEnd, FindsFault, Advances, Finds, FitUnits, no_unit_fits, decisive_length}
+use Rattle.cap_io.proofs.Common.{◌≡◌, ℕ, ◌+◌, ◌-◌, ◌<◌, ◌⊎◌, inl, inr, Bool, true, false, List, [], ◌∷◌, ◌++◌, length, Option, Some, refl, sym, ◌∙◌, ap, arith}
+use Rattle.cap_io.proofs.Common.{add-zero, zero-add, Result, Ok, append_assoc, append-nil, length-append, length-drop, Fault, ReadFailed, NoMemory, Declared}
+use Rattle.cap_io.proofs.Common.{Nothing, Placed, placed_at, AreUnits, no_unit, items, after_packets, ending_by, FaultAt, front_of, NoUnit, SourceView, Phase}
+use Rattle.cap_io.proofs.Common.{Reading, Ended, Failed, source_at, SkipsUnits, FindsPacket, FindsEnd, FindsFault, Advances, Finds, FitUnits, no_unit_fits}
+use Rattle.cap_io.proofs.Common.{decisive_length}
 use Rattle.cap_io.proofs.Cuts.{AreUnits-append, items_from-units, items_from-stops}
 use Rattle.cap_io.proofs.Units.{FitUnits-append, FitUnits-wider, held_length-le, one_unit_fits, one_unit}
 use Rattle.cap_io.specs.Capture.{items_from}
@@ -53,7 +57,15 @@ Advances-sound text done packets s s' r at advances = by_phase s.phase refl adva
     stays e same =
         let over = at.ended e in
         rw (same.0, same.1) (record {
-          passes = record { passed = []; splits = over.unread; units = no_unit; offset = rw over.block (simp (add-zero)); room = omega arith; fit = no_unit_fits };
+          passes = record {
+            passed = [];
+            splits = over.unread;
+            units = no_unit;
+            offset = rw over.block (simp (add-zero));
+            room = omega arith;
+            fit =
+                no_unit_fits;
+          };
           ends = over.ends;
           unread = over.unread;
           block = over.block;
@@ -67,7 +79,8 @@ Advances-sound text done packets s s' r at advances = by_phase s.phase refl adva
     by_phase (Failed fault) e advances = absurd (at.sound fault e)
 
 -- the bytes that a source passed are done
-passed-units : (text done : List ℕ) (packets : List Placed) (s s' : SourceView) (rest : List ℕ) → IsAt text done packets false s → (passes : SkipsUnits s s' rest)
+passed-units : (text done : List ℕ) (packets : List Placed) (s s' : SourceView) (rest : List ℕ) → IsAt text done packets false s
+    → (passes : SkipsUnits s s' rest)
     → AreUnits Nothing 0 (done ++ passes.passed) packets s'.declared
 passed-units text done packets s s' rest at passes =
     let place : s.offset + length s.block ≡ length done = at.place ∙ ap length (append-nil done) in
@@ -79,13 +92,15 @@ passed-fit : (text done : List ℕ) (packets : List Placed) (s s' : SourceView) 
     → FitUnits s'.room Nothing (done ++ passes.passed) s'.declared
 passed-fit text done packets s s' rest at passes = FitUnits-append (FitUnits-wider passes.room at.fit) passes.fit
 
-passed-place : (text done : List ℕ) (packets : List Placed) (s s' : SourceView) (rest : List ℕ) → IsAt text done packets false s → (passes : SkipsUnits s s' rest)
+passed-place : (text done : List ℕ) (packets : List Placed) (s s' : SourceView) (rest : List ℕ) → IsAt text done packets false s
+    → (passes : SkipsUnits s s' rest)
     → s'.offset ≡ length (done ++ passes.passed)
 passed-place text done packets s s' rest at passes =
     let place : s.offset + length s.block ≡ length done = at.place ∙ ap length (append-nil done) in
     passes.offset ∙ ap (λ n. n + length passes.passed) place ∙ sym (length-append done passes.passed)
 
-passed-whole : (text done : List ℕ) (packets : List Placed) (s s' : SourceView) (rest : List ℕ) → IsAt text done packets false s → (passes : SkipsUnits s s' rest)
+passed-whole : (text done : List ℕ) (packets : List Placed) (s s' : SourceView) (rest : List ℕ) → IsAt text done packets false s
+    → (passes : SkipsUnits s s' rest)
     → text ≡ (done ++ passes.passed) ++ rest
 passed-whole text done packets s s' rest at passes =
     at.whole ∙ ap (λ (x : List ℕ). done ++ x) passes.splits ∙ sym (append_assoc done passes.passed rest)
@@ -138,10 +153,12 @@ items-begin done rest packets declared units = items_from-units units rest ∙ r
 
 -- the first packets of the whole text are those that are done, and the one that waits
 pub IsAt-items : (text done : List ℕ) (packets : List Placed) (s : SourceView) (at : IsAt text done packets true s)
-    → items text ≡ after_packets (packets ++ record { offset = s.offset; packet = (at.waits refl).packet } ∷ []) (items_from s.declared (length (done ++ s.block)) s.unread)
+    → items text ≡ after_packets (packets ++ record { offset = s.offset; packet = (at.waits refl).packet } ∷ [])
+    (items_from s.declared (length (done ++ s.block)) s.unread)
 IsAt-items text done packets s at =
     let decided = IsAt-decided text done packets s at in
-    rw decided.1.whole (items-begin (done ++ s.block) s.unread (packets ++ record { offset = s.offset; packet = (at.waits refl).packet } ∷ []) s.declared decided.1.units)
+    rw decided.1.whole (items-begin (done ++ s.block) s.unread (packets ++ record { offset = s.offset; packet = (at.waits refl).packet } ∷ [])
+    s.declared decided.1.units)
 
 -- why there was no unit: the text has a fault there; or it is cut short by a failed read or because
 -- memory runs out
@@ -175,10 +192,12 @@ IsAt-fault text done packets s s' fault at finds =
     ]
   where
     -- fewer bytes came of the rest than decide what is there
-    few : fault ≡ ReadFailed → s'.given + length text < given_in_all s + length (done ++ finds.broken.passes.passed) + decisive_length s'.declared finds.broken.rest
+    few : fault ≡ ReadFailed → s'.given + length text < given_in_all s + length (done ++ finds.broken.passes.passed) + decisive_length s'.declared
+        finds.broken.rest
     few failed =
         let taken = finds.broken.taken in
         let left : length s'.unread ≡ length finds.broken.rest - taken.count = ap length taken.rest ∙ length-drop taken.count finds.broken.rest in
         let long : length text ≡ length (done ++ finds.broken.passes.passed) + length finds.broken.rest =
-        ap length (passed-whole text done packets s s' finds.broken.rest at finds.broken.passes) ∙ length-append (done ++ finds.broken.passes.passed) finds.broken.rest in
+        ap length (passed-whole text done packets s s' finds.broken.rest at finds.broken.passes) ∙ length-append (done ++ finds.broken.passes.passed)
+        finds.broken.rest in
         omega (arith, left, long, taken.there, taken.unfinished failed, finds.broken.counted)

@@ -1,5 +1,12 @@
 -- What a sink wrote is the text of the packets that were put to it.
-use Rattle.cap_io.proofs.Common.{◌≡◌, ◌⊎◌, inl, inr, ℕ, ◌+◌, ◌/◌, ◌^◌, nat_le, nat_lt, length, Bool, true, false, List, [], ◌∷◌, ◌++◌, Option, None, Some, Result, Ok, Err, refl, sym, ◌∙◌, ap, ap₂, subst, append_assoc, append-nil, first_failing, AppendsOrStops, Captured, Fault, WriteFailed, NoMemory, LinkTypesDiffer, TooLong, TimeOutOfRange, TooManyOutputInterfaces, Format, Pcap, NsecPcap, Pcapng, most_captured, most_block, SinkState, Empty, Started, Broken, Interface, added_text, appended_packet, checks_in, file_start, file_start_in, has_link, has_room, interfaces_after_packet, kept_interfaces, packets_text, refusal_of, state_after, state_after_packet, takes_memory, takes_memory_in, text, SinkView, sink_at, HasPut, HasPackets, AddsPacket, PutsNext, WritesPacket, PutsPacket, PutWrites, IsPutAnswer, Finishes, FinishWrites, FinishesEmpty, link_or_ethernet, refusal_in, added_in, EachPutGoesByPackets, PutExtendsText}
+use Rattle.cap_io.proofs.Common.{◌≡◌, ◌⊎◌, inl, inr, ℕ, ◌+◌, ◌/◌, ◌^◌, nat_le, nat_lt, length, Bool, true, false, List, [], ◌∷◌, ◌++◌, Option, None, Some}
+use Rattle.cap_io.proofs.Common.{Result, Ok, Err, refl, sym, ◌∙◌, ap, ap₂, subst, append_assoc, append-nil, first_failing, AppendsOrStops, Captured, Fault}
+use Rattle.cap_io.proofs.Common.{WriteFailed, NoMemory, LinkTypesDiffer, TooLong, TimeOutOfRange, TooManyOutputInterfaces, Format, Pcap, NsecPcap, Pcapng}
+use Rattle.cap_io.proofs.Common.{most_captured, most_block, SinkState, Empty, Started, Broken, Interface, added_text, appended_packet, checks_in, file_start}
+use Rattle.cap_io.proofs.Common.{file_start_in, has_link, has_room, interfaces_after_packet, kept_interfaces, packets_text, refusal_of, state_after}
+use Rattle.cap_io.proofs.Common.{state_after_packet, takes_memory, takes_memory_in, text, SinkView, sink_at, HasPut, HasPackets, AddsPacket, PutsNext}
+use Rattle.cap_io.proofs.Common.{WritesPacket, PutsPacket, PutWrites, IsPutAnswer, Finishes, FinishWrites, FinishesEmpty, link_or_ethernet, refusal_in}
+use Rattle.cap_io.proofs.Common.{added_in, EachPutGoesByPackets, PutExtendsText}
 use Rattle.cap_io.proofs.Interfaces.{kept-push}
 use Rattle.cap_pcapng.specs.Padding.{padded_length}
 use Rattle.cap_pcapng.specs.Encoding as pcapng
@@ -20,7 +27,8 @@ packets_text-append format earlier [] ys = rw (append-nil earlier) refl
 packets_text-append format earlier (x ∷ xs) ys =
     ap (λ (t : List ℕ). added_text format earlier x ++ t) (packets_text-append format (earlier ++ x ∷ []) xs ys)
     ∙ sym (append_assoc (added_text format earlier x) (packets_text format (earlier ++ x ∷ []) xs) (packets_text format ((earlier ++ x ∷ []) ++ xs) ys))
-    ∙ ap (λ (b : List Captured). (added_text format earlier x ++ packets_text format (earlier ++ x ∷ []) xs) ++ packets_text format b ys) (append_assoc earlier (x ∷ []) xs)
+    ∙ ap (λ (b : List Captured). (added_text format earlier x ++ packets_text format (earlier ++ x ∷ []) xs) ++ packets_text format b ys)
+    (append_assoc earlier (x ∷ []) xs)
 
 -- a packet adds its part after the text of those before it
 pub text-more : (format : Format) (ps : List Captured) (p : Captured) (xs : List Captured)
@@ -39,7 +47,8 @@ bare_text format earlier (p ∷ ps) = appended_packet format (kept_interfaces fo
 
 bare-following : (format : Format) (q : Captured) (qs ps : List Captured) → packets_text format (q ∷ qs) ps ≡ bare_text format (q ∷ qs) ps
 bare-following format q qs [] = refl
-bare-following format q qs (p ∷ ps) = ap (λ (l : List ℕ). appended_packet format (kept_interfaces format (q ∷ qs)) p ++ l) (bare-following format q (qs ++ p ∷ []) ps)
+bare-following format q qs (p ∷ ps) = ap (λ (l : List ℕ). appended_packet format (kept_interfaces format (q ∷ qs)) p ++ l)
+    (bare-following format q (qs ++ p ∷ []) ps)
 
 pub text-start : (format : Format) (p : Captured) (ps : List Captured) → text format (p ∷ ps) ≡ file_start format p.link ++ bare_text format [] (p ∷ ps)
 text-start format p ps =
@@ -66,7 +75,8 @@ refused-failure Pcap ps p fault is e =
 refused-failure NsecPcap ps p fault is e =
     record_by (has_link (state_after ps) p) (nat_le (length p.bytes) most_captured) (nat_lt (p.time / 1000000000) (2 ^ 32)) fault is e
 refused-failure Pcapng ps p fault is e =
-    block_by (nat_le (32 + padded_length (length p.bytes) + length (pcapng.comment_text p.comment)) most_block) (has_room (kept_interfaces Pcapng ps) p) fault is e
+    block_by (nat_le (32 + padded_length (length p.bytes) + length (pcapng.comment_text p.comment)) most_block)
+    (has_room (kept_interfaces Pcapng ps) p) fault is e
 
 pub refused-write_failed : (format : Format) (ps : List Captured) (p : Captured) → refusal_of format ps p ≡ Some WriteFailed → ⊥
 refused-write_failed format ps p e = refused-failure format ps p WriteFailed (inl refl) e
@@ -113,13 +123,15 @@ adds-broken old p fault mid new adds is = rw is (record {
 
 -- ---- a put by the state before it
 
-pub puts-tell : (state : SinkState) (old : SinkView) (p : Captured) (r : Result (Unit {0}) Fault) (new : SinkView) → ((fault : Fault) → state ≡ Broken fault → ⊥)
+pub puts-tell : (state : SinkState) (old : SinkView) (p : Captured) (r : Result (Unit {0}) Fault) (new : SinkView)
+    → ((fault : Fault) → state ≡ Broken fault → ⊥)
     → PutsNext old p r new → PutsPacket state old p r new
 puts-tell Empty old p r new sound puts = puts
 puts-tell (Started link) old p r new sound puts = puts
 puts-tell (Broken fault) old p r new sound puts = absurd (sound fault refl)
 
-pub put-writes-tell : (state : SinkState) (old : SinkView) (p : Captured) (r : Result (Unit {0}) Fault) (new : SinkView) → ((fault : Fault) → state ≡ Broken fault → ⊥)
+pub put-writes-tell : (state : SinkState) (old : SinkView) (p : Captured) (r : Result (Unit {0}) Fault) (new : SinkView)
+    → ((fault : Fault) → state ≡ Broken fault → ⊥)
     → WritesPacket (refusal_in old p) (added_in old p) old.written r new.written → PutWrites state old p r new
 put-writes-tell Empty old p r new sound writes = writes
 put-writes-tell (Started link) old p r new sound writes = writes
@@ -127,7 +139,8 @@ put-writes-tell (Broken fault) old p r new sound writes = absurd (sound fault re
 
 -- ---- a put to a sink to which these packets were put
 
-next-after : (ps : List Captured) (old : SinkView) (p : Captured) (r : Result (Unit {0}) Fault) (new : SinkView) → PutsPacket (state_after ps) old p r new → PutsNext old p r new
+next-after : (ps : List Captured) (old : SinkView) (p : Captured) (r : Result (Unit {0}) Fault) (new : SinkView) → PutsPacket (state_after ps) old p r
+    new → PutsNext old p r new
 next-after [] old p r new puts = puts
 next-after (q ∷ qs) old p r new puts = puts
 
@@ -188,7 +201,8 @@ pub finish-none : (before : List ℕ) (old : SinkView) (first : Option ℕ) (r :
 finish-none before old first r new has finishes = let P : SinkState → Type 0 = λ st. Finishes st old first r new in subst P has.put.state finishes
 
 pub finish-none-writes : (before : List ℕ) (old : SinkView) (first : Option ℕ) (r : Result (Unit {0}) Fault) (new : SinkView)
-    → HasPackets before old [] → FinishWrites old.state old first r new → AppendsOrStops r old.written (file_start old.format (link_or_ethernet first)) new.written
+    → HasPackets before old [] → FinishWrites old.state old first r new → AppendsOrStops r old.written
+    (file_start old.format (link_or_ethernet first)) new.written
 finish-none-writes before old first r new has writes = let P : SinkState → Type 0 = λ st. FinishWrites st old first r new in subst P has.put.state writes
 
 -- packets were put: all is written

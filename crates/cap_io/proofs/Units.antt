@@ -1,7 +1,15 @@
 -- A unit and what a text begins with.
 use Rattle.std.proofs.Math.Bool.{or-false}
-use Rattle.cap_io.proofs.Common.{◌≡◌, ℕ, Bool, true, false, ◌&&◌, cond, is_some, ◌⊎◌, inl, inr, ◌<◌, ◌≤◌, List, [], ◌∷◌, ◌++◌, length, take, drop, Option, None, Some, refl, sym, ◌∙◌, ap, arith, append-nil, length-append, length-take-le, take-append-drop, take_at, Captured, Fault, Head, Resolution, Microseconds, Nanoseconds, form_in, header_checks, header_fault, header_in, magic, IsHeader, record_fault, record_size, record_packet, IsRecord, header_fault-append, header_fault-none, header_in-append, IsRecord-front, IsRecord-take, ◌==◌, nat_le, le-leb, u32_in, Little, Big, all_met, frame_checks, is_section, section_type, IsBlock, Section, block_size, packets_in, unit_fault, Declared, Nothing, PcapFile, PcapngFile, IsUnit, a_pcap_header, a_pcap_record, a_first_block, a_block, file_after, is_pcapng, placed_at, AreUnits, no_unit, unit_then, Whole, front_of, subst, append_assoc, FitUnits, no_unit_fits, unit_fits, held_length}
-use Rattle.cap_io.proofs.Fronts.{block_unless, front_of_file, header_unless, record_unless, front_of-header, front_of-record, front_of-pcapng, front_of-following, front_of_block-whole}
+use Rattle.cap_io.proofs.Common.{◌≡◌, ℕ, Bool, true, false, ◌&&◌, cond, is_some, ◌⊎◌, inl, inr, ◌<◌, ◌≤◌, List, [], ◌∷◌, ◌++◌, length, take, drop, Option, None}
+use Rattle.cap_io.proofs.Common.{Some, refl, sym, ◌∙◌, ap, arith, append-nil, length-append, length-take-le, take-append-drop, take_at, Captured, Fault, Head}
+use Rattle.cap_io.proofs.Common.{Resolution, Microseconds, Nanoseconds, form_in, header_checks, header_fault, header_in, magic, IsHeader, record_fault}
+use Rattle.cap_io.proofs.Common.{record_size, record_packet, IsRecord, header_fault-append, header_fault-none, header_in-append, IsRecord-front, IsRecord-take}
+use Rattle.cap_io.proofs.Common.{◌==◌, nat_le, le-leb, u32_in, Little, Big, all_met, frame_checks, is_section, section_type, IsBlock, Section, block_size}
+use Rattle.cap_io.proofs.Common.{packets_in, unit_fault, Declared, Nothing, PcapFile, PcapngFile, IsUnit, a_pcap_header, a_pcap_record, a_first_block, a_block}
+use Rattle.cap_io.proofs.Common.{file_after, is_pcapng, placed_at, AreUnits, no_unit, unit_then, Whole, front_of, subst, append_assoc, FitUnits, no_unit_fits}
+use Rattle.cap_io.proofs.Common.{unit_fits, held_length}
+use Rattle.cap_io.proofs.Fronts.{block_unless, front_of_file, header_unless, record_unless, front_of-header, front_of-record, front_of-pcapng}
+use Rattle.cap_io.proofs.Fronts.{front_of-following, front_of_block-whole}
 use Rattle.std.proofs.Common.{eqb-true}
 use Rattle.cap_pcap.proofs.Records.{passes}
 use Rattle.cap_octet.specs.Number.{number_in}
@@ -27,9 +35,11 @@ and_second false b e = absurd (cc)
 
 pub header-other : (text : List ℕ) → is_pcapng text ≡ true → header_fault text ≡ None → ⊥
 header-other text is none =
-    let little : u32_in Little text 0 ≡ section_type = eqb-true (u32_in Little text 0) section_type (and_second (nat_le 4 (length text)) (is_section text) is) in
+    let little : u32_in Little text 0 ≡ section_type = eqb-true (u32_in Little text 0) section_type
+    (and_second (nat_le 4 (length text)) (is_section text) is) in
     let some : is_some (form_in text) ≡ true = and_second (nat_le 4 (length text)) (is_some (form_in text)) (all_met (header_checks text) none).0 in
-    let form = some_form (u32_in Big text 0 == magic Microseconds) (u32_in Big text 0 == magic Nanoseconds) (Big, Microseconds) (Big, Nanoseconds) (rw little at some) in
+    let form = some_form (u32_in Big text 0 == magic Microseconds) (u32_in Big text 0 == magic Nanoseconds) (Big, Microseconds) (Big, Nanoseconds)
+    (rw little at some) in
     let enough : 4 ≤ length text = omega (arith, header_fault-none text none) in
     elim form [
       | inl e ↦ not_swapped text Microseconds enough little (eqb-true (u32_in Big text 0) (magic Microseconds) e)
@@ -58,14 +68,16 @@ header-front bytes more head is =
     front_of-header (bytes ++ more) (other-header (bytes ++ more) none) none
     ∙ rw (header_in-append bytes more (omega (arith, is.whole)), is.whole, is.says) refl
 
-record-front : (head : Head) (bytes more : List ℕ) → IsRecord head bytes → front_of (PcapFile head) (bytes ++ more) ≡ Whole (length bytes) (record_packet head bytes ∷ []) (PcapFile head)
+record-front : (head : Head) (bytes more : List ℕ) → IsRecord head bytes → front_of (PcapFile head) (bytes ++ more) ≡ Whole (length bytes)
+    (record_packet head bytes ∷ []) (PcapFile head)
 record-front head bytes more is =
     let p = IsRecord-front head bytes more is in
     front_of-record head (bytes ++ more) p.0
     ∙ rw (p.1, take_at bytes more (length bytes) refl) refl
 
 block-front : (first : Option ℕ) (before : Option Section) (bytes more : List ℕ) → IsBlock before bytes
-    → block_unless (unit_fault before (bytes ++ more)) first before (bytes ++ more) ≡ Whole (length bytes) (packets_in before bytes) (file_after first before bytes)
+    → block_unless (unit_fault before (bytes ++ more)) first before (bytes ++ more) ≡ Whole (length bytes) (packets_in before bytes)
+    (file_after first before bytes)
 block-front first before bytes more is =
     let p = block.IsBlock-front before bytes more is in
     front_of_block-whole first before (bytes ++ more) p.0
@@ -75,7 +87,8 @@ block-sized : (before : Option Section) (bytes : List ℕ) → IsBlock before by
 block-sized before bytes is = (block.passes before bytes is.passes).enough
 
 -- what follows a unit has no part in it
-pub front_of-unit : {b : Declared} {u : List ℕ} {qs : List Captured} {c : Declared} → IsUnit b u qs c → (more : List ℕ) → front_of b (u ++ more) ≡ Whole (length u) qs c
+pub front_of-unit : {b : Declared} {u : List ℕ} {qs : List Captured} {c : Declared} → IsUnit b u qs c → (more : List ℕ) → front_of b (u ++ more) ≡
+    Whole (length u) qs c
 front_of-unit (a_pcap_header bytes head is) more = header-front bytes more head is
 front_of-unit (a_pcap_record head bytes is) more = record-front head bytes more is
 front_of-unit (a_first_block bytes is) more =
@@ -90,14 +103,16 @@ pub record IsFront (declared : Declared) (text : List ℕ) (size : ℕ) (packets
   pub there : size ≤ length text
   pub some : 0 < size
 
-same_front : (declared : Declared) (text : List ℕ) (m n : ℕ) (ps qs : List Captured) (c d : Declared) → Whole m ps c ≡ Whole n qs d → IsFront declared text m ps c → IsFront declared text n qs d
+same_front : (declared : Declared) (text : List ℕ) (m n : ℕ) (ps qs : List Captured) (c d : Declared) → Whole m ps c ≡ Whole n qs d
+    → IsFront declared text m ps c → IsFront declared text n qs d
 same_front declared text m n ps qs c d e is =
     let size : m ≡ n = cc in
     let packets : ps ≡ qs = cc in
     let after : c ≡ d = cc in
     rw (← size, ← packets, ← after) is
 
-header-is : (text : List ℕ) (size : ℕ) (packets : List Captured) (after : Declared) (fault : Option Fault) → header_fault text ≡ fault → header_unless fault text ≡ Whole size packets after → IsFront Nothing text size packets after
+header-is : (text : List ℕ) (size : ℕ) (packets : List Captured) (after : Declared) (fault : Option Fault) → header_fault text ≡ fault
+    → header_unless fault text ≡ Whole size packets after → IsFront Nothing text size packets after
 header-is text size packets after None none e =
     let enough : 24 ≤ length text = header_fault-none text none in
     let joined : take 24 text ++ drop 24 text ≡ text = take-append-drop 24 text in
@@ -105,11 +120,17 @@ header-is text size packets after None none e =
     let passes : header_fault (take 24 text) ≡ None = sym (header_fault-append (take 24 text) (drop 24 text) (omega arith)) ∙ ap header_fault joined ∙ none in
     let says : header_in text ≡ header_in (take 24 text) = ap header_in (sym joined) ∙ header_in-append (take 24 text) (drop 24 text) (omega arith) in
     let is : IsFront Nothing text 24 [] (PcapFile (header_in text)) =
-    record { unit = a_pcap_header (take 24 text) (header_in text) (record { passes = passes; whole = long; says = says }); there = enough; some = omega arith } in
+    record {
+      unit = a_pcap_header (take 24 text) (header_in text) (record { passes = passes; whole = long; says = says });
+      there = enough;
+      some =
+          omega arith;
+    } in
     same_front Nothing text 24 size [] packets (PcapFile (header_in text)) after e is
 header-is text size packets after (Some fault) fails e = (cc)
 
-record-is : (head : Head) (text : List ℕ) (size : ℕ) (packets : List Captured) (after : Declared) (fault : Option Fault) → record_fault head text ≡ fault → record_unless fault head text ≡ Whole size packets after
+record-is : (head : Head) (text : List ℕ) (size : ℕ) (packets : List Captured) (after : Declared) (fault : Option Fault) → record_fault head text ≡
+    fault → record_unless fault head text ≡ Whole size packets after
     → IsFront (PcapFile head) text size packets after
 record-is head text size packets after None none e =
     let p = passes head text none in
@@ -120,7 +141,8 @@ record-is head text size packets after None none e =
 record-is head text size packets after (Some fault) fails e = (cc)
 
 -- the block that a text begins with, as a unit
-block-is : (declared : Declared) (first : Option ℕ) (before : Option Section) (text : List ℕ) (size : ℕ) (packets : List Captured) (after : Declared) (fault : Option Fault)
+block-is : (declared : Declared) (first : Option ℕ) (before : Option Section) (text : List ℕ) (size : ℕ) (packets : List Captured) (after : Declared)
+    (fault : Option Fault)
     → unit_fault before text ≡ fault → block_unless fault first before text ≡ Whole size packets after
     → ((bytes : List ℕ) → IsBlock before bytes → IsUnit declared bytes (packets_in before bytes) (file_after first before bytes))
     → IsFront declared text size packets after
@@ -132,17 +154,20 @@ block-is declared first before text size packets after None none e unit =
     same_front declared text (block_size before text) size (packets_in before front) packets (file_after first before front) after e is
 block-is declared first before text size packets after (Some fault) fails e unit = (cc)
 
-file-is : (text : List ℕ) (size : ℕ) (packets : List Captured) (after : Declared) (section : Bool) → front_of_file section text ≡ Whole size packets after → IsFront Nothing text size packets after
+file-is : (text : List ℕ) (size : ℕ) (packets : List Captured) (after : Declared) (section : Bool) → front_of_file section text ≡ Whole size packets
+    after → IsFront Nothing text size packets after
 file-is text size packets after true e = block-is Nothing None None text size packets after (unit_fault None text) refl e (λ bytes is. a_first_block bytes is)
 file-is text size packets after false e = header-is text size packets after (header_fault text) refl e
 
-pub front_of-is : (declared : Declared) (text : List ℕ) (size : ℕ) (packets : List Captured) (after : Declared) → front_of declared text ≡ Whole size packets after → IsFront declared text size packets after
+pub front_of-is : (declared : Declared) (text : List ℕ) (size : ℕ) (packets : List Captured) (after : Declared) → front_of declared text ≡ Whole size
+    packets after → IsFront declared text size packets after
 front_of-is Nothing text size packets after e = file-is text size packets after (is_pcapng text) e
 front_of-is (PcapFile head) [] size packets after e = (cc)
 front_of-is (PcapFile head) (b ∷ bytes) size packets after e = record-is head (b ∷ bytes) size packets after (record_fault head (b ∷ bytes)) refl e
 front_of-is (PcapngFile first section) [] size packets after e = (cc)
 front_of-is (PcapngFile first section) (b ∷ bytes) size packets after e =
-    block-is (PcapngFile first section) first (Some section) (b ∷ bytes) size packets after (unit_fault (Some section) (b ∷ bytes)) refl e (λ u is. a_block first section u is)
+    block-is (PcapngFile first section) first (Some section) (b ∷ bytes) size packets after (unit_fault (Some section) (b ∷ bytes)) refl e
+    (λ u is. a_block first section u is)
 
 -- one unit alone
 pub one_unit : {b c : Declared} {at : ℕ} {u : List ℕ} {qs : List Captured} → IsUnit b u qs c → AreUnits b at u (placed_at at qs) c
@@ -160,7 +185,8 @@ FitUnits-append no_unit_fits others = others
 FitUnits-append {room} {b} {c} {d} {u} {v} (unit_fits {u = first} {more = more} unit fits rest) others =
     subst (λ (text : List ℕ). FitUnits room b text d) (sym (append_assoc first more v)) (unit_fits unit fits (FitUnits-append rest others))
 
-pub one_unit_fits : {room size : ℕ} {b d : Declared} {u : List ℕ} {qs : List Captured} → IsUnit b u qs d → held_length b d (length u) ≡ size → size ≤ room → FitUnits room b u d
+pub one_unit_fits : {room size : ℕ} {b d : Declared} {u : List ℕ} {qs : List Captured} → IsUnit b u qs d → held_length b d (length u) ≡ size
+    → size ≤ room → FitUnits room b u d
 one_unit_fits {room} {size} {b} {d} {u} unit whole fits =
     subst (λ (text : List ℕ). FitUnits room b text d) (append-nil u) (unit_fits unit (omega (arith, whole, fits)) no_unit_fits)
 

@@ -1,10 +1,13 @@
 -- The names that most proofs here cite, passed on from one place. Declares nothing.
-pub use Rattle.std.proofs.Common.{◌≡◌, ℕ, ap, Bool, true, false, ◌&&◌, None, if◌then◌else◌, zero, suc, ◌+◌, ◌<◌, ◌≤◌, ◌⊎◌, inl, inr, refl, sym, ◌∙◌, arith, rules, ℤ, pos, negsuc, ◌≤ℤ◌, ◌+ℤ◌, ◌-◌, unsigned_abs, Some, nat_lt, List, ◌++◌, length, take, drop, Result, Ok, Err, IfOk, ◌*◌, ◌^◌, ◌==◌, not, [], ◌∷◌, get_or, min, subst, Option, nat_le, length-append, FitsSigned, w16, w64, of_z, to_z, position}
+pub use Rattle.std.proofs.Common.{◌≡◌, ℕ, ap, Bool, true, false, ◌&&◌, None, if◌then◌else◌, zero, suc, ◌+◌, ◌<◌, ◌≤◌, ◌⊎◌, inl, inr, refl, sym, ◌∙◌, arith}
+pub use Rattle.std.proofs.Common.{rules, ℤ, pos, negsuc, ◌≤ℤ◌, ◌+ℤ◌, ◌-◌, unsigned_abs, Some, nat_lt, List, ◌++◌, length, take, drop, Result, Ok, Err, IfOk}
+pub use Rattle.std.proofs.Common.{◌*◌, ◌^◌, ◌==◌, not, [], ◌∷◌, get_or, min, subst, Option, nat_le, length-append, FitsSigned, w16, w64, of_z, to_z, position}
 pub use Rattle.std.proofs.Math.Nat.{mul-le-mul_left, pow-le-pow_right, one-le-pow, mul-le-mul_right}
 pub use Rattle.std.proofs.Math.Seq.{take-add, take-append-add}
 pub use Rattle.std.proofs.lemmas.Bool.{lt-ltb, le-ltb, cases_order, le-leb, leb-true}
 pub use Rattle.std.proofs.lemmas.Int.{to_z-of_z, to_z_pos}
-pub use Rattle.std.proofs.lemmas.List.{drop-append-le, append_assoc, length-take-le, take-append-drop, at_drop_more, length-take, drop-drop, drop_at, take_at, append-nil, take-take, take_all, take-append-le, drop_more, take_rest}
+pub use Rattle.std.proofs.lemmas.List.{drop-append-le, append_assoc, length-take-le, take-append-drop, at_drop_more, length-take, drop-drop, drop_at, take_at}
+pub use Rattle.std.proofs.lemmas.List.{append-nil, take-take, take_all, take-append-le, drop_more, take_rest}
 pub use Rattle.std.proofs.raw_atomic.Walks.{proved}
 pub use Rattle.std.specs.Io.Buffered.{reader_buffer, reader_capacity, reader_inner}
 pub use Rattle.std.specs.{List.flat_map, Str.Parse.AllDigits, Str.Parse.digits_value_after, Str.Parse.digits_value}

@@ -1,5 +1,6 @@
 -- Dates, second by second and digit by digit.
-use Rattle.std.proofs.Common.{◌≡◌, ℕ, zero, suc, ◌+◌, ◌-◌, ◌*◌, ◌/◌, ◌%◌, ◌<◌, Bool, true, ◌&&◌, T, eqb, ◌++◌, get_or, refl, arith, eqb→eq, eq-zero-or-pos, inl, inr, append_assoc}
+use Rattle.std.proofs.Common.{◌≡◌, ℕ, zero, suc, ◌+◌, ◌-◌, ◌*◌, ◌/◌, ◌%◌, ◌<◌, Bool, true, ◌&&◌, T, eqb, ◌++◌, get_or, refl, arith, eqb→eq, eq-zero-or-pos, inl}
+use Rattle.std.proofs.Common.{inr, append_assoc}
 use lib.Ieee.Fits.{and_l, and_r}
 use Rattle.cap_octet.specs.Date.{NANOS_PER_SECOND, NANOS_PER_DAY, date_text, digits, second_text}
 use Rattle.cap_octet.specs.declared.date.TheConstants.{PAIRS}

@@ -1,11 +1,14 @@
 -- Days counted one by one are the days of their numbers.
-use Rattle.cap_octet.proofs.Common.{◌≡◌, ℕ, ap, zero, suc, ◌+◌, ◌<◌, ◌≤◌, ◌⊎◌, inl, inr, refl, sym, ◌∙◌, arith, rules, ℤ, pos, negsuc, ◌≤ℤ◌, ◌+ℤ◌, ◌-◌, unsigned_abs, Some, nat_lt, lt-ltb, le-ltb, cases_order, days_in_month, IsCivilDate, epoch_day, signed_arith, le-leb, leb-true, day_number}
+use Rattle.cap_octet.proofs.Common.{◌≡◌, ℕ, ap, zero, suc, ◌+◌, ◌<◌, ◌≤◌, ◌⊎◌, inl, inr, refl, sym, ◌∙◌, arith, rules, ℤ, pos, negsuc, ◌≤ℤ◌, ◌+ℤ◌, ◌-◌}
+use Rattle.cap_octet.proofs.Common.{unsigned_abs, Some, nat_lt, lt-ltb, le-ltb, cases_order, days_in_month, IsCivilDate, epoch_day, signed_arith, le-leb}
+use Rattle.cap_octet.proofs.Common.{leb-true, day_number}
 use Rattle.cap_octet.proofs.Numerals.{both}
 use Rattle.jiff_core.specs.{Calendar.days_from_civil, declared.civil.date.Date.Date}
 use Rattle.cap_octet.specs.Calendar.{Day, ymd, next_day, day_from_epoch}
 use Rattle.cap_octet.specs.Laws.{DayHasItsNumber, NumberHasItsDay}
 use Rattle.jiff_core.proofs.CalendarLemmas.{days_in_month_bounds}
-use Rattle.jiff_core.proofs.DateLemmas.{days_from_civil-day, days_from_civil-next_month, days_from_civil-next_year, days_from_civil-max, epoch_day_injective, epoch_day_same, epoch_day-lt, cases_date}
+use Rattle.jiff_core.proofs.DateLemmas.{days_from_civil-day, days_from_civil-next_month, days_from_civil-next_year, days_from_civil-max, epoch_day_injective}
+use Rattle.jiff_core.proofs.DateLemmas.{epoch_day_same, epoch_day-lt, cases_date}
 use Rattle.std.proofs.lemmas.Option.{cond_some}
 
 -- c is the day with the number n
@@ -38,14 +41,16 @@ counted_in_year n c h ge lt =
       number = omega (arith, signed_arith, h.number, days_from_civil-next_month (pos c.year) c.month c.day h.civil.1.0 last);
     }
 
-counted_next_year : (n : ℕ) (c : Day) → IsCounted n c → n < 200000 → days_in_month (pos c.year) c.month ≤ c.day → 12 ≤ c.month → IsCounted (suc n) (ymd (c.year + 1) 1 1)
+counted_next_year : (n : ℕ) (c : Day) → IsCounted n c → n < 200000 → days_in_month (pos c.year) c.month ≤ c.day → 12 ≤ c.month
+    → IsCounted (suc n) (ymd (c.year + 1) 1 1)
 counted_next_year n c h small ge last_month =
     let month : c.month ≡ 12 = omega arith in
     let long : days_in_month (pos c.year) c.month ≡ 31 = rw month refl in
     let day : c.day ≡ 31 = omega arith in
     let at_end : days_from_civil (pos c.year) 12 31 ≡ pos n = rw (month, day) at h.number in
     let next = days_from_civil-next_year (pos c.year) (pos (c.year + 1)) (omega (arith, signed_arith)) (omega (arith, signed_arith)) in
-    let not_last : c.year ≡ 9999 → ⊥ = λ e. (let there : days_from_civil (pos 9999) 12 31 ≡ pos n = rw e at at_end in omega (arith, signed_arith, there, days_from_civil-max)) in
+    let not_last : c.year ≡ 9999 → ⊥ = λ e. (let there : days_from_civil (pos 9999) 12 31 ≡ pos n = rw e at at_end in
+    omega (arith, signed_arith, there, days_from_civil-max)) in
     let more : c.year < 9999 = omega (arith, signed_arith, h.civil.0, not_last) in
     record {
       civil = ((omega (arith, signed_arith), omega (arith, signed_arith)), (omega arith, omega arith), (omega arith, omega arith));
@@ -70,10 +75,19 @@ counted zero h = counted_first
 counted (suc n) h = counted_next n (day_from_epoch n) (counted n (omega arith)) (omega arith)
 
 -- a date with the day number n is the day that is n days after 1970-01-01
-pub counted_date : (d : Date) (n : ℕ) → n ≤ 200000 → epoch_day d ≡ pos n → (d.year ≡ pos (day_from_epoch n).year) × (d.month ≡ (day_from_epoch n).month) × (d.day ≡ (day_from_epoch n).day)
+pub counted_date : (d : Date) (n : ℕ) → n ≤ 200000 → epoch_day d ≡ pos n → (d.year ≡ pos (day_from_epoch n).year)
+    × (d.month ≡ (day_from_epoch n).month) × (d.day ≡ (day_from_epoch n).day)
 counted_date d n small e =
     let h = counted n small in
-    let there : Date = record { year = pos (day_from_epoch n).year; month = (day_from_epoch n).month; day = (day_from_epoch n).day; year_in = h.civil.0; month_in = h.civil.1; day_in = h.civil.2 } in
+    let there : Date = record {
+      year = pos (day_from_epoch n).year;
+      month = (day_from_epoch n).month;
+      day = (day_from_epoch n).day;
+      year_in =
+          h.civil.0;
+      month_in = h.civil.1;
+      day_in = h.civil.2;
+    } in
     epoch_day_injective d there (e ∙ sym h.number)
 
 -- a date from 1970 on has no negative day number
@@ -104,7 +118,8 @@ days_since z y m d r e civil low sum =
     let whole : days_from_civil (pos y) m d +ℤ pos 4371587 ≡ pos r = rw e at sum in
     (omega (arith, signed_arith, late, whole), abs_since (days_from_civil (pos y) m d) r late whole)
 
-pub day_there : (y m d : ℕ) → 1970 ≤ y → y ≤ 9999 → 1 ≤ m → m ≤ 12 → 1 ≤ d → d ≤ days_in_month (pos y) m → day_number y m d ≡ Some (unsigned_abs (days_from_civil (pos y) m d))
+pub day_there : (y m d : ℕ) → 1970 ≤ y → y ≤ 9999 → 1 ≤ m → m ≤ 12 → 1 ≤ d → d ≤ days_in_month (pos y) m → day_number y m d ≡ Some
+    (unsigned_abs (days_from_civil (pos y) m d))
 day_there y m d a b e f g h = rw (le-leb 1970 y a, le-leb y 9999 b, le-leb 1 m e, le-leb m 12 f, le-leb 1 d g, le-leb d (days_in_month (pos y) m) h) refl
 
 pub day_has_its_number : DayHasItsNumber
@@ -131,7 +146,11 @@ numbered y m d n e =
     let year = leb-true y 9999 t2.0 in
     record {
       low = leb-true 1970 y t1.0;
-      civil = ((omega (arith, signed_arith), omega (arith, signed_arith, year)), (leb-true 1 m t3.0, leb-true m 12 t4.0), (leb-true 1 d t5.0, leb-true d _ t5.1));
+      civil = (
+        (omega (arith, signed_arith), omega (arith, signed_arith, year)),
+        (leb-true 1 m t3.0, leb-true m 12 t4.0),
+        (leb-true 1 d t5.0, leb-true d _ t5.1),
+      );
       number = found.1;
     }
 

@@ -1,5 +1,7 @@
 -- What digits write: more digits make it no less, and few digits less than 2^64.
-use Rattle.cap_octet.proofs.Common.{◌≡◌, ℕ, ◌+◌, ◌*◌, ◌^◌, ◌<◌, ◌≤◌, Bool, true, false, nat_lt, ◌&&◌, ◌==◌, not, List, [], ◌∷◌, length, drop, get_or, Some, None, refl, arith, if◌then◌else◌, mul-le-mul_left, pow-le-pow_right, lt-ltb, at_drop_more, AllDigits, digits_value_after, digits_value, are_digits, decimal_value, in_u64}
+use Rattle.cap_octet.proofs.Common.{◌≡◌, ℕ, ◌+◌, ◌*◌, ◌^◌, ◌<◌, ◌≤◌, Bool, true, false, nat_lt, ◌&&◌, ◌==◌, not, List, [], ◌∷◌, length, drop, get_or, Some}
+use Rattle.cap_octet.proofs.Common.{None, refl, arith, if◌then◌else◌, mul-le-mul_left, pow-le-pow_right, lt-ltb, at_drop_more, AllDigits, digits_value_after}
+use Rattle.cap_octet.proofs.Common.{digits_value, are_digits, decimal_value, in_u64}
 use Rattle.std.proofs.lemmas.{Bool.Decides.nat_tests, Int.Digits.digits_value-lt}
 use Rattle.std.specs.Char.{digit_value}
 
@@ -10,7 +12,8 @@ grows radix n (c ∷ cs) h =
     omega (arith, more, mul-le-mul_left n h)
 
 -- the whole is at least the number with the digit at i
-pub whole_grows : (radix n i : ℕ) (cs : List ℕ) → 1 ≤ radix → i < length cs → digits_value_after radix n (drop i cs) ≡ digits_value radix cs → n * radix + digit_value (get_or cs i 0) ≤ digits_value radix cs
+pub whole_grows : (radix n i : ℕ) (cs : List ℕ) → 1 ≤ radix → i < length cs → digits_value_after radix n (drop i cs) ≡ digits_value radix cs
+    → n * radix + digit_value (get_or cs i 0) ≤ digits_value radix cs
 whole_grows radix n i cs h within rest =
     let step = at_drop_more (digits_value_after radix n) cs i 0 within in
     let more = grows radix (n * radix + digit_value (get_or cs i 0)) (drop (i + 1) cs) h in

@@ -1,5 +1,7 @@
 -- A number of seconds is read in a word of 64 bits, and nothing is lost by that.
-use Rattle.cap_octet.proofs.Common.{◌≡◌, ℕ, ◌+◌, ◌-◌, ◌*◌, ◌^◌, ◌<◌, ◌≤◌, inl, inr, Bool, true, false, nat_le, ◌&&◌, ◌==◌, not, List, length, Option, Some, None, refl, sym, ap, ◌∙◌, arith, if◌then◌else◌, take, drop, one-le-pow, mul-le-mul_right, cases_order, lt-ltb, le-ltb, digits_value, NANOS_PER_SECOND, are_digits, decimal_value, in_u64, duration_of_parts, fraction_nanoseconds, number_at}
+use Rattle.cap_octet.proofs.Common.{◌≡◌, ℕ, ◌+◌, ◌-◌, ◌*◌, ◌^◌, ◌<◌, ◌≤◌, inl, inr, Bool, true, false, nat_le, ◌&&◌, ◌==◌, not, List, length, Option, Some}
+use Rattle.cap_octet.proofs.Common.{None, refl, sym, ap, ◌∙◌, arith, if◌then◌else◌, take, drop, one-le-pow, mul-le-mul_right, cases_order, lt-ltb, le-ltb}
+use Rattle.cap_octet.proofs.Common.{digits_value, NANOS_PER_SECOND, are_digits, decimal_value, in_u64, duration_of_parts, fraction_nanoseconds, number_at}
 use Rattle.cap_octet.proofs.Numerals.{below_ten_to, both, few_in_u64}
 use Rattle.std.proofs.{Common.length-take, lemmas.Nat.pow-add}
 use Rattle.std.specs.Option.{option_and_then}
@@ -21,7 +23,8 @@ tests_bound false v n m h e = absurd (cc)
 -- moved to nine digits they are less than a second
 pub part_below : (ds : List ℕ) (n : ℕ) → length ds ≤ 9 → decimal_value ds ≡ Some n → n * 10 ^ (9 - length ds) < 1000000000
 part_below ds n upper_bound e =
-    let below = tests_bound (not (length ds == 0) && are_digits 10 ds) (digits_value 10 ds) n (10 ^ length ds) (λ pass. below_ten_to ds (both (not (length ds == 0)) (are_digits 10 ds) pass).1) e in
+    let below = tests_bound (not (length ds == 0) && are_digits 10 ds) (digits_value 10 ds) n (10 ^ length ds)
+    (λ pass. below_ten_to ds (both (not (length ds == 0)) (are_digits 10 ds) pass).1) e in
     nine (length ds) n upper_bound below
 
 -- a number past the word is past the times

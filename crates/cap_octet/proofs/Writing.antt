@@ -1,5 +1,6 @@
 -- Bytes that are written part by part, and where that stops.
-use Rattle.cap_octet.proofs.Common.{◌≡◌, ℕ, ◌+◌, ◌<◌, List, ◌++◌, length, take, drop, get_or, Err, ap, sym, ◌∙◌, arith, length-append, take-append-add, flat_map, append_assoc, take-append-le, take-append-drop, drop_more, Stops, WritesAll}
+use Rattle.cap_octet.proofs.Common.{◌≡◌, ℕ, ◌+◌, ◌<◌, List, ◌++◌, length, take, drop, get_or, Err, ap, sym, ◌∙◌, arith, length-append, take-append-add}
+use Rattle.cap_octet.proofs.Common.{flat_map, append_assoc, take-append-le, take-append-drop, drop_more, Stops, WritesAll}
 use Rattle.std.proofs.lemmas.Grind.{flat_map-append}
 use Rattle.cap_octet.specs.declared.device.Stopped.{Stopped}
 
@@ -34,7 +35,8 @@ pub parts-stop : {X : Type 0} (f : X → List ℕ) (parts : List X) (i : ℕ) (d
     → i < length parts → mid ≡ old ++ flat_map f (take i parts)
     → stopped.written < length (f (get_or parts i d)) → WritesAll mid (f (get_or parts i d)) (Err stopped) new → Stops old (flat_map f parts) new
 parts-stop f parts i d old mid new stopped within first less second =
-    rw (parts_at f parts i d within) (stops-part old mid new (flat_map f (take i parts)) (f (get_or parts i d)) (flat_map f (drop (i + 1) parts)) stopped first less second)
+    rw (parts_at f parts i d within) (stops-part old mid new (flat_map f (take i parts)) (f (get_or parts i d)) (flat_map f (drop (i + 1) parts))
+    stopped first less second)
 
 -- the same, with how many bytes there are up to where it stopped
 pub parts-stop-at : {X : Type 0} (f : X → List ℕ) (parts : List X) (i : ℕ) (d : X) (before : ℕ) (old mid new : List ℕ) (stopped : Stopped)

@@ -15,7 +15,12 @@ form_in-append front more enough =
 pub header_in-append : (front more : List ℕ) → 24 ≤ length front → header_in (front ++ more) ≡ header_in front
 header_in-append front more enough =
     let order : Order = (form_of front).0 in
-    rw (form_in-append front more (omega arith), number_in-append order 4 front more 16 (omega arith), number_in-append order 4 front more 20 (omega arith)) refl
+    rw (
+      form_in-append front more (omega arith),
+      number_in-append order 4 front more 16 (omega arith),
+      number_in-append order 4 front more 20
+          (omega arith),
+    ) refl
 
 pub header_fault-append : (front more : List ℕ) → 24 ≤ length front → header_fault (front ++ more) ≡ header_fault front
 header_fault-append front more enough =

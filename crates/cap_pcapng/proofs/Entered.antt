@@ -1,5 +1,12 @@
 -- A block finds its place in the table of interfaces, and its packet its data.
-use Rattle.cap_pcapng.proofs.Common.{◌≡◌, ℕ, ◌+◌, ◌-◌, ◌^◌, ◌<◌, ◌≤◌, Bool, true, false, List, [], ◌∷◌, length, take, drop, Option, Some, None, Ok, refl, sym, ap, ap₂, subst, ◌∙◌, arith, lit≤, leb-true, length-drop, inl, inr, if◌then◌else◌, nat_lt, is_some, unwrap_or, AllByRecursion, slice_get, option_map, ok_or, drop-drop, drop-take, take-take, length-take-le, length-take, take_all, first_failing, Fault, TimeOutOfRange, TooManyInterfaces, Order, all_met, met_front, Parts, InterfaceParts, EnhancedParts, SimpleParts, block_checks, block_fault, option_checks, body_checks, body_in, data_checks, parts_in, parts_in_body, parts_of, simple_captured, comment_code, comment_in, Described, most_interfaces, first_value, fitting_options, padded_length, representable_time, checks_among, packet_by, packet_of, section_by, Frame, Enters, IsBlockFault, held_packet, section_of, span_bytes}
+use Rattle.cap_pcapng.proofs.Common.{◌≡◌, ℕ, ◌+◌, ◌-◌, ◌^◌, ◌<◌, ◌≤◌, Bool, true, false, List, [], ◌∷◌, length, take, drop, Option, Some, None, Ok, refl, sym}
+use Rattle.cap_pcapng.proofs.Common.{ap, ap₂, subst, ◌∙◌, arith, lit≤, leb-true, length-drop, inl, inr, if◌then◌else◌, nat_lt, is_some, unwrap_or}
+use Rattle.cap_pcapng.proofs.Common.{AllByRecursion, slice_get, option_map, ok_or, drop-drop, drop-take, take-take, length-take-le, length-take, take_all}
+use Rattle.cap_pcapng.proofs.Common.{first_failing, Fault, TimeOutOfRange, TooManyInterfaces, Order, all_met, met_front, Parts, InterfaceParts, EnhancedParts}
+use Rattle.cap_pcapng.proofs.Common.{SimpleParts, block_checks, block_fault, option_checks, body_checks, body_in, data_checks, parts_in, parts_in_body}
+use Rattle.cap_pcapng.proofs.Common.{parts_of, simple_captured, comment_code, comment_in, Described, most_interfaces, first_value, fitting_options}
+use Rattle.cap_pcapng.proofs.Common.{padded_length, representable_time, checks_among, packet_by, packet_of, section_by, Frame, Enters, IsBlockFault}
+use Rattle.cap_pcapng.proofs.Common.{held_packet, section_of, span_bytes}
 use Rattle.cap_pcapng.proofs.{Faults.all_failing, Faults.all_of_options, OptionLists.options_in-none}
 use Rattle.cap_pcapng.proofs.WholeBlocks.{block_fails, block_passes}
 use Rattle.cap_pcapng.specs.declared.blocks.{Block.Block, EnhancedBlock.EnhancedBlock, SimpleBlock.SimpleBlock}
@@ -12,7 +19,8 @@ use Rattle.cap_pcapng.specs.inside.Effect.{PacketFound, fault_among}
 captured_fits : (captured : ℕ) (rest : List ℕ) → first_failing (data_checks captured rest) ≡ None → captured ≤ length rest
 captured_fits captured rest none = omega (arith, leb-true (padded_length captured) (length rest) (all_met (data_checks captured rest) none).0)
 
-pub known_interface : {X : Type 0} (found : Option X) (f : X → Described) (x : X) (i : Option Described) → found ≡ Some x → option_map f found ≡ i → i ≡ Some (f x)
+pub known_interface : {X : Type 0} (found : Option X) (f : X → Described) (x : X) (i : Option Described) → found ≡ Some x → option_map f found ≡ i
+    → i ≡ Some (f x)
 known_interface found f x i is same = sym same ∙ ap (option_map f) is
 
 pub found_by : {X E : Type 0} (exact : Option X) (e : E) (x : X) → ok_or exact e ≡ Ok x → exact ≡ Some x
@@ -35,7 +43,8 @@ pub enhanced_found : (order : Order) (interfaces : List Described) (i : Describe
     → slice_get interfaces number ≡ Some i → first_failing (data_checks captured rest) ≡ None
     → Ok time ≡ ok_or (representable_time ticks i.units i.offset) TimeOutOfRange → time < 2 ^ 63
     → options ≡ drop (padded_length captured) rest → optional ≡ length options
-    → IsFound (checks_among interfaces (EnhancedParts number ticks captured orig order rest)) (PacketFound order interfaces (EnhancedParts number ticks captured orig order rest) 28 size rest
+    → IsFound (checks_among interfaces (EnhancedParts number ticks captured orig order rest))
+    (PacketFound order interfaces (EnhancedParts number ticks captured orig order rest) 28 size rest
     (record {
       size = size;
       bytes = record { start = 28; length = captured };
@@ -46,7 +55,8 @@ pub enhanced_found : (order : Order) (interfaces : List Described) (i : Describe
     }))
 enhanced_found order interfaces i number ticks captured orig time size optional rest options known upper_bound exact small following optional_is =
     let room : padded_length captured ≤ length rest = leb-true (padded_length captured) (length rest) (all_met (data_checks captured rest) upper_bound).0 in
-    let lies_there : take optional (drop (28 + length rest - optional - 28) rest) ≡ options = options_after (padded_length captured) optional rest options room following optional_is in
+    let lies_there : take optional (drop (28 + length rest - optional - 28) rest) ≡ options = options_after (padded_length captured) optional rest
+    options room following optional_is in
     let left : length options ≡ length rest - padded_length captured = ap length following ∙ length-drop (padded_length captured) rest in
     let fits : captured ≤ length rest = captured_fits captured rest upper_bound in
     let at : representable_time ticks i.units i.offset ≡ Some time = found_by (representable_time ticks i.units i.offset) TimeOutOfRange time (sym exact) in (
@@ -85,7 +95,8 @@ simple_found interfaces i orig size rest known upper_bound = (
     from = refl;
     packet = packet_of i 0 orig (take (simple_captured orig i.snap) rest) [];
     stands = rw known refl;
-    is_lent = rw known (ap (λ items. Some (packet_of i 0 orig (take (simple_captured orig i.snap) rest) (unwrap_or (first_value comment_code (fitting_options items)) []))) (options_in-none order));
+    is_lent = rw known (ap (λ items. Some (packet_of i 0 orig (take (simple_captured orig i.snap) rest)
+        (unwrap_or (first_value comment_code (fitting_options items)) []))) (options_in-none order));
     there = captured_fits (simple_captured orig i.snap) rest upper_bound;
     following = lit≤ tt;
     options = omega arith;
@@ -96,7 +107,8 @@ simple_found interfaces i orig size rest known upper_bound = (
 
 -- ---- the body in its block
 
-enhanced_body : (kind : BlockType) (order own : Order) (body rest : List ℕ) (number ticks captured orig : ℕ) → parts_in_body kind order body ≡ EnhancedParts number ticks captured orig own rest
+enhanced_body : (kind : BlockType) (order own : Order) (body rest : List ℕ) (number ticks captured orig : ℕ) → parts_in_body kind order body ≡
+    EnhancedParts number ticks captured orig own rest
     → first_failing (body_checks kind order body) ≡ None → (rest ≡ drop 20 body) × (20 ≤ length body) × (own ≡ order)
 enhanced_body BlockType.EnhancedPacket order own body rest number ticks captured orig e none =
     ((cc), leb-true 20 (length body) (all_met (body_checks BlockType.EnhancedPacket order body) none).0, (cc))
@@ -112,7 +124,8 @@ rows_after : (b : Bool) (fault : Fault) (rows : List (Bool × Fault)) → first_
 rows_after true fault rows none = none
 rows_after false fault rows none = (cc)
 
-pub body_passes : (frame : Frame) (block : List ℕ) → first_failing (block_checks frame block) ≡ None → first_failing (body_checks frame.block_type frame.order (body_in frame block)) ≡ None
+pub body_passes : (frame : Frame) (block : List ℕ) → first_failing (block_checks frame block) ≡ None
+    → first_failing (body_checks frame.block_type frame.order (body_in frame block)) ≡ None
 body_passes frame block none = rows_after _ _ (body_checks frame.block_type frame.order (body_in frame block)) none
 
 -- bytes of a part of a block, as bytes of the block
@@ -122,13 +135,16 @@ part_lies block rest most start at count is within =
     let size : length rest ≤ most = omega (arith, ap length is, length-take most (drop start block)) in
     let whole : at + (most - at) ≡ most = omega arith in
     let same : drop at rest ≡ take (most - at) (drop (start + at) block) =
-    ap (drop at) is ∙ ap (λ n. drop at (take n (drop start block))) (sym whole) ∙ drop-take at (most - at) (drop start block) ∙ ap (take (most - at)) (drop-drop at start block) in
+    ap (drop at) is ∙ ap (λ n. drop at (take n (drop start block))) (sym whole) ∙ drop-take at (most - at) (drop start block)
+    ∙ ap (take (most - at)) (drop-drop at start block) in
     sym (take-take count (most - at) (drop (start + at) block) (omega arith)) ∙ ap (take count) (sym same)
 
 -- ---- a block with a packet
 
-packet_enters : (frame : Frame) (interfaces : List Described) (block rest : List ℕ) (parts : Parts) (skip : ℕ) (spans : PacketSpans) → length block ≡ frame.length → 12 ≤ frame.length
-    → parts ≡ parts_in frame block → first_failing (block_checks frame block) ≡ None → rest ≡ drop skip (body_in frame block) → skip ≤ length (body_in frame block)
+packet_enters : (frame : Frame) (interfaces : List Described) (block rest : List ℕ) (parts : Parts) (skip : ℕ) (spans : PacketSpans)
+    → length block ≡ frame.length → 12 ≤ frame.length
+    → parts ≡ parts_in frame block → first_failing (block_checks frame block) ≡ None → rest ≡ drop skip (body_in frame block)
+    → skip ≤ length (body_in frame block)
     → first_failing (checks_among interfaces parts) ≡ None → PacketFound frame.order interfaces parts (8 + skip) frame.length rest spans
     → section_by (Some (section_of frame.order interfaces)) frame.order parts ≡ section_of frame.order interfaces
     → Enters frame interfaces block (Some spans) interfaces
@@ -141,9 +157,11 @@ packet_enters frame interfaces block rest parts skip spans whole least is passes
     let f = found in
     let further : ℕ = spans.options.start - spans.bytes.start in
     let bytes : span_bytes spans.bytes block ≡ take spans.bytes.length rest =
-    ap (λ n. take spans.bytes.length (drop n block)) (omega (arith, f.from)) ∙ part_lies block rest most (8 + skip) 0 spans.bytes.length rest_is (omega (arith, f.there)) in
+    ap (λ n. take spans.bytes.length (drop n block)) (omega (arith, f.from)) ∙ part_lies block rest most (8 + skip) 0 spans.bytes.length rest_is
+    (omega (arith, f.there)) in
     let options : span_bytes spans.options block ≡ take spans.options.length (drop further rest) =
-    ap (λ n. take spans.options.length (drop n block)) (omega (arith, f.from, f.following)) ∙ part_lies block rest most (8 + skip) further spans.options.length rest_is f.options in
+    ap (λ n. take spans.options.length (drop n block)) (omega (arith, f.from, f.following)) ∙ part_lies block rest most (8 + skip) further
+    spans.options.length rest_is f.options in
     record {
       passes = passes;
       among = ap (λ p. first_failing (checks_among interfaces p)) (sym is) ∙ among;
@@ -162,23 +180,30 @@ pub enhanced_room : (frame : Frame) (block : List ℕ) (b : EnhancedBlock) → l
     → parts_of (Block.Enhanced b) ≡ parts_in frame block → block_fault frame block ≡ None → 28 + length b.rest.now ≤ frame.length
 enhanced_room frame block b whole least is none =
     let passes = (block_passes frame block least (omega (arith, whole)) none).0 in
-    let body = enhanced_body frame.block_type frame.order b.order (body_in frame block) b.rest.now b.interface b.ticks b.captured b.orig (sym is) (body_passes frame block passes) in
+    let body = enhanced_body frame.block_type frame.order b.order (body_in frame block) b.rest.now b.interface b.ticks b.captured b.orig (sym is)
+    (body_passes frame block passes) in
     let size : length (body_in frame block) ≡ frame.length - 12 = length-take-le (frame.length - 12) (drop 8 block) (omega (arith, length-drop 8 block)) in
     omega (arith, size, body.1, ap length body.0, length-drop 20 (body_in frame block), least)
 
-pub enhanced_enters : (frame : Frame) (interfaces : List Described) (block : List ℕ) (b : EnhancedBlock) (spans : PacketSpans) → length block ≡ frame.length → 12 ≤ frame.length
+pub enhanced_enters : (frame : Frame) (interfaces : List Described) (block : List ℕ) (b : EnhancedBlock) (spans : PacketSpans)
+    → length block ≡ frame.length → 12 ≤ frame.length
     → parts_of (Block.Enhanced b) ≡ parts_in frame block → block_fault frame block ≡ None
-    → IsFound (checks_among interfaces (parts_of (Block.Enhanced b))) (PacketFound b.order interfaces (parts_of (Block.Enhanced b)) 28 frame.length b.rest.now spans)
+    → IsFound (checks_among interfaces (parts_of (Block.Enhanced b))) (PacketFound b.order interfaces (parts_of (Block.Enhanced b)) 28 frame.length
+    b.rest.now spans)
     → Enters frame interfaces block (Some spans) interfaces
 enhanced_enters frame interfaces block b spans whole least is none found =
     let passes = (block_passes frame block least (omega (arith, whole)) none).0 in
-    let body = enhanced_body frame.block_type frame.order b.order (body_in frame block) b.rest.now b.interface b.ticks b.captured b.orig (sym is) (body_passes frame block passes) in
+    let body = enhanced_body frame.block_type frame.order b.order (body_in frame block) b.rest.now b.interface b.ticks b.captured b.orig (sym is)
+    (body_passes frame block passes) in
     let P : Order → Type 0 = λ order. PacketFound order interfaces (parts_of (Block.Enhanced b)) 28 frame.length b.rest.now spans in
-    packet_enters frame interfaces block b.rest.now (parts_of (Block.Enhanced b)) 20 spans whole least is passes body.0 body.1 found.0 (subst P body.2 found.1) refl
+    packet_enters frame interfaces block b.rest.now (parts_of (Block.Enhanced b)) 20 spans whole least is passes body.0 body.1 found.0
+    (subst P body.2 found.1) refl
 
-pub simple_enters : (frame : Frame) (interfaces : List Described) (block : List ℕ) (b : SimpleBlock) (spans : PacketSpans) → length block ≡ frame.length → 12 ≤ frame.length
+pub simple_enters : (frame : Frame) (interfaces : List Described) (block : List ℕ) (b : SimpleBlock) (spans : PacketSpans)
+    → length block ≡ frame.length → 12 ≤ frame.length
     → parts_of (Block.Simple b) ≡ parts_in frame block → block_fault frame block ≡ None
-    → IsFound (checks_among interfaces (parts_of (Block.Simple b))) ((order : Order) → PacketFound order interfaces (parts_of (Block.Simple b)) 12 frame.length b.rest.now spans)
+    → IsFound (checks_among interfaces (parts_of (Block.Simple b))) ((order : Order) → PacketFound order interfaces (parts_of (Block.Simple b)) 12
+    frame.length b.rest.now spans)
     → Enters frame interfaces block (Some spans) interfaces
 simple_enters frame interfaces block b spans whole least is none found =
     let passes = (block_passes frame block least (omega (arith, whole)) none).0 in
@@ -197,7 +222,8 @@ body_stays BlockType.Section order body = (λ i. refl, (λ i. refl, tt))
 body_stays BlockType.Other order body = tt
 body_stays _ order body = (λ i. refl, tt)
 
-block_stays : (frame : Frame) (block : List ℕ) (fault : Fault) → first_failing (block_checks frame block) ≡ Some fault → (interfaces : List Described) → fault_among interfaces fault ≡ fault
+block_stays : (frame : Frame) (block : List ℕ) (fault : Fault) → first_failing (block_checks frame block) ≡ Some fault → (interfaces : List Described)
+    → fault_among interfaces fault ≡ fault
 unfolding Stays
 block_stays frame block fault fails =
     all_failing Stays (block_checks frame block) fault (λ i. refl, body_stays frame.block_type frame.order (body_in frame block)) fails
@@ -221,7 +247,8 @@ among_options interfaces (InterfaceParts link snap order options) fault fails =
     after_room (nat_lt (length interfaces) most_interfaces) (option_checks (InterfaceParts link snap order options)) fault fails
 among_options interfaces parts fault fails = (cc)
 
-pub refused_by_itself : (frame : Frame) (interfaces : List Described) (block : List ℕ) (fault : Fault) → length block ≡ frame.length → 12 ≤ frame.length → block_fault frame block ≡ Some fault
+pub refused_by_itself : (frame : Frame) (interfaces : List Described) (block : List ℕ) (fault : Fault) → length block ≡ frame.length
+    → 12 ≤ frame.length → block_fault frame block ≡ Some fault
     → IsBlockFault frame interfaces block (fault_among interfaces fault)
 unfolding Yields
 refused_by_itself frame interfaces block fault whole least fails =

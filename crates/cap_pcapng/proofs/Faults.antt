@@ -1,6 +1,9 @@
 -- What holds of the faults of all checks holds of the first that fails; and which faults options
 -- have.
-use Rattle.cap_pcapng.proofs.Common.{◌≡◌, ℕ, zero, suc, Bool, true, false, List, [], ◌∷◌, ◌++◌, length, drop, Some, Result, Ok, Err, cond, subst, ◌==◌, is_some, AllByRecursion, first_failing, Fault, BadOption, BadTimeResolution, Order, Parts, InterfaceParts, option_checks, checks_after, first_value, list_checks, name_checks, name_code, offset_checks, offset_code, resolution_checks, resolution_code, CodedValue, ends_at, fits_at, option_at, option_size, padded_length}
+use Rattle.cap_pcapng.proofs.Common.{◌≡◌, ℕ, zero, suc, Bool, true, false, List, [], ◌∷◌, ◌++◌, length, drop, Some, Result, Ok, Err, cond, subst, ◌==◌, is_some}
+use Rattle.cap_pcapng.proofs.Common.{AllByRecursion, first_failing, Fault, BadOption, BadTimeResolution, Order, Parts, InterfaceParts, option_checks}
+use Rattle.cap_pcapng.proofs.Common.{checks_after, first_value, list_checks, name_checks, name_code, offset_checks, offset_code, resolution_checks}
+use Rattle.cap_pcapng.proofs.Common.{resolution_code, CodedValue, ends_at, fits_at, option_at, option_size, padded_length}
 use Rattle.cap_pcapng.specs.OptionList.{options_in, options_within}
 
 -- ---- the faults of some rows
@@ -9,7 +12,8 @@ use Rattle.cap_pcapng.specs.OptionList.{options_in, options_within}
 abbrev pub AreAll : (Fault → Type 0) → List (Bool × Fault) → Type 0
 AreAll P rows = AllByRecursion (λ row. P row.1) rows
 
-pub all_failing : (P : Fault → Type 0) (rows : List (Bool × Fault)) (fault : Fault) → AllByRecursion (λ row. P row.1) rows → first_failing rows ≡ Some fault → P fault
+pub all_failing : (P : Fault → Type 0) (rows : List (Bool × Fault)) (fault : Fault) → AllByRecursion (λ row. P row.1) rows → first_failing rows ≡ Some
+    fault → P fault
 all_failing P [] fault all fails = (cc)
 all_failing P ((true, other) ∷ rows) fault all fails = all_failing P rows fault all.1 fails
 all_failing P ((false, other) ∷ rows) fault all fails = let same : other ≡ fault = cc in subst P same all.0
@@ -28,14 +32,16 @@ abbrev IsItemOf : (Fault → Type 0) → Result CodedValue Fault → Type 0
 IsItemOf P (Ok option) = Unit {0}
 IsItemOf P (Err fault) = P fault
 
-all_of_option : (P : Fault → Type 0) → P BadOption → P BadTimeResolution → (before : List CodedValue) (option : CodedValue) → AreAll P (checks_after before option)
+all_of_option : (P : Fault → Type 0) → P BadOption → P BadTimeResolution → (before : List CodedValue) (option : CodedValue)
+    → AreAll P (checks_after before option)
 all_of_option P bad worse before option =
     by_either (AreAll P) (is_some (first_value option.code before)) [] _ tt
     (by_either (AreAll P) (option.code == name_code) (name_checks option.value) _ (bad, tt)
     (by_either (AreAll P) (option.code == resolution_code) (resolution_checks option.value) _ (bad, (worse, tt))
     (by_either (AreAll P) (option.code == offset_code) (offset_checks option.value) [] (bad, tt) tt)))
 
-all_of_list : (P : Fault → Type 0) → P BadOption → P BadTimeResolution → (before : List CodedValue) (items : List (Result CodedValue Fault)) → AllByRecursion (IsItemOf P) items
+all_of_list : (P : Fault → Type 0) → P BadOption → P BadTimeResolution → (before : List CodedValue) (items : List (Result CodedValue Fault))
+    → AllByRecursion (IsItemOf P) items
     → AreAll P (list_checks before items)
 all_of_list P bad worse before [] all = tt
 all_of_list P bad worse before (Err fault ∷ items) all = (all.0, all_of_list P bad worse before items all.1)
@@ -48,7 +54,8 @@ unfolding options_within
 items_within P bad zero order text = tt
 items_within P bad (suc most) order text =
     by_either (AllByRecursion (IsItemOf P)) (ends_at order text) [] _ tt
-    (by_either (AllByRecursion (IsItemOf P)) (fits_at order text) (Ok (option_at order text) ∷ options_within most order (drop (padded_length (option_size order text)) text)) _
+    (by_either (AllByRecursion (IsItemOf P)) (fits_at order text)
+    (Ok (option_at order text) ∷ options_within most order (drop (padded_length (option_size order text)) text)) _
     (tt, items_within P bad most order (drop (padded_length (option_size order text)) text)) (bad, tt))
 
 items_in : (P : Fault → Type 0) → P BadOption → (order : Order) (text : List ℕ) → AllByRecursion (IsItemOf P) (options_in order text)

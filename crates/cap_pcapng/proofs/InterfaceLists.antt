@@ -1,5 +1,8 @@
 -- Options of an interface, read one after another.
-use Rattle.cap_pcapng.proofs.Common.{◌≡◌, ℕ, Bool, true, false, List, [], ◌∷◌, ◌++◌, cond, refl, sym, ap, ◌∙◌, eqb-true, Option, Some, None, Result, Ok, ◌<◌, ◌≤◌, ◌^◌, ◌-◌, nat_lt, unwrap_or, arith, is_some, if◌then◌else◌, ◌==◌, slice_index, option_map, option_or, met_front, failing_front, first_failing, Fault, Order, checks_after, first_checks, first_value, fitting_options, list_checks, name_code, offset_code, offset_in_value, resolution_code, units_in_value, CodedValue, microseconds}
+use Rattle.cap_pcapng.proofs.Common.{◌≡◌, ℕ, Bool, true, false, List, [], ◌∷◌, ◌++◌, cond, refl, sym, ap, ◌∙◌, eqb-true, Option, Some, None, Result, Ok, ◌<◌}
+use Rattle.cap_pcapng.proofs.Common.{◌≤◌, ◌^◌, ◌-◌, nat_lt, unwrap_or, arith, is_some, if◌then◌else◌, ◌==◌, slice_index, option_map, option_or, met_front}
+use Rattle.cap_pcapng.proofs.Common.{failing_front, first_failing, Fault, Order, checks_after, first_checks, first_value, fitting_options, list_checks}
+use Rattle.cap_pcapng.proofs.Common.{name_code, offset_code, offset_in_value, resolution_code, units_in_value, CodedValue, microseconds}
 use Rattle.std.proofs.{Math.Nat.one-le-pow, lemmas.List.append_assoc}
 use Rattle.std.specs.Borrow.{Bor}
 use Rattle.cap_pcapng.specs.declared.interface.FoundOptions.{FoundOptions}
@@ -17,7 +20,8 @@ or_later : (test : Bool) (value : List ℕ) (x y z : Option (List ℕ)) → x �
 or_later true value x y z same = refl
 or_later false value x y z same = same
 
-first_value-push : (code : ℕ) (before : List CodedValue) (o : CodedValue) → first_value code (before ++ o ∷ []) ≡ option_or (first_value code before) (value_for code o)
+first_value-push : (code : ℕ) (before : List CodedValue) (o : CodedValue) → first_value code (before ++ o ∷ []) ≡ option_or (first_value code before)
+    (value_for code o)
 first_value-push code [] o = refl
 first_value-push code (b ∷ before) o = or_later (b.code == code) b.value _ _ _ (first_value-push code before o)
 
@@ -63,7 +67,8 @@ pub checks_after-found : (order : Order) (before : List CodedValue) (o : CodedVa
 checks_after-found order before o found is =
     by_code (o.code == name_code) (o.code == resolution_code) (o.code == offset_code) (is_some (first_value o.code before))
     (is_some found.name) (is_some found.units) (is_some found.offset) _ _ _
-    (λ t. ap (λ code. is_some (first_value code before)) (eqb-true o.code name_code t) ∙ sym (sym (is_some-map (λ (x : Bor (List ℕ)). x.now) found.name) ∙ ap is_some is.name))
+    (λ t. ap (λ code. is_some (first_value code before)) (eqb-true o.code name_code t)
+    ∙ sym (sym (is_some-map (λ (x : Bor (List ℕ)). x.now) found.name) ∙ ap is_some is.name))
     (λ t. ap (λ code. is_some (first_value code before)) (eqb-true o.code resolution_code t)
     ∙ sym (ap is_some is.units ∙ is_some-map units_in_value (first_value resolution_code before)))
     (λ t. ap (λ code. is_some (first_value code before)) (eqb-true o.code offset_code t)

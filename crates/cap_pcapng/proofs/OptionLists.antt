@@ -1,5 +1,8 @@
 -- What a list of options begins with.
-use Rattle.cap_pcapng.proofs.Common.{◌≡◌, ℕ, zero, suc, ◌+◌, ◌<◌, ◌≤◌, Bool, true, false, List, [], ◌∷◌, ◌||◌, cond, length, drop, refl, sym, ap, ap₂, ◌∙◌, ◌-◌, take, arith, lit<, ltb-false, lt-ltb, le-ltb, le-leb, eq-eqb, ne_eqb, length-drop, min, ◌≢◌, Result, Ok, Err, IsErr, lt-leb, drop_min, take_rest, nat_lt, u16_in, Fault, BadOption, Order, fitting_options, CodedValue, item_of, option_at, option_size, ends_at, fits_at, padded_length}
+use Rattle.cap_pcapng.proofs.Common.{◌≡◌, ℕ, zero, suc, ◌+◌, ◌<◌, ◌≤◌, Bool, true, false, List, [], ◌∷◌, ◌||◌, cond, length, drop, refl, sym, ap, ap₂, ◌∙◌, ◌-◌}
+use Rattle.cap_pcapng.proofs.Common.{take, arith, lit<, ltb-false, lt-ltb, le-ltb, le-leb, eq-eqb, ne_eqb, length-drop, min, ◌≢◌, Result, Ok, Err, IsErr}
+use Rattle.cap_pcapng.proofs.Common.{lt-leb, drop_min, take_rest, nat_lt, u16_in, Fault, BadOption, Order, fitting_options, CodedValue, item_of, option_at}
+use Rattle.cap_pcapng.proofs.Common.{option_size, ends_at, fits_at, padded_length}
 use Rattle.cap_pcapng.specs.{OptionList.options_in, OptionList.options_within, declared.options.BlockOption.BlockOption}
 
 false_first : (a b : Bool) → (a || b) ≡ false → a ≡ false

@@ -1,5 +1,9 @@
 -- Options that were written read back.
-use Rattle.cap_pcapng.proofs.Common.{◌≡◌, ℕ, ◌+◌, ◌-◌, ◌^◌, ◌<◌, ◌≤◌, List, [], ◌∷◌, ◌++◌, length, take, drop, replicate, refl, sym, ap, ap₂, ◌∙◌, arith, append_assoc, length-append, None, Result, Ok, le-leb, unwrap_or, length-replicate, take_at, drop_at, little_bytes, first_failing, u16_in, Fault, Little, comment_code, comment_in, described_by, described_in, first_value, fitting_options, list_checks, written_interface, CodedValue, option_at, option_size, padded_length, comment_text, end_text, name_text, option_text, padded_text, resolution_text}
+use Rattle.cap_pcapng.proofs.Common.{◌≡◌, ℕ, ◌+◌, ◌-◌, ◌^◌, ◌<◌, ◌≤◌, List, [], ◌∷◌, ◌++◌, length, take, drop, replicate, refl, sym, ap, ap₂, ◌∙◌, arith}
+use Rattle.cap_pcapng.proofs.Common.{append_assoc, length-append, None, Result, Ok, le-leb, unwrap_or, length-replicate, take_at, drop_at, little_bytes}
+use Rattle.cap_pcapng.proofs.Common.{first_failing, u16_in, Fault, Little, comment_code, comment_in, described_by, described_in, first_value, fitting_options}
+use Rattle.cap_pcapng.proofs.Common.{list_checks, written_interface, CodedValue, option_at, option_size, padded_length, comment_text, end_text, name_text}
+use Rattle.cap_pcapng.proofs.Common.{option_text, padded_text, resolution_text}
 use Rattle.cap_pcapng.proofs.Numerals.{number_at}
 use Rattle.cap_pcapng.proofs.OptionLists.{goes_on, options_in-more, options_in-none}
 use Rattle.cap_octet.specs.Number.{number_in}
@@ -17,7 +21,8 @@ options_in-option code value rest upper_bound some short =
     let code_is : u16_in Little text 0 ≡ code = number_at 2 text 0 code (little_bytes 2 (length value) ++ (padded_text value ++ rest)) refl upper_bound in
     let len_is : u16_in Little text 2 ≡ length value = number_at 2 text 2 (length value) (padded_text value ++ rest) refl short in
     let size_is : option_size Little text ≡ 4 + length value = ap (λ n. 4 + n) len_is in
-    let room : length text ≡ padded_length (4 + length value) + length rest = length-append (option_text code value) rest ∙ ap (λ n. n + length rest) (length-option_text code value) in
+    let room : length text ≡ padded_length (4 + length value) + length rest = length-append (option_text code value) rest ∙ ap (λ n. n + length rest)
+    (length-option_text code value) in
     let value_is : take (u16_in Little text 2) (drop 4 text) ≡ value =
     ap (λ n. take n (padded_text value ++ rest)) len_is
     ∙ ap (λ t. take (length value) t) (append_assoc value zeros rest) ∙ take_at value (zeros ++ rest) (length value) refl in
@@ -53,7 +58,8 @@ checks_back : (name : List ℕ) → length name ≤ 255 → first_failing (list_
 checks_back [] short = refl
 checks_back (b ∷ bytes) short = rw (le-leb (length (b ∷ bytes)) 255 short) refl
 
-pub options_pass : (name : List ℕ) → length name ≤ 255 → first_failing (list_checks [] (options_in Little (name_text name ++ resolution_text ++ end_text))) ≡ None
+pub options_pass : (name : List ℕ) → length name ≤ 255
+    → first_failing (list_checks [] (options_in Little (name_text name ++ resolution_text ++ end_text))) ≡ None
 options_pass name short = ap (λ items. first_failing (list_checks [] items)) (options_back name short) ∙ checks_back name short
 
 described_back : (link snap : ℕ) (name : List ℕ) → described_by link snap Little (fitting_options (items_back name)) ≡ written_interface link snap name

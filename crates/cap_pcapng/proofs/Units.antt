@@ -1,5 +1,9 @@
 -- What a text begins with is told by its first bytes alone: a block.
-use Rattle.cap_pcapng.proofs.Common.{◌≡◌, Parts, ℕ, ◌+◌, ◌-◌, ◌<◌, ◌≤◌, Bool, true, false, ◌&&◌, List, [], ◌∷◌, ◌++◌, length, take, drop, Option, Some, None, refl, sym, ap, ap₂, ◌∙◌, arith, leb-true, le-leb, nat_le, ◌==◌, lt-leb, length-take-le, take-append-drop, take-append-le, drop-append-le, first_failing, Fault, BadBlockLength, Truncated, Order, Little, Big, all_met, failing_front, met_front, block_checks, body_checks, body_in, parts_in, parts_in_body, frame_checks, frame_in, length_in, order_in, IsBlock, Section, block_size, checks_among, frame_after, interfaces_before, order_before, parts_after, unit_fault, Frame}
+use Rattle.cap_pcapng.proofs.Common.{◌≡◌, Parts, ℕ, ◌+◌, ◌-◌, ◌<◌, ◌≤◌, Bool, true, false, ◌&&◌, List, [], ◌∷◌, ◌++◌, length, take, drop, Option, Some, None}
+use Rattle.cap_pcapng.proofs.Common.{refl, sym, ap, ap₂, ◌∙◌, arith, leb-true, le-leb, nat_le, ◌==◌, lt-leb, length-take-le, take-append-drop, take-append-le}
+use Rattle.cap_pcapng.proofs.Common.{drop-append-le, first_failing, Fault, BadBlockLength, Truncated, Order, Little, Big, all_met, failing_front, met_front}
+use Rattle.cap_pcapng.proofs.Common.{block_checks, body_checks, body_in, parts_in, parts_in_body, frame_checks, frame_in, length_in, order_in, IsBlock, Section}
+use Rattle.cap_pcapng.proofs.Common.{block_size, checks_among, frame_after, interfaces_before, order_before, parts_after, unit_fault, Frame}
 use Rattle.std.proofs.lemmas.List.{length-append, length-drop}
 use Rattle.cap_octet.proofs.Numbers.{number_in-append}
 
@@ -24,7 +28,8 @@ frame_checks-append section front more enough =
       number_in-append (order_in section front) 4 front more 4 (omega arith),
     ) refl
 
-pub body_in-append : (frame : Frame) (front more : List ℕ) → 12 ≤ frame.length → frame.length ≤ length front → body_in frame (front ++ more) ≡ body_in frame front
+pub body_in-append : (frame : Frame) (front more : List ℕ) → 12 ≤ frame.length → frame.length ≤ length front → body_in frame (front ++ more) ≡ body_in
+    frame front
 body_in-append frame front more least whole =
     ap (λ t. take (frame.length - 12) t) (drop-append-le 8 front more (omega arith))
     ∙ take-append-le (frame.length - 12) (drop 8 front) more (omega (arith, length-drop 8 front))
@@ -35,7 +40,8 @@ block_checks-append frame front more least whole =
     ap₂ (λ (n : ℕ) (body : List ℕ). (n == frame.length, BadBlockLength) ∷ body_checks frame.block_type frame.order body)
     (number_in-append frame.order 4 front more (frame.length - 4) (omega arith)) (body_in-append frame front more least whole)
 
-pub parts_in-append : (frame : Frame) (front more : List ℕ) → 12 ≤ frame.length → frame.length ≤ length front → parts_in frame (front ++ more) ≡ parts_in frame front
+pub parts_in-append : (frame : Frame) (front more : List ℕ) → 12 ≤ frame.length → frame.length ≤ length front → parts_in frame (front ++ more) ≡
+    parts_in frame front
 parts_in-append frame front more least whole = ap (parts_in_body frame.block_type frame.order) (body_in-append frame front more least whole)
 
 -- ---- the checks, one after another
@@ -46,7 +52,8 @@ after_frame before text =
     block_checks (frame_after before text) text ++ checks_among (interfaces_before before) (parts_after before text)
 
 past_first : (before : Option Section) (text : List ℕ) → 12 ≤ length text
-    → unit_fault before text ≡ first_failing (frame_checks (order_before before) text ++ ((nat_le (block_size before text) (length text), Truncated) ∷ after_frame before text))
+    → unit_fault before text ≡ first_failing (frame_checks (order_before before) text
+    ++ ((nat_le (block_size before text) (length text), Truncated) ∷ after_frame before text))
 unfolding after_frame
 past_first before text enough = rw (le-leb 12 (length text) enough) refl
 

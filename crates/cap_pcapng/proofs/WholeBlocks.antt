@@ -1,9 +1,12 @@
 -- All checks of a block by itself, and those of a block among others.
-use Rattle.cap_pcapng.proofs.Common.{◌≡◌, ℕ, ◌-◌, ◌≤◌, ◌⊎◌, inl, inr, Bool, true, false, List, [], ◌∷◌, ◌++◌, length, Some, None, refl, sym, ap, ◌∙◌, le-leb, eq-eqb, first_failing, u32_in, Fault, block_checks, block_fault, body_checks, body_in, option_checks, parts_in, parts_in_body, Frame}
+use Rattle.cap_pcapng.proofs.Common.{◌≡◌, ℕ, ◌-◌, ◌≤◌, ◌⊎◌, inl, inr, Bool, true, false, List, [], ◌∷◌, ◌++◌, length, Some, None, refl, sym, ap, ◌∙◌, le-leb}
+use Rattle.cap_pcapng.proofs.Common.{eq-eqb, first_failing, u32_in, Fault, block_checks, block_fault, body_checks, body_in, option_checks, parts_in}
+use Rattle.cap_pcapng.proofs.Common.{parts_in_body, Frame}
 use Rattle.cap_pcapng.proofs.Units.{both_none}
 
 -- the checks of a body and of its options decide where those before them are met
-pub block_fault-body : (frame : Frame) (text body : List ℕ) → 12 ≤ frame.length → frame.length ≤ length text → u32_in frame.order text (frame.length - 4) ≡ frame.length
+pub block_fault-body : (frame : Frame) (text body : List ℕ) → 12 ≤ frame.length → frame.length ≤ length text → u32_in frame.order text
+    (frame.length - 4) ≡ frame.length
     → body ≡ body_in frame text
     → first_failing (body_checks frame.block_type frame.order body ++ option_checks (parts_in_body frame.block_type frame.order body)) ≡ block_fault frame text
 block_fault-body frame text body least whole same is =

@@ -1,5 +1,12 @@
 -- Blocks that were written read back.
-use Rattle.cap_pcapng.proofs.Common.{◌≡◌, ℕ, ◌+◌, ◌-◌, ◌*◌, ◌/◌, ◌%◌, ◌^◌, ◌<◌, ◌≤◌, false, List, [], ◌∷◌, ◌++◌, length, take, drop, replicate, refl, sym, ap, ap₂, ◌∙◌, arith, append_assoc, length-append, Some, None, le-leb, leb-true, lt-ltb, eq-eqb, lit≤, pos, ◌==◌, slice_get, option_to_list, length-replicate, take_at, drop_at, little_bytes, all_met, first_failing, u16_in, u32_in, Little, EnhancedParts, InterfaceParts, Parts, block_checks, body_checks, body_in, parts_in, parts_in_body, comment_in, frame_checks, frame_in, most_block, section_type, type_of_block, Captured, Described, most_interfaces, InterfaceBack, PacketBack, SectionBack, ReadsAs, written_interface, written_section, padded_length, time_by, representable_time, checks_among, packet_by, section_by, block_size, block_text, comment_text, end_text, block_fit_checks, interface_body, name_text, packet_body, padded_text, resolution_text, Frame}
+use Rattle.cap_pcapng.proofs.Common.{◌≡◌, ℕ, ◌+◌, ◌-◌, ◌*◌, ◌/◌, ◌%◌, ◌^◌, ◌<◌, ◌≤◌, false, List, [], ◌∷◌, ◌++◌, length, take, drop, replicate, refl, sym, ap}
+use Rattle.cap_pcapng.proofs.Common.{ap₂, ◌∙◌, arith, append_assoc, length-append, Some, None, le-leb, leb-true, lt-ltb, eq-eqb, lit≤, pos, ◌==◌, slice_get}
+use Rattle.cap_pcapng.proofs.Common.{option_to_list, length-replicate, take_at, drop_at, little_bytes, all_met, first_failing, u16_in, u32_in, Little}
+use Rattle.cap_pcapng.proofs.Common.{EnhancedParts, InterfaceParts, Parts, block_checks, body_checks, body_in, parts_in, parts_in_body, comment_in}
+use Rattle.cap_pcapng.proofs.Common.{frame_checks, frame_in, most_block, section_type, type_of_block, Captured, Described, most_interfaces, InterfaceBack}
+use Rattle.cap_pcapng.proofs.Common.{PacketBack, SectionBack, ReadsAs, written_interface, written_section, padded_length, time_by, representable_time}
+use Rattle.cap_pcapng.proofs.Common.{checks_among, packet_by, section_by, block_size, block_text, comment_text, end_text, block_fit_checks, interface_body}
+use Rattle.cap_pcapng.proofs.Common.{name_text, packet_body, padded_text, resolution_text, Frame}
 use Rattle.cap_pcapng.proofs.Numerals.{number_at}
 use Rattle.cap_pcapng.proofs.OptionsBack.{comment_back, options_describe, options_pass}
 use Rattle.cap_pcapng.proofs.Units.{unit_fault-passes}
@@ -43,7 +50,8 @@ block_written type body upper_bound other whole most =
       framed = rw (no_section, size_is, le-leb 12 size (omega arith), eq-eqb (size % 4) 0 (omega arith), le-leb size most_block most) refl;
       size = simp length-append (omega arith);
       ends = number_at 4 text (size - 4) size []
-          (ap (λ n. drop n text) (omega arith) ∙ drop_at (little_bytes 4 type ++ little_bytes 4 size ++ body) (little_bytes 4 size) (8 + length body) (omega arith))
+          (ap (λ n. drop n text) (omega arith) ∙ drop_at (little_bytes 4 type ++ little_bytes 4 size ++ body) (little_bytes 4 size) (8 + length body)
+          (omega arith))
           (omega arith);
       between = ap (λ n. take n (body ++ little_bytes 4 size)) (omega arith) ∙ take_at body (little_bytes 4 size) (length body) refl;
     }
@@ -82,7 +90,8 @@ block_reads interfaces type body w passes among =
 -- ---- a packet
 
 pub packet_parts : (number : ℕ) (p : Captured) → number < 2 ^ 32 → p.time < 2 ^ 63 → p.orig < 2 ^ 32 → length p.bytes < 2 ^ 32
-    → parts_in_body (type_of_block 6) Little (packet_body number p) ≡ EnhancedParts number p.time (length p.bytes) p.orig Little (padded_text p.bytes ++ comment_text p.comment)
+    → parts_in_body (type_of_block 6) Little (packet_body number p) ≡ EnhancedParts number p.time (length p.bytes) p.orig Little
+    (padded_text p.bytes ++ comment_text p.comment)
 packet_parts number p number_fits time_fits orig_fits upper_bound =
     let body : List ℕ = packet_body number p in
     let number_is : u32_in Little body 0 ≡ number = number_at 4 body 0 number (drop 4 body) refl number_fits in
@@ -106,9 +115,15 @@ padded_fits : (bytes more : List ℕ) → padded_length (length bytes) ≤ lengt
 padded_fits bytes more = omega (arith, length-append (padded_text bytes) more, padded_size bytes)
 
 packet_among : (interfaces : List Described) (number : ℕ) (p : Captured) → slice_get interfaces number ≡ Some (written_interface p.link p.snap p.name)
-    → p.time < 2 ^ 63 → first_failing (checks_among interfaces (EnhancedParts number p.time (length p.bytes) p.orig Little (padded_text p.bytes ++ comment_text p.comment))) ≡ None
+    → p.time < 2 ^ 63 → first_failing
+    (checks_among interfaces (EnhancedParts number p.time (length p.bytes) p.orig Little (padded_text p.bytes ++ comment_text p.comment))) ≡ None
 packet_among interfaces number p known upper_bound =
-    rw (known, le-leb (padded_length (length p.bytes)) (length (padded_text p.bytes ++ comment_text p.comment)) (padded_fits p.bytes (comment_text p.comment)), nanoseconds_back p.time upper_bound) refl
+    rw (
+      known,
+      le-leb (padded_length (length p.bytes)) (length (padded_text p.bytes ++ comment_text p.comment))
+          (padded_fits p.bytes (comment_text p.comment)),
+      nanoseconds_back p.time upper_bound,
+    ) refl
 
 -- the data and the comment of a body
 data_back : (bytes more : List ℕ) → take (length bytes) (padded_text bytes ++ more) ≡ bytes
@@ -116,12 +131,15 @@ data_back bytes more =
     let zeros : List ℕ = replicate (padded_length (length bytes) - length bytes) 0 in
     ap (λ t. take (length bytes) t) (append_assoc bytes zeros more) ∙ take_at bytes (zeros ++ more) (length bytes) refl
 
-comment_after : (bytes comment : List ℕ) → length comment ≤ 65535 → comment_in Little (drop (padded_length (length bytes)) (padded_text bytes ++ comment_text comment)) ≡ comment
+comment_after : (bytes comment : List ℕ) → length comment ≤ 65535
+    → comment_in Little (drop (padded_length (length bytes)) (padded_text bytes ++ comment_text comment)) ≡ comment
 comment_after bytes comment short =
-    ap (λ t. comment_in Little t) (drop_at (padded_text bytes) (comment_text comment) (padded_length (length bytes)) (padded_size bytes)) ∙ comment_back comment short
+    ap (λ t. comment_in Little t) (drop_at (padded_text bytes) (comment_text comment) (padded_length (length bytes)) (padded_size bytes))
+    ∙ comment_back comment short
 
 packet_held : (interfaces : List Described) (number : ℕ) (p : Captured) → slice_get interfaces number ≡ Some (written_interface p.link p.snap p.name)
-    → p.time < 2 ^ 63 → length p.comment ≤ 65535 → packet_by interfaces (EnhancedParts number p.time (length p.bytes) p.orig Little (padded_text p.bytes ++ comment_text p.comment)) ≡ Some p
+    → p.time < 2 ^ 63 → length p.comment ≤ 65535
+    → packet_by interfaces (EnhancedParts number p.time (length p.bytes) p.orig Little (padded_text p.bytes ++ comment_text p.comment)) ≡ Some p
 packet_held interfaces number p known upper_bound short =
     rw (known, nanoseconds_back p.time upper_bound, data_back p.bytes (comment_text p.comment), comment_after p.bytes p.comment short) refl
 
@@ -133,7 +151,8 @@ packet_back interfaces number p known number_fits time_fits orig_fits short fits
     let body : List ℕ = packet_body number p in
     let size : length body ≡ 20 + padded_length (length p.bytes) + length (comment_text p.comment) = length-packet_body number p in
     let w : IsWritten 6 body = block_written 6 body (omega arith) refl (omega arith) (omega arith) in
-    let parts : parts_in_body (type_of_block 6) Little body ≡ EnhancedParts number p.time (length p.bytes) p.orig Little (padded_text p.bytes ++ comment_text p.comment) =
+    let parts : parts_in_body (type_of_block 6) Little body ≡ EnhancedParts number p.time (length p.bytes) p.orig Little
+    (padded_text p.bytes ++ comment_text p.comment) =
     packet_parts number p number_fits time_fits orig_fits (omega arith) in
     let reads = block_reads interfaces 6 body w (rw (le-leb 20 (length body) (omega arith)) refl)
     (ap (λ q. first_failing (checks_among interfaces q)) parts ∙ packet_among interfaces number p known time_fits) in

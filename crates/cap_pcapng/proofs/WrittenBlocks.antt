@@ -1,5 +1,8 @@
 -- A block is its pieces, joined.
-use Rattle.cap_pcapng.proofs.Common.{◌≡◌, ℕ, ◌+◌, ◌-◌, ◌<◌, ◌≤◌, List, [], ◌∷◌, ◌++◌, length, take, drop, replicate, refl, sym, ap, ap₂, ◌∙◌, arith, append_assoc, length-append, ne_eqb, ◌/◌, ◌%◌, ◌^◌, ◌==◌, false, true, false≢true, append-nil, drop_at, length-replicate, replicate-append-replicate, take_all, little_bytes, Captured, padded_length, comment_text, end_text, interface_body, interface_header, interface_text, name_text, packet_body, packet_header, packet_block, padded_text, resolution_text}
+use Rattle.cap_pcapng.proofs.Common.{◌≡◌, ℕ, ◌+◌, ◌-◌, ◌<◌, ◌≤◌, List, [], ◌∷◌, ◌++◌, length, take, drop, replicate, refl, sym, ap, ap₂, ◌∙◌, arith}
+use Rattle.cap_pcapng.proofs.Common.{append_assoc, length-append, ne_eqb, ◌/◌, ◌%◌, ◌^◌, ◌==◌, false, true, false≢true, append-nil, drop_at, length-replicate}
+use Rattle.cap_pcapng.proofs.Common.{replicate-append-replicate, take_all, little_bytes, Captured, padded_length, comment_text, end_text, interface_body}
+use Rattle.cap_pcapng.proofs.Common.{interface_header, interface_text, name_text, packet_body, packet_header, packet_block, padded_text, resolution_text}
 
 -- the last of the zeros in front of more bytes, and these
 block_end : (k zeros n : ℕ) (more end : List ℕ) → zeros ≤ k → end ≡ replicate k 0 ++ more → n ≡ k + length more
@@ -16,7 +19,8 @@ block_end k zeros n more end upper_bound is size =
 
 pub length-packet_body : (number : ℕ) (p : Captured) → length (packet_body number p) ≡ 20 + padded_length (length p.bytes) + length (comment_text p.comment)
 length-packet_body number p =
-    length-append (little_bytes 4 number ++ little_bytes 4 (p.time / 2 ^ 32) ++ little_bytes 4 (p.time % 2 ^ 32) ++ little_bytes 4 (length p.bytes) ++ little_bytes 4 p.orig ++ padded_text p.bytes) (comment_text p.comment)
+    length-append (little_bytes 4 number ++ little_bytes 4 (p.time / 2 ^ 32) ++ little_bytes 4 (p.time % 2 ^ 32) ++ little_bytes 4 (length p.bytes)
+    ++ little_bytes 4 p.orig ++ padded_text p.bytes) (comment_text p.comment)
     ∙ ap (λ (n : ℕ). n + length (comment_text p.comment)) (simp (length-append, length-replicate) (omega arith))
 
 -- a comment's bytes with the end of the options are whole fours
@@ -26,7 +30,8 @@ length-comment_text (b ∷ bytes) some = simp (length-append, length-replicate) 
 
 pub comment_text-whole : (comment : List ℕ) → length (comment_text comment) % 4 ≡ 0
 comment_text-whole [] = refl
-comment_text-whole (b ∷ bytes) = let size : length (comment_text (b ∷ bytes)) ≡ 8 + padded_length (length (b ∷ bytes)) = length-comment_text (b ∷ bytes) (ne_eqb (length (b ∷ bytes)) 0 (λ is. absurd (omega arith))) in omega arith
+comment_text-whole (b ∷ bytes) = let size : length (comment_text (b ∷ bytes)) ≡ 8 + padded_length (length (b ∷ bytes)) =
+    length-comment_text (b ∷ bytes) (ne_eqb (length (b ∷ bytes)) 0 (λ is. absurd (omega arith))) in omega arith
 
 -- ---- what is after a packet's data: padding and a comment
 
@@ -51,7 +56,8 @@ comment_after padding following bytes (b ∷ rest) option some upper_bound paddi
     let head : List ℕ = little_bytes 2 1 ++ little_bytes 2 (length comment) in
     let zeros : padding ≡ padded_length (length bytes) - length bytes = omega arith in
     let more : following ≡ padded_length (length comment) - length comment = omega arith in
-    ap₂ (λ (o z : List ℕ). o ++ (comment ++ z)) (block_end 3 padding 7 head option (omega arith) option_is refl) (sym (replicate-append-replicate following 4 0))
+    ap₂ (λ (o z : List ℕ). o ++ (comment ++ z)) (block_end 3 padding 7 head option (omega arith) option_is refl)
+    (sym (replicate-append-replicate following 4 0))
     ∙ commented (replicate padding 0) head comment (replicate following 0) end_text
     ∙ ap₂ (λ (n m : ℕ). replicate n 0 ++ (head ++ (comment ++ replicate m 0) ++ end_text)) zeros more
 
@@ -70,7 +76,8 @@ packet_joined number zeros p head option end upper_bound following head_is end_i
     let padding : List ℕ = replicate (padded_length (length p.bytes) - length p.bytes) 0 in
     let sizes = simp (length-append, length-replicate) at (ap length following) in
     let whole : size ≡ 12 + length (packet_body number p) = omega (arith, sizes, length-packet_body number p) in
-    ap₂ (λ (h t : List ℕ). h ++ (p.bytes ++ (option ++ (p.comment ++ (t ++ []))))) head_is (block_end 7 zeros 11 (little_bytes 4 size) end upper_bound end_is refl)
+    ap₂ (λ (h t : List ℕ). h ++ (p.bytes ++ (option ++ (p.comment ++ (t ++ []))))) head_is
+    (block_end 7 zeros 11 (little_bytes 4 size) end upper_bound end_is refl)
     ∙ ap (λ (t : List ℕ). packet_header size number p ++ t)
     (pieces p.bytes option p.comment (replicate zeros 0) (little_bytes 4 size)
     ∙ ap (λ (t : List ℕ). p.bytes ++ t ++ little_bytes 4 size) following
@@ -82,7 +89,8 @@ empty [] none = refl
 empty (b ∷ bytes) none = absurd (false≢true (sym (ne_eqb (length (b ∷ bytes)) 0 (λ is. absurd (omega arith))) ∙ none))
 
 -- the block of a packet without a comment
-pub plain_joined : (number zeros : ℕ) (p : Captured) (head end : List ℕ) → (length p.comment == 0) ≡ true → zeros < 4 → length p.bytes + zeros ≡ padded_length (length p.bytes)
+pub plain_joined : (number zeros : ℕ) (p : Captured) (head end : List ℕ) → (length p.comment == 0) ≡ true → zeros < 4 → length p.bytes + zeros ≡
+    padded_length (length p.bytes)
     → head ≡ packet_header (32 + length p.bytes + zeros) number p
     → end ≡ replicate 7 0 ++ little_bytes 4 (32 + length p.bytes + zeros)
     → head ++ (p.bytes ++ (take (11 - (7 - zeros)) (drop (7 - zeros) end) ++ [])) ≡ packet_block number p
@@ -98,7 +106,8 @@ plain_joined number zeros p head end none upper_bound padding_is head_is end_is 
 pub length-interface_body : (link snap b : ℕ) (bytes : List ℕ) → length (interface_body link snap (b ∷ bytes)) ≡ 24 + padded_length (length (b ∷ bytes))
 length-interface_body link snap b bytes = simp (length-append, length-replicate) (omega arith)
 
-pub unnamed : (padding : ℕ) (name : List ℕ) → (length name == 0) ≡ true → length name + padding ≡ padded_length (length name) → name ++ replicate padding 0 ≡ name_text name
+pub unnamed : (padding : ℕ) (name : List ℕ) → (length name == 0) ≡ true → length name + padding ≡ padded_length (length name) → name
+    ++ replicate padding 0 ≡ name_text name
 unnamed padding [] none padding_is = let zero_is : padding ≡ 0 = omega arith in ap (λ (n : ℕ). replicate n 0) zero_is
 unnamed padding (b ∷ bytes) none padding_is = absurd (false≢true (sym (ne_eqb (length (b ∷ bytes)) 0 (λ is. absurd (omega arith))) ∙ none))
 

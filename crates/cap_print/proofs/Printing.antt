@@ -1,5 +1,6 @@
 -- What is printed of a packet: the line, the rows of a dump, and what is written where the device fails.
-use Rattle.std.proofs.Common.{◌≡◌, ℕ, ◌+◌, ◌<◌, true, false, List, [], ◌++◌, length, take, Result, Ok, Err, refl, ap, sym, ◌∙◌, arith, length-append, append-nil, zero, suc, ◌-◌, append_assoc}
+use Rattle.std.proofs.Common.{◌≡◌, ℕ, ◌+◌, ◌<◌, true, false, List, [], ◌++◌, length, take, Result, Ok, Err, refl, ap, sym, ◌∙◌, arith, length-append}
+use Rattle.std.proofs.Common.{append-nil, zero, suc, ◌-◌, append_assoc}
 use Rattle.std.proofs.{Math.Seq.take-append-add, lemmas.List.append_assoc}
 use Rattle.cap_octet.specs.Device.{AppendsOrStops, Stops, WritesAll}
 use Rattle.cap_octet.specs.{Packet.Captured, declared.device.Stopped.Stopped}

@@ -1,5 +1,8 @@
 -- The index stays an index when a mark comes, when the oldest goes, and when all get new numbers.
-use Rattle.cap_process.proofs.Common.{◌≡◌, ◌≢◌, ℕ, zero, suc, ◌+◌, ◌-◌, ◌^◌, ◌<◌, ◌≤◌, inl, inr, List, [], ◌∷◌, ◌++◌, length, get_or, drop, refl, sym, ap, ◌∙◌, arith, set, length-append, length-drop, eq-zero-or-pos, cases_order, get_or-append_right, get_or-set_other, get_or-set_same, length-set, take, Links, Mark, IsHung, IsIndex, IsPutOnTop, IsSoundIndex, IsWay, Ends, Goes, Agrees, hash_of, mark_at, last}
+use Rattle.cap_process.proofs.Common.{◌≡◌, ◌≢◌, ℕ, zero, suc, ◌+◌, ◌-◌, ◌^◌, ◌<◌, ◌≤◌, inl, inr, List, [], ◌∷◌, ◌++◌, length, get_or, drop, refl, sym, ap, ◌∙◌}
+use Rattle.cap_process.proofs.Common.{arith, set, length-append, length-drop, eq-zero-or-pos, cases_order, get_or-append_right, get_or-set_other}
+use Rattle.cap_process.proofs.Common.{get_or-set_same, length-set, take, Links, Mark, IsHung, IsIndex, IsPutOnTop, IsSoundIndex, IsWay, Ends, Goes, Agrees}
+use Rattle.cap_process.proofs.Common.{hash_of, mark_at, last}
 use Rattle.std.proofs.lemmas.Grind.{common_steps, get_or-set_at}
 use Rattle.cap_process.proofs.Trees.{appended, dropped, raised, relinked}
 use Rattle.std.proofs.lemmas.Nat.{and_le_r}
@@ -69,7 +72,8 @@ pub record IsLowered (old new : List ℕ) (less : ℕ) : Type 0 where
   pub each : (h : ℕ) → h < length old → get_or new h 0 ≡ get_or old h 0 - less
 
 -- all get numbers that are smaller by one difference
-index_lowered : (mask : ℕ) (ms : List Mark) (ls : List Links) (heads heads' : List ℕ) (newest new : ℕ) → length ms ≤ new → new ≤ newest → length heads ≡ mask + 1
+index_lowered : (mask : ℕ) (ms : List Mark) (ls : List Links) (heads heads' : List ℕ) (newest new : ℕ) → length ms ≤ new → new ≤ newest
+    → length heads ≡ mask + 1
     → IsLowered heads heads' (newest - new) → IsIndex mask ms ls heads newest → IsIndex mask ms ls heads' new
 index_lowered mask ms ls heads heads' newest new upper_bound less wide l i = record {
   long = i.long;
@@ -99,7 +103,11 @@ index_placed mask ms ls new heads newest m a wide long counted small placed =
       trees = λ e. elim (cases_order (hash_of mask e) x) [
         | inl same ↦ (let there : get_or (set heads x (newest + 1)) x 0 ≡ newest + 1 = get_or-set_same heads x (newest + 1) 0 inside in
             let one : newest + 1 + 1 - (newest + 1) ≡ 1 = omega arith in
-            let agrees : Agrees mask 0 e (mark_at ms (length ms - 1)) = record { hash = ap (hash_of mask) a.there ∙ sym same; bits = λ i lt. absurd (omega arith) } in
+            let agrees : Agrees mask 0 e (mark_at ms (length ms - 1)) = record {
+              hash = ap (hash_of mask) a.there ∙ sym same;
+              bits =
+                  λ i lt. absurd (omega arith);
+            } in
             rw (same, there, one)
             (Goes {limit = length ms} {d = 1} (omega arith) (omega arith) agrees (λ lacks j low high. absurd (omega arith)) (placed.below e agrees)))
         | inr apart ↦ (let other : hash_of mask e ≢ x = λ same. elim apart [ inl lt ↦ omega arith | inr gt ↦ omega arith ] in
@@ -109,7 +117,8 @@ index_placed mask ms ls new heads newest m a wide long counted small placed =
             (raised (length ms) _
             (relinked new (a.trees e) (λ j less is. placed.others j (λ le same. other (sym is.hash ∙ same.hash ∙ newest_is))))
             (λ lacks j low high equal. elim (eq-zero-or-pos (length ms - 1 - j)) [
-              | inl newest_place ↦ (let here : j ≡ length ms - 1 = omega arith in other (sym (ap (hash_of mask) (ap (mark_at ms) (sym here) ∙ equal)) ∙ newest_is))
+              | inl newest_place ↦ (let here : j ≡ length ms - 1 = omega arith in other (sym (ap (hash_of mask) (ap (mark_at ms) (sym here) ∙ equal))
+                  ∙ newest_is))
               | inr more ↦ absurd (omega arith)
             ])
             (λ near. (omega arith, omega arith, omega arith)) (λ far. omega arith)))
@@ -127,7 +136,8 @@ index_without mask ms ls heads newest wide none long small = record {
 }
 
 -- the fields of a window after a mark came, whose marks kept their numbers or got smaller ones
-pub sound_push : (mask : ℕ) (ms : List Mark) (most : ℕ) (ls : List Links) (link_most : ℕ) (heads heads' : List ℕ) (newest : ℕ) (e : Mark) (l : Links) (placed : List Links) (new : ℕ)
+pub sound_push : (mask : ℕ) (ms : List Mark) (most : ℕ) (ls : List Links) (link_most : ℕ) (heads heads' : List ℕ) (newest : ℕ) (e : Mark) (l : Links)
+    (placed : List Links) (new : ℕ)
     → IsSoundIndex mask ms most ls link_most heads newest → IsLowered (set heads (hash_of mask e) (newest + 1)) heads' (newest + 1 - new)
     → length (last most (ms ++ e ∷ [])) ≤ new → new ≤ newest + 1 → new + 1 < 2 ^ 32 → length placed ≡ length (last most (ms ++ e ∷ []))
     → (0 < length (last most (ms ++ e ∷ []))
@@ -140,8 +150,10 @@ sound_push mask ms most ls link_most heads heads' newest e l placed new s lowere
     let more : length (ms ++ e ∷ []) ≡ length ms + 1 = length-append ms (e ∷ []) in
     let left : length kept ≡ length (ms ++ e ∷ []) - (length (ms ++ e ∷ []) - most) = length-drop (length (ms ++ e ∷ []) - most) (ms ++ e ∷ []) in
     let index : IsIndex mask kept placed (set heads (hash_of mask e) (newest + 1)) (newest + 1) = elim (eq-zero-or-pos (length kept)) [
-      | inl none ↦ index_without mask kept placed (set heads (hash_of mask e) (newest + 1)) (newest + 1) (size ∙ s.wide) none long (heads_small heads (hash_of mask e) newest s.index.small inside)
-      | inr some ↦ index_placed mask kept _ placed heads newest e (awaiting_push mask ms most ls link_most heads newest e l s some) s.wide long (omega (arith, upper_bound, less)) s.index.small (is_placed some)
+      | inl none ↦ index_without mask kept placed (set heads (hash_of mask e) (newest + 1)) (newest + 1) (size ∙ s.wide) none long
+          (heads_small heads (hash_of mask e) newest s.index.small inside)
+      | inr some ↦ index_placed mask kept _ placed heads newest e (awaiting_push mask ms most ls link_most heads newest e l s some) s.wide long
+          (omega (arith, upper_bound, less)) s.index.small (is_placed some)
     ] in
     record {
       index = index_lowered mask kept placed (set heads (hash_of mask e) (newest + 1)) heads' (newest + 1) new upper_bound less (size ∙ s.wide) lowered index;

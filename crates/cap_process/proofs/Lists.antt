@@ -1,9 +1,20 @@
 -- What is counted, kept and searched of packets that come one after another, and how the verdicts on them end a job.
-use Rattle.cap_process.proofs.Common.{map-append, ◌≡◌, ℕ, zero, suc, drop, ◌+◌, ◌-◌, ◌^◌, ◌<◌, ◌≤◌, ◌==◌, ◌&&◌, Bool, true, false, if◌then◌else◌, nat_le, min, max, Option, None, Some, option_or, unwrap_or, List, [], ◌∷◌, ◌++◌, length, refl, sym, ◌∙◌, ap, arith, subst, nat_tests, append_assoc, append-nil, sum_by-append, take-nil, sum_by, IfSome, Captured, Fault, TimeOutOfRange, Kind, Placed, Ending, End, Decision, Keep, Rule, rule_decides, Mark, mark_of, has_same, last, Event, Packet, InputEnd, SequenceEnd, Complete, FaultIn, end_of, packet_events, Policy, Count, Filter, KeepAll, Edit, EditRule, Judgement, Verdict, PassLast, Pass, Skip, Refuse, SelectorState, initial_state, edited_packet_with, filters, is_last, is_selected, judge, judge_by, shifted_time, passes, refuses, selects, skip_judgement, unique, with_mark, Tally, tally_with, Report, Form, AsReports, JobProgress, no_progress, form_refuses, unless_refused, decide, apply_verdict, next_progress, end_input, end_with, apply_events, is_repeated, packets_selected, unique_after, is_count, kept_by, event_packets, packets_written, written_unless, first_refusal, end_by_decision, is_reached, rule_end, at_most, end_at_time, first_without_time, packets_of, tally_of}
+use Rattle.cap_process.proofs.Common.{map-append, ◌≡◌, ℕ, zero, suc, drop, ◌+◌, ◌-◌, ◌^◌, ◌<◌, ◌≤◌, ◌==◌, ◌&&◌, Bool, true, false, if◌then◌else◌, nat_le, min}
+use Rattle.cap_process.proofs.Common.{max, Option, None, Some, option_or, unwrap_or, List, [], ◌∷◌, ◌++◌, length, refl, sym, ◌∙◌, ap, arith, subst, nat_tests}
+use Rattle.cap_process.proofs.Common.{append_assoc, append-nil, sum_by-append, take-nil, sum_by, IfSome, Captured, Fault, TimeOutOfRange, Kind, Placed, Ending}
+use Rattle.cap_process.proofs.Common.{End, Decision, Keep, Rule, rule_decides, Mark, mark_of, has_same, last, Event, Packet, InputEnd, SequenceEnd, Complete}
+use Rattle.cap_process.proofs.Common.{FaultIn, end_of, packet_events, Policy, Count, Filter, KeepAll, Edit, EditRule, Judgement, Verdict, PassLast, Pass, Skip}
+use Rattle.cap_process.proofs.Common.{Refuse, SelectorState, initial_state, edited_packet_with, filters, is_last, is_selected, judge, judge_by, shifted_time}
+use Rattle.cap_process.proofs.Common.{passes, refuses, selects, skip_judgement, unique, with_mark, Tally, tally_with, Report, Form, AsReports, JobProgress}
+use Rattle.cap_process.proofs.Common.{no_progress, form_refuses, unless_refused, decide, apply_verdict, next_progress, end_input, end_with, apply_events}
+use Rattle.cap_process.proofs.Common.{is_repeated, packets_selected, unique_after, is_count, kept_by, event_packets, packets_written, written_unless}
+use Rattle.cap_process.proofs.Common.{first_refusal, end_by_decision, is_reached, rule_end, at_most, end_at_time, first_without_time, packets_of, tally_of}
 use Rattle.cap_process.proofs.{Marks.last-last, Outcomes.progress-ended, Selectors.upper_bound}
 use Rattle.std.proofs.lemmas.List.{length-append}
+use Rattle.std.specs.Option.{option_map}
 use Rattle.cap_filter.specs.FilterRules as chosen
-use Rattle.cap_process.specs.Lists.{CountsAll, EndsWithoutTime, HasLastMarks, PassesFiltered, ascends, final, greatest, packets_kept as kept, least, marks, times}
+use Rattle.cap_process.specs.Lists.{CountsAll, EndsWithoutTime, HasLastMarks, PassesFiltered, ascends, final, greatest, packets_kept as kept, least, marks}
+use Rattle.cap_process.specs.Lists.{times}
 
 -- ---- what is counted
 
@@ -39,7 +50,8 @@ from-none t = grind (arith, nat_tests)
 ascends-next : (ts : List ℕ) (t : ℕ) → ascends (ts ++ t ∷ []) ≡ ascends ts && nat_le (final ts) t
 ascends-next [] t = from-none t
 ascends-next (a ∷ []) t = and-true (nat_le a t)
-ascends-next (a ∷ b ∷ ts) t = ap (λ (x : Bool). nat_le a b && x) (ascends-next (b ∷ ts) t) ∙ and-assoc (nat_le a b) (ascends (b ∷ ts)) (nat_le (final (b ∷ ts)) t)
+ascends-next (a ∷ b ∷ ts) t = ap (λ (x : Bool). nat_le a b && x) (ascends-next (b ∷ ts) t) ∙ and-assoc (nat_le a b) (ascends (b ∷ ts))
+    (nat_le (final (b ∷ ts)) t)
 
 not-none : (n : ℕ) → suc n == 0 ≡ false
 not-none n = grind (arith, nat_tests)
@@ -66,13 +78,16 @@ abbrev pub under_way : ℕ → SelectorState → List Captured → List Report �
 under_way k state out reports = record { decided = k; state = state; packets = out; reports = reports; end = None }
 
 -- the packets of an input are counted, whatever comes after them
-pub count-packets : (P : JobProgress → Type 0) (names : List (List ℕ)) (input : ℕ) (ps : List Placed) (k : ℕ) (state : SelectorState) (front : List Captured) (reports : List Report) (es : List Event)
+pub count-packets : (P : JobProgress → Type 0) (names : List (List ℕ)) (input : ℕ) (ps : List Placed) (k : ℕ) (state : SelectorState)
+    (front : List Captured) (reports : List Report) (es : List Event)
     → state.tally ≡ tally_of front
-    → ((k' : ℕ) (state' : SelectorState) → state'.tally ≡ tally_of (front ++ packets_of ps) → P (apply_events Count (AsReports names) (under_way k' state' [] reports) es))
+    → ((k' : ℕ) (state' : SelectorState) → state'.tally ≡ tally_of (front ++ packets_of ps)
+    → P (apply_events Count (AsReports names) (under_way k' state' [] reports) es))
     → P (apply_events Count (AsReports names) (under_way k state [] reports) (packet_events input ps ++ es))
 count-packets P names input [] k state front reports es is next = next k state (is ∙ ap tally_of (sym (append-nil front)))
 count-packets P names input (p ∷ ps) k state front reports es is next =
-    count-packets P names input ps (k + 1) (record { passed = state.passed; window = state.window; tally = tally_with state.tally p.packet }) (front ++ p.packet ∷ []) reports es
+    count-packets P names input ps (k + 1) (record { passed = state.passed; window = state.window; tally = tally_with state.tally p.packet })
+    (front ++ p.packet ∷ []) reports es
     (ap (λ (t : Tally). tally_with t p.packet) is ∙ counted-next front p.packet)
     (λ k' state' is'. next k' state' (is' ∙ ap tally_of (append_assoc front (p.packet ∷ []) (packets_of ps))))
 
@@ -107,18 +122,19 @@ policy_end a k state (Packet input p ∷ es) =
     verdict_end input p (judge a state (k + 1) p.packet).verdict (policy_end a (k + 1) (judge a state (k + 1) p.packet).state es)
 policy_end a k state (InputEnd input kind size ∷ es) = policy_end a k state es
 
--- it ends at a packet that is refused for this; where none is, so
+-- where no packet is refused, it ends so
 abbrev pub EndsSo : Option Fault → Option SequenceEnd → Option SequenceEnd → Type 0
 EndsSo None e end = end ≡ e
-EndsSo (Some fault) e end = (input : ℕ) × (offset : ℕ) × (end ≡ Some (FaultIn input fault offset))
+EndsSo (Some fault) e end = Unit {0}
 
--- a job has these packets, and ends at one that is refused, or so
+-- a job has these packets; it ends so if none is refused
 abbrev pub Comes : List Captured → Option Fault → Option SequenceEnd → JobProgress → Type 0
 Comes written refusal e w = (w.packets ≡ written) × EndsSo refusal e w.end
 
 abbrev Judged : Policy → Form → ℕ → SelectorState → List Captured → List Report → List Event → Type 0
 Judged a f k state out reports es =
-    Comes (out ++ packets_written f out (judged a k state (event_packets es))) (first_refusal f out (judged a k state (event_packets es))) (policy_end a k state es) (apply_events a f (under_way k state out reports) es)
+    Comes (out ++ packets_written f out (judged a k state (event_packets es))) (first_refusal f out (judged a k state (event_packets es)))
+    (policy_end a k state es) (apply_events a f (under_way k state out reports) es)
 
 -- one packet, where those after it come so
 packet-next : (a : Policy) (f : Form) (k : ℕ) (state : SelectorState) (out : List Captured) (reports : List Report) (input : ℕ) (p : Placed) (es : List Event)
@@ -138,21 +154,24 @@ packet-next a f k state out reports input p es next = by_verdict (judge a state 
     more = policy_end a (k + 1) after es
 
     By : Verdict → Type 0
-    By v = Comes (out ++ packets_written f out (judged_by v rest)) (first_refusal f out (judged_by v rest)) (verdict_end input p v more) (apply_events a f (apply_verdict f w input p v after) es)
+    By v = Comes (out ++ packets_written f out (judged_by v rest)) (first_refusal f out (judged_by v rest)) (verdict_end input p v more)
+        (apply_events a f (apply_verdict f w input p v after) es)
 
     stopped : (fault : Fault) → apply_events a f (end_with w (FaultIn input fault p.offset)) es ≡ end_with w (FaultIn input fault p.offset)
     stopped fault = progress-ended a f (end_with w (FaultIn input fault p.offset)) es (FaultIn input fault p.offset) refl
 
     refused : (fault : Fault) (e : Option SequenceEnd) → Comes (out ++ []) (Some fault) e (apply_events a f (end_with w (FaultIn input fault p.offset)) es)
-    refused fault e = (ap (λ (u : JobProgress). u.packets) (stopped fault) ∙ sym (append-nil out), (input, p.offset, ap (λ (u : JobProgress). u.end) (stopped fault)))
+    refused fault e = (ap (λ (u : JobProgress). u.packets) (stopped fault) ∙ sym (append-nil out), tt)
 
     passing : (q : Captured) (o : Option Fault)
-        → Comes (out ++ written_unless o q (packets_written f (out ++ q ∷ []) rest)) (option_or o (first_refusal f (out ++ q ∷ []) rest)) more (apply_events a f (unless_refused o w input p (decide w after (q ∷ []) None)) es)
+        → Comes (out ++ written_unless o q (packets_written f (out ++ q ∷ []) rest)) (option_or o (first_refusal f (out ++ q ∷ []) rest)) more
+        (apply_events a f (unless_refused o w input p (decide w after (q ∷ []) None)) es)
     passing q None = let n = next after (out ++ q ∷ []) in (n.0 ∙ append_assoc out (q ∷ []) (packets_written f (out ++ q ∷ []) rest), n.1)
     passing q (Some fault) = refused fault more
 
     last_one : (q : Captured) (o : Option Fault)
-        → Comes (out ++ written_unless o q []) (option_or o None) (Some Complete) (apply_events a f (unless_refused o w input p (decide w after (q ∷ []) (Some Complete))) es)
+        → Comes (out ++ written_unless o q []) (option_or o None) (Some Complete)
+        (apply_events a f (unless_refused o w input p (decide w after (q ∷ []) (Some Complete))) es)
     last_one q None =
         let ended = progress-ended a f (decide w after (q ∷ []) (Some Complete)) es Complete refl in
         (ap (λ (u : JobProgress). u.packets) ended, ap (λ (u : JobProgress). u.end) ended)
@@ -162,7 +181,8 @@ packet-next a f k state out reports input p es next = by_verdict (judge a state 
     by (Pass q) = passing q (form_refuses f out q)
     by (PassLast q) = last_one q (form_refuses f out q)
     by Skip =
-        subst (λ (o : List Captured). Comes (o ++ packets_written f o rest) (first_refusal f o rest) more (apply_events a f (under_way (k + 1) after (out ++ []) reports) es)) (append-nil out) (next after (out ++ []))
+        subst (λ (o : List Captured). Comes (o ++ packets_written f o rest) (first_refusal f o rest) more
+        (apply_events a f (under_way (k + 1) after (out ++ []) reports) es)) (append-nil out) (next after (out ++ []))
     by (Refuse fault) = (ap (λ (u : JobProgress). u.packets) (stopped fault) ∙ sym (append-nil out), ap (λ (u : JobProgress). u.end) (stopped fault))
 
     by_verdict : (v : Verdict) → (judge a state (k + 1) p.packet).verdict ≡ v → Judged a f k state out reports (Packet input p ∷ es)
@@ -174,16 +194,143 @@ end-stays _ w input kind size judges = refl
 
 -- what is written of what passes is all up to the first that the form refuses, at which the job ends; where it refuses
 -- none, the verdicts end it
-pub comes : (a : Policy) (f : Form) (k : ℕ) (state : SelectorState) (out : List Captured) (reports : List Report) (es : List Event) → is_count a ≡ false → Judged a f k state out reports es
+pub comes : (a : Policy) (f : Form) (k : ℕ) (state : SelectorState) (out : List Captured) (reports : List Report) (es : List Event)
+    → is_count a ≡ false → Judged a f k state out reports es
 comes a f k state out reports [] judges = (sym (append-nil out), refl)
 comes a f k state out reports (Packet input p ∷ es) judges =
     packet-next a f k state out reports input p es (λ state' out'. comes a f (k + 1) state' out' reports es judges)
 comes a f k state out reports (InputEnd input kind size ∷ es) judges =
-    subst (λ (w : JobProgress). Comes (out ++ packets_written f out (judged a k state (event_packets es))) (first_refusal f out (judged a k state (event_packets es))) (policy_end a k state es) (apply_events a f w es))
+    subst (λ (w : JobProgress). Comes (out ++ packets_written f out (judged a k state (event_packets es)))
+    (first_refusal f out (judged a k state (event_packets es))) (policy_end a k state es) (apply_events a f w es))
     (sym (end-stays a (under_way k state out reports) input kind size judges)) (comes a f k state out reports es judges)
 
+-- ---- the packet at which it ends
+
+-- a job that goes on from there ends at one of these events, the first packet that is refused, for this
+pub record AtRefused (a : Policy) (f : Form) (k : ℕ) (state : SelectorState) (out : List Captured) (reports : List Report) (es : List Event)
+    (fault : Fault) : Type 0 where
+  pub before : List Event
+  pub input : ℕ
+  pub p : Placed
+  pub later : List Event
+  pub are : es ≡ before ++ Packet input p ∷ later
+  pub taken : first_refusal f out (judged a k state (event_packets before)) ≡ None
+  pub refused : first_refusal f out (judged a k state (event_packets (before ++ Packet input p ∷ []))) ≡ Some fault
+  pub ends : (apply_events a f (under_way k state out reports) es).end ≡ Some (FaultIn input fault p.offset)
+
+abbrev IsPlaced : Policy → Form → ℕ → SelectorState → List Captured → List Report → List Event → Type 0
+IsPlaced a f k state out reports es =
+    (fault : Fault) → first_refusal f out (judged a k state (event_packets es)) ≡ Some fault → AtRefused a f k state out reports es fault
+
+-- one packet, where a refused one among those after it has its place
+placed-next : (a : Policy) (f : Form) (k : ℕ) (state : SelectorState) (out : List Captured) (reports : List Report) (input : ℕ) (p : Placed) (es : List Event)
+    → ((state' : SelectorState) (out' : List Captured) → IsPlaced a f (k + 1) state' out' reports es) → IsPlaced a f k state out reports (Packet input p ∷ es)
+placed-next a f k state out reports input p es next fault hit = by (judge a state (k + 1) p.packet).verdict refl
+  where
+    w : JobProgress
+    w = under_way k state out reports
+
+    after : SelectorState
+    after = (judge a state (k + 1) p.packet).state
+
+    rest : List Event → List Captured
+    rest ds = judged a (k + 1) after (event_packets ds)
+
+    verdict : Verdict
+    verdict = (judge a state (k + 1) p.packet).verdict
+
+    ended : (fault : Fault) → (apply_events a f (end_with w (FaultIn input fault p.offset)) es).end ≡ Some (FaultIn input fault p.offset)
+    ended fault = ap (λ (u : JobProgress). u.end) (progress-ended a f (end_with w (FaultIn input fault p.offset)) es (FaultIn input fault p.offset) refl)
+
+    refusal_by : Verdict → List Event → Option Fault
+    refusal_by v ds = first_refusal f out (judged_by v (rest ds))
+
+    end_by : Verdict → Option SequenceEnd
+    end_by v = (apply_events a f (apply_verdict f w input p v after) es).end
+
+    here : (v : Verdict) → verdict ≡ v → refusal_by v [] ≡ Some fault → end_by v ≡ Some (FaultIn input fault p.offset)
+        → AtRefused a f k state out reports (Packet input p ∷ es) fault
+    here v is refused ends = record {
+      before = [];
+      input = input;
+      p = p;
+      later = es;
+      are = refl;
+      taken = refl;
+      refused = ap (λ (u : Verdict). refusal_by u []) is ∙ refused;
+      ends = ap end_by is ∙ ends;
+    }
+
+    further : (v : Verdict) → verdict ≡ v → (out' : List Captured) → ((ds : List Event) → refusal_by v ds ≡ first_refusal f out' (rest ds))
+        → end_by v ≡ (apply_events a f (under_way (k + 1) after out' reports) es).end → AtRefused a f k state out reports (Packet input p ∷ es) fault
+    further v is out' same ends =
+        let there = next after out' fault (sym (same es) ∙ sym (ap (λ (u : Verdict). refusal_by u es) is) ∙ hit) in
+        record {
+          before = Packet input p ∷ there.before;
+          input = there.input;
+          p = there.p;
+          later = there.later;
+          are = ap (λ (ds : List Event). Packet input p ∷ ds) there.are;
+          taken = ap (λ (u : Verdict). refusal_by u there.before) is ∙ same there.before ∙ there.taken;
+          refused = ap (λ (u : Verdict). refusal_by u (there.before ++ Packet there.input there.p ∷ [])) is
+              ∙ same (there.before ++ Packet there.input there.p ∷ []) ∙ there.refused;
+          ends = ap end_by is ∙ ends ∙ there.ends;
+        }
+
+    -- whether the form refuses a packet that passes
+    passing : (q : Captured) → verdict ≡ Pass q → (o : Option Fault) → form_refuses f out q ≡ o → AtRefused a f k state out reports (Packet input p ∷ es) fault
+    passing q is None taken =
+        further (Pass q) is (out ++ q ∷ []) (λ ds. ap (λ (o : Option Fault). option_or o (first_refusal f (out ++ q ∷ []) (rest ds))) taken)
+        (ap (λ (o : Option Fault). (apply_events a f (unless_refused o w input p (decide w after (q ∷ []) None)) es).end) taken)
+    passing q is (Some x) refused =
+        let why : Some x ≡ Some fault =
+        sym (ap (λ (o : Option Fault). option_or o (first_refusal f (out ++ q ∷ []) (rest es))) refused)
+        ∙ sym (ap (λ (u : Verdict). refusal_by u es) is) ∙ hit in
+        here (Pass q) is (ap (λ (o : Option Fault). option_or o None) refused ∙ why)
+        (ap (λ (o : Option Fault). (apply_events a f (unless_refused o w input p (decide w after (q ∷ []) None)) es).end) refused ∙ ended x
+        ∙ ap (λ (o : Option Fault). option_map (λ (y : Fault). FaultIn input y p.offset) o) why)
+
+    last_one : (q : Captured) → verdict ≡ PassLast q → (o : Option Fault) → form_refuses f out q ≡ o
+        → AtRefused a f k state out reports (Packet input p ∷ es) fault
+    last_one q is None taken =
+        let why : None ≡ Some fault =
+        sym (ap (λ (o : Option Fault). option_or o None) taken) ∙ sym (ap (λ (u : Verdict). refusal_by u es) is) ∙ hit in (cc)
+    last_one q is (Some x) refused =
+        let why : Some x ≡ Some fault =
+        sym (ap (λ (o : Option Fault). option_or o None) refused) ∙ sym (ap (λ (u : Verdict). refusal_by u es) is) ∙ hit in
+        here (PassLast q) is (ap (λ (o : Option Fault). option_or o None) refused ∙ why)
+        (ap (λ (o : Option Fault). (apply_events a f (unless_refused o w input p (decide w after (q ∷ []) (Some Complete))) es).end) refused ∙ ended x
+        ∙ ap (λ (o : Option Fault). option_map (λ (y : Fault). FaultIn input y p.offset) o) why)
+
+    by : (v : Verdict) → verdict ≡ v → AtRefused a f k state out reports (Packet input p ∷ es) fault
+    by (Pass q) is = passing q is (form_refuses f out q) refl
+    by (PassLast q) is = last_one q is (form_refuses f out q) refl
+    by Skip is = further Skip is out (λ ds. refl)
+        (ap (λ (o : List Captured). (apply_events a f (under_way (k + 1) after o reports) es).end) (append-nil out))
+    by (Refuse x) is = let why : None ≡ Some fault = sym (ap (λ (u : Verdict). refusal_by u es) is) ∙ hit in (cc)
+
+-- a job ends at the first packet that is refused
+pub placed : (a : Policy) (f : Form) (k : ℕ) (state : SelectorState) (out : List Captured) (reports : List Report) (es : List Event)
+    → is_count a ≡ false → IsPlaced a f k state out reports es
+placed a f k state out reports [] judges fault hit = (cc)
+placed a f k state out reports (Packet input p ∷ es) judges fault hit =
+    placed-next a f k state out reports input p es (λ state' out'. placed a f (k + 1) state' out' reports es judges) fault hit
+placed a f k state out reports (InputEnd input kind size ∷ es) judges fault hit =
+    let there = placed a f k state out reports es judges fault hit in
+    record {
+      before = InputEnd input kind size ∷ there.before;
+      input = there.input;
+      p = there.p;
+      later = there.later;
+      are = ap (λ (ds : List Event). InputEnd input kind size ∷ ds) there.are;
+      taken = there.taken;
+      refused = there.refused;
+      ends = ap (λ (w : JobProgress). (apply_events a f w es).end) (end-stays a (under_way k state out reports) input kind size judges) ∙ there.ends;
+    }
+
 -- packets of which the form refuses none, wherever it comes among them, are all written
-pub none-refused : (f : Form) (before ps : List Captured) → ((xs : List Captured) (p : Captured) (ys : List Captured) → before ++ ps ≡ xs ++ p ∷ ys → form_refuses f xs p ≡ None)
+pub none-refused : (f : Form) (before ps : List Captured) → ((xs : List Captured) (p : Captured) (ys : List Captured) → before ++ ps ≡ xs ++ p ∷ ys
+    → form_refuses f xs p ≡ None)
     → (packets_written f before ps ≡ ps) × (first_refusal f before ps ≡ None)
 none-refused f before [] none = (refl, refl)
 none-refused f before (p ∷ ps) none =
@@ -205,7 +352,8 @@ judged-is a ps judges =
     let c = comes a (AsReports []) 0 initial_state [] [] (packet_events 0 ps) judges in
     let none = none-refused (AsReports []) [] (judged a 0 initial_state (event_packets (packet_events 0 ps))) (λ xs p ys is. refl) in (
       c.0 ∙ none.0 ∙ ap (judged a 0 initial_state) (packets-of-input 0 ps),
-      subst (λ (r : Option Fault). EndsSo r (policy_end a 0 initial_state (packet_events 0 ps)) (apply_events a (AsReports []) no_progress (packet_events 0 ps)).end) none.1 c.1,
+      subst (λ (r : Option Fault). EndsSo r (policy_end a 0 initial_state (packet_events 0 ps))
+          (apply_events a (AsReports []) no_progress (packet_events 0 ps)).end) none.1 c.1,
     )
 
 -- ---- what a filter keeps
@@ -246,14 +394,18 @@ at-none (Some n) passed below = let more : 0 < n - passed = omega (arith, below)
 abbrev Filtered : Rule → Option ℕ → Ending → ℕ → SelectorState → List Placed → Type 0
 Filtered rule count ending k state ps =
     (judged (Filter rule count) k state (packets_of ps) ≡ at_most (still count state.passed) (kept rule (packets_of ps)))
-    × (unwrap_or (policy_end (Filter rule count) k state (packet_events 0 ps)) (end_of 0 ending) ≡ (if is_reached (still count state.passed) (length (kept rule (packets_of ps))) then Complete else rule_end rule ending ps))
+    × (unwrap_or (policy_end (Filter rule count) k state (packet_events 0 ps)) (end_of 0 ending) ≡
+    (if is_reached (still count state.passed) (length (kept rule (packets_of ps))) then Complete else rule_end rule ending ps))
 
 -- one packet, where those after it are filtered so
 filtered-next : (rule : Rule) (count : Option ℕ) (ending : Ending) (k : ℕ) (state : SelectorState) (p : Placed) (ps : List Placed) → IsBelow count state.passed
     → ((state' : SelectorState) → IsBelow count state'.passed → Filtered rule count ending (k + 1) state' ps) → (d : Decision)
-    → (judged_by (filters d count state p.packet).verdict (judged (Filter rule count) (k + 1) (filters d count state p.packet).state (packets_of ps)) ≡ at_most (still count state.passed) (kept_by d p.packet (kept rule (packets_of ps))))
-    × (unwrap_or (verdict_end 0 p (filters d count state p.packet).verdict (policy_end (Filter rule count) (k + 1) (filters d count state p.packet).state (packet_events 0 ps))) (end_of 0 ending)
-    ≡ (if is_reached (still count state.passed) (length (kept_by d p.packet (kept rule (packets_of ps)))) then Complete else end_by_decision d p (rule_end rule ending ps)))
+    → (judged_by (filters d count state p.packet).verdict (judged (Filter rule count) (k + 1) (filters d count state p.packet).state
+    (packets_of ps)) ≡ at_most (still count state.passed) (kept_by d p.packet (kept rule (packets_of ps))))
+    × (unwrap_or (verdict_end 0 p (filters d count state p.packet).verdict
+    (policy_end (Filter rule count) (k + 1) (filters d count state p.packet).state (packet_events 0 ps))) (end_of 0 ending)
+    ≡ (if is_reached (still count state.passed) (length (kept_by d p.packet (kept rule (packets_of ps)))) then Complete else end_by_decision d p
+    (rule_end rule ending ps)))
 filtered-next rule count ending k state p ps below next Keep = by_last (is_last count (state.passed + 1)) refl
   where
     after : SelectorState
@@ -263,8 +415,10 @@ filtered-next rule count ending k state p ps below next Keep = by_last (is_last 
     rest = kept rule (packets_of ps)
 
     by_last : (b : Bool) → is_last count (state.passed + 1) ≡ b
-        → (judged_by (if b then PassLast p.packet else Pass p.packet) (judged (Filter rule count) (k + 1) after (packets_of ps)) ≡ at_most (still count state.passed) (p.packet ∷ rest))
-        × (unwrap_or (verdict_end 0 p (if b then PassLast p.packet else Pass p.packet) (policy_end (Filter rule count) (k + 1) after (packet_events 0 ps))) (end_of 0 ending)
+        → (judged_by (if b then PassLast p.packet else Pass p.packet) (judged (Filter rule count) (k + 1) after (packets_of ps)) ≡ at_most
+        (still count state.passed) (p.packet ∷ rest))
+        × (unwrap_or (verdict_end 0 p (if b then PassLast p.packet else Pass p.packet)
+        (policy_end (Filter rule count) (k + 1) after (packet_events 0 ps))) (end_of 0 ending)
         ≡ (if is_reached (still count state.passed) (suc (length rest)) then Complete else rule_end rule ending ps))
     by_last true is =
         let one = at-last count state.passed p.packet rest is in
@@ -278,21 +432,25 @@ filtered-next rule count ending k state p ps below next (chosen.Refuse fault) =
     let none = at-none count state.passed below in
     (sym none.0, ap (λ (b : Bool). if b then Complete else FaultIn 0 fault p.offset) (sym none.1))
 
-filtered : (rule : Rule) (count : Option ℕ) (ending : Ending) (k : ℕ) (state : SelectorState) (ps : List Placed) → k + length ps < 2 ^ 63 → IsBelow count state.passed → Filtered rule count ending k state ps
+filtered : (rule : Rule) (count : Option ℕ) (ending : Ending) (k : ℕ) (state : SelectorState) (ps : List Placed) → k + length ps < 2 ^ 63
+    → IsBelow count state.passed → Filtered rule count ending k state ps
 filtered rule count ending k state [] less below =
     let none = at-none count state.passed below in
     (sym none.0, ap (λ (b : Bool). if b then Complete else end_of 0 ending) (sym none.1))
 filtered rule count ending k state (p ∷ ps) less below =
     subst (λ (j : Judgement).
     (judged_by j.verdict (judged (Filter rule count) (k + 1) j.state (packets_of ps)) ≡ at_most (still count state.passed) (kept rule (packets_of (p ∷ ps))))
-    × (unwrap_or (verdict_end 0 p j.verdict (policy_end (Filter rule count) (k + 1) j.state (packet_events 0 ps))) (end_of 0 ending) ≡ (if is_reached (still count state.passed) (length (kept rule (packets_of (p ∷ ps)))) then Complete else rule_end rule ending (p ∷ ps))))
+    × (unwrap_or (verdict_end 0 p j.verdict (policy_end (Filter rule count) (k + 1) j.state (packet_events 0 ps))) (end_of 0 ending) ≡
+    (if is_reached (still count state.passed) (length (kept rule (packets_of (p ∷ ps)))) then Complete else rule_end rule ending (p ∷ ps))))
     (sym (upper_bound (Filter rule count) state (k + 1) p.packet refl (omega (arith, less))))
-    (filtered-next rule count ending k state p ps below (λ state' below'. filtered rule count ending (k + 1) state' ps (omega (arith, less)) below') (rule_decides rule p.packet))
+    (filtered-next rule count ending k state p ps below (λ state' below'. filtered rule count ending (k + 1) state' ps (omega (arith, less)) below')
+    (rule_decides rule p.packet))
 
 -- the same from the first packet on
 pub filtered-first : (rule : Rule) (count : Option ℕ) (ending : Ending) (ps : List Placed) → IfSome count (λ (n : ℕ). 0 < n) → length ps < 2 ^ 63
     → (judged (Filter rule count) 0 initial_state (packets_of ps) ≡ at_most count (kept rule (packets_of ps)))
-    × (unwrap_or (policy_end (Filter rule count) 0 initial_state (packet_events 0 ps)) (end_of 0 ending) ≡ (if is_reached count (length (kept rule (packets_of ps))) then Complete else rule_end rule ending ps))
+    × (unwrap_or (policy_end (Filter rule count) 0 initial_state (packet_events 0 ps)) (end_of 0 ending) ≡
+    (if is_reached count (length (kept rule (packets_of ps))) then Complete else rule_end rule ending ps))
 filtered-first rule None ending ps some less = filtered rule None ending 0 initial_state ps (omega (arith, less)) tt
 filtered-first rule (Some n) ending ps some less =
     let e : n - 0 ≡ n = omega arith in
@@ -306,7 +464,8 @@ passes_filtered rule count ps some less = (judged-is (Filter rule count) ps refl
 abbrev reports : Form
 reports = AsReports []
 
-step-is : (a : Policy) (k : ℕ) (state : SelectorState) (out : List Captured) (p : Placed) (j : Judgement) → is_count a ≡ false → k + 1 < 2 ^ 63 → judge_by a state (k + 1) p.packet ≡ j
+step-is : (a : Policy) (k : ℕ) (state : SelectorState) (out : List Captured) (p : Placed) (j : Judgement) → is_count a ≡ false → k + 1 < 2 ^ 63
+    → judge_by a state (k + 1) p.packet ≡ j
     → next_progress a reports (under_way k state out []) (Packet 0 p) ≡ apply_verdict reports (under_way k state out []) 0 p j.verdict j.state
 step-is a k state out p j judges less is =
     ap (λ (v : Judgement). apply_verdict reports (under_way k state out []) 0 p v.verdict v.state) (upper_bound a state (k + 1) p.packet judges less ∙ is)
@@ -324,7 +483,8 @@ record Noted (n : Option ℕ) (state : SelectorState) (before : List Mark) (p : 
   is : unique n state p ≡ (if b then skip_judgement state' else passes state' p)
   kept : IsKept n (before ++ mark_of p.bytes ∷ []) state'.window
 
-noted : (n : Option ℕ) (state : SelectorState) (before : List Mark) (p : Captured) (b : Bool) → IsKept n before state.window → is_repeated n before (mark_of p.bytes) ≡ b → Noted n state before p b
+noted : (n : Option ℕ) (state : SelectorState) (before : List Mark) (p : Captured) (b : Bool) → IsKept n before state.window
+    → is_repeated n before (mark_of p.bytes) ≡ b → Noted n state before p b
 noted None state before p true kept is = (cc)
 noted None state before p false kept is = record { state' = state; is = refl; kept = tt }
 noted (Some n) state before p b kept is =
@@ -347,8 +507,10 @@ abbrev Goes : EditRule → ℕ → SelectorState → List Mark → List Captured
 Goes s k state before out ps = Follows s (k + 1) before out ps (apply_events (Edit s) reports (under_way k state out []) (packet_events 0 ps))
 
 -- one packet, where those after it are followed so
-follows-next : (s : EditRule) (k : ℕ) (state : SelectorState) (before : List Mark) (out : List Captured) (p : Placed) (ps : List Placed) → k + 1 < 2 ^ 63 → IsKept s.window before state.window
-    → ((state' : SelectorState) (before' : List Mark) (out' : List Captured) → IsKept s.window before' state'.window → Goes s (k + 1) state' before' out' ps) → Goes s k state before out (p ∷ ps)
+follows-next : (s : EditRule) (k : ℕ) (state : SelectorState) (before : List Mark) (out : List Captured) (p : Placed) (ps : List Placed)
+    → k + 1 < 2 ^ 63 → IsKept s.window before state.window
+    → ((state' : SelectorState) (before' : List Mark) (out' : List Captured) → IsKept s.window before' state'.window → Goes s (k + 1) state' before'
+    out' ps) → Goes s k state before out (p ∷ ps)
 follows-next s k state before out p ps near kept next = by_selected (is_selected s (k + 1) p.packet) refl
   where
     To : JobProgress → Type 0
@@ -358,7 +520,8 @@ follows-next s k state before out p ps near kept next = by_selected (is_selected
     following j = apply_events (Edit s) reports (apply_verdict reports (under_way k state out []) 0 p j.verdict j.state) (packet_events 0 ps)
 
     to : (j : Judgement) → selects s state (k + 1) p.packet ≡ j → To (following j) → Goes s k state before out (p ∷ ps)
-    to j is follows = subst To (sym (ap (λ (w : JobProgress). apply_events (Edit s) reports w (packet_events 0 ps)) (step-is (Edit s) k state out p j refl near is))) follows
+    to j is follows = subst To (sym (ap (λ (w : JobProgress). apply_events (Edit s) reports w (packet_events 0 ps))
+        (step-is (Edit s) k state out p j refl near is))) follows
 
     -- what is selected after the packet
     more : List Captured
@@ -366,7 +529,8 @@ follows-next s k state before out p ps near kept next = by_selected (is_selected
 
     at_time : (time : ℕ) (u : List Captured) (w : JobProgress) → is_selected s (k + 1) p.packet ≡ true → shifted_time s.shift p.packet.time ≡ Some time
         → Follows s (k + 1 + 1) (before ++ mark_of (edited_packet_with s p.packet time).bytes ∷ []) (out ++ u) ps w
-        → unique_after s.window before (edited_packet_with s p.packet time ∷ more) ≡ u ++ unique_after s.window (before ++ mark_of (edited_packet_with s p.packet time).bytes ∷ []) more → To w
+        → unique_after s.window before (edited_packet_with s p.packet time ∷ more) ≡ u ++ unique_after s.window
+        (before ++ mark_of (edited_packet_with s p.packet time).bytes ∷ []) more → To w
     at_time time u w is timed f same =
         let q : Captured = edited_packet_with s p.packet time in
         let rest : packets_selected s (k + 1) (packets_of (p ∷ ps)) ≡ q ∷ more = rw (is, timed) refl in
@@ -381,7 +545,8 @@ follows-next s k state before out p ps near kept next = by_selected (is_selected
           end = rw (is, timed) f.end;
         }
 
-    by_unique : (time : ℕ) → is_selected s (k + 1) p.packet ≡ true → shifted_time s.shift p.packet.time ≡ Some time → (b : Bool) → is_repeated s.window before (mark_of (edited_packet_with s p.packet time).bytes) ≡ b
+    by_unique : (time : ℕ) → is_selected s (k + 1) p.packet ≡ true → shifted_time s.shift p.packet.time ≡ Some time → (b : Bool)
+        → is_repeated s.window before (mark_of (edited_packet_with s p.packet time).bytes) ≡ b
         → Goes s k state before out (p ∷ ps)
     by_unique time is timed true same =
         let q : Captured = edited_packet_with s p.packet time in
@@ -392,7 +557,8 @@ follows-next s k state before out p ps near kept next = by_selected (is_selected
         let q : Captured = edited_packet_with s p.packet time in
         let n : Noted s.window state before q false = noted s.window state before q false kept same in
         to (passes n.state' q) (rw (is, timed) n.is)
-        (at_time time (q ∷ []) (following (passes n.state' q)) is timed (next (passes n.state' q).state (before ++ mark_of q.bytes ∷ []) (out ++ q ∷ []) n.kept) (rw same refl))
+        (at_time time (q ∷ []) (following (passes n.state' q)) is timed (next (passes n.state' q).state (before ++ mark_of q.bytes ∷ [])
+        (out ++ q ∷ []) n.kept) (rw same refl))
 
     by_moved : is_selected s (k + 1) p.packet ≡ true → (o : Option ℕ) → shifted_time s.shift p.packet.time ≡ o → Goes s k state before out (p ∷ ps)
     by_moved is None beyond =
@@ -418,12 +584,14 @@ follows-next s k state before out p ps near kept next = by_selected (is_selected
           passed = f.passed
               ∙ ap (λ (o : List Captured). o ++ unique_after s.window before more) (append-nil out)
               ∙ ap (λ (l : List Captured). out ++ unique_after s.window before l) (sym rest);
-          kept = kept-as s.window (before ++ marks more) (before ++ marks (packets_selected s (k + 1) (packets_of (p ∷ ps)))) (following (skip_judgement state)).state.window
+          kept = kept-as s.window (before ++ marks more) (before ++ marks (packets_selected s (k + 1) (packets_of (p ∷ ps))))
+              (following (skip_judgement state)).state.window
               (ap (λ (l : List Captured). before ++ marks l) (sym rest)) f.kept;
           end = rw is f.end;
         }
 
-follows : (s : EditRule) (k : ℕ) (state : SelectorState) (before : List Mark) (out : List Captured) (ps : List Placed) → k + length ps < 2 ^ 63 → IsKept s.window before state.window
+follows : (s : EditRule) (k : ℕ) (state : SelectorState) (before : List Mark) (out : List Captured) (ps : List Placed) → k + length ps < 2 ^ 63
+    → IsKept s.window before state.window
     → Goes s k state before out ps
 follows s k state before out [] less kept = record {
   passed = sym (append-nil out);
@@ -449,4 +617,5 @@ ends_without_time s ps less = let f = follows-first s ps less in (f.end, f.passe
 
 pub has_last_marks : HasLastMarks
 has_last_marks s n ps is less =
-    subst (λ (o : Option ℕ). IsKept o (marks (packets_selected s 1 (packets_of ps))) (apply_events (Edit s) reports no_progress (packet_events 0 ps)).state.window) is (follows-first s ps less).kept
+    subst (λ (o : Option ℕ). IsKept o (marks (packets_selected s 1 (packets_of ps)))
+    (apply_events (Edit s) reports no_progress (packet_events 0 ps)).state.window) is (follows-first s ps less).kept

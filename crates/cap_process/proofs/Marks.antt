@@ -1,5 +1,7 @@
 -- Marks in a window.
-use Rattle.cap_process.proofs.Common.{refl, IsSome, option_copied, ◌≡◌, ◌↔◌, ℕ, ◌+◌, ◌-◌, ◌≤◌, ◌==◌, Bool, List, [], ◌∷◌, ◌++◌, length, drop, sym, ap, ◌∙◌, arith, length-append, length-drop, IsTrue, Bor, Option, Some, None, drop-drop, drop-append-le, Mark, is_same_mark, has_same, last}
+use Rattle.cap_process.proofs.Common.{refl, IsSome, option_copied, ◌≡◌, ◌↔◌, ℕ, ◌+◌, ◌-◌, ◌≤◌, ◌==◌, Bool, List, [], ◌∷◌, ◌++◌, length, drop, sym, ap, ◌∙◌}
+use Rattle.cap_process.proofs.Common.{arith, length-append, length-drop, IsTrue, Bor, Option, Some, None, drop-drop, drop-append-le, Mark, is_same_mark}
+use Rattle.cap_process.proofs.Common.{has_same, last}
 use Rattle.std.proofs.lemmas.Bool.Decides.{Decides-and, Decides-eqb, Decides-like}
 use Rattle.std.proofs.lemmas.{List.Folds.list_any_at, Map.Views.Contains-from_any, Slice.Eq.bytes_eq-Decides}
 use Rattle.std.specs.{Bool.Decides, Bool.one_answer, List.Contains, Str.bytes_eq}

@@ -1,26 +1,35 @@
 -- How far a job comes over events that came, and over what comes next.
-use Rattle.cap_process.proofs.Common.{◌≡◌, List, [], ◌∷◌, ◌++◌, Option, None, Some, refl, ◌∙◌, ap, Event, SequenceEnd, Sequence, with_front, Policy, Form, JobProgress, no_progress, unless_ended, apply_event, next_progress, apply_events, end_with, end_unless_ended, final_progress, ℕ, ◌+◌, sym, subst, append_assoc, append-nil, Captured, Fault, Placed, Kind, Report, Packet, InputEnd, Complete, Edit, Filter, KeepAll, Count, SelectorState, Verdict, Pass, PassLast, Skip, Refuse, judge, decide, unless_refused, apply_verdict, end_input, form_refuses}
+use Rattle.cap_process.proofs.Common.{◌≡◌, List, [], ◌∷◌, ◌++◌, Option, None, Some, refl, ◌∙◌, ap, Event, SequenceEnd, Sequence, with_front, Policy, Form}
+use Rattle.cap_process.proofs.Common.{JobProgress, no_progress, unless_ended, apply_event, next_progress, apply_events, end_with, end_unless_ended}
+use Rattle.cap_process.proofs.Common.{final_progress, ℕ, ◌+◌, sym, subst, append_assoc, append-nil, Captured, Fault, Placed, Kind, Report, Packet, InputEnd}
+use Rattle.cap_process.proofs.Common.{Complete, Edit, Filter, KeepAll, Count, SelectorState, Verdict, Pass, PassLast, Skip, Refuse, judge, decide}
+use Rattle.cap_process.proofs.Common.{unless_refused, apply_verdict, end_input, form_refuses}
 
-pub progress-append : (a : Policy) (f : Form) (w : JobProgress) (xs ys : List Event) → apply_events a f w (xs ++ ys) ≡ apply_events a f (apply_events a f w xs) ys
+pub progress-append : (a : Policy) (f : Form) (w : JobProgress) (xs ys : List Event) → apply_events a f w (xs ++ ys) ≡ apply_events a f
+    (apply_events a f w xs) ys
 progress-append a f w [] ys = refl
 progress-append a f w (x ∷ xs) ys = progress-append a f (next_progress a f w x) xs ys
 
 -- what ended stays
 pub progress-ended : (a : Policy) (f : Form) (w : JobProgress) (es : List Event) (c : SequenceEnd) → w.end ≡ Some c → apply_events a f w es ≡ w
 progress-ended a f w [] c is = refl
-progress-ended a f w (e ∷ es) c is = ap (λ (o : Option SequenceEnd). apply_events a f (unless_ended o w (apply_event a f w e)) es) is ∙ progress-ended a f w es c is
+progress-ended a f w (e ∷ es) c is = ap (λ (o : Option SequenceEnd). apply_events a f (unless_ended o w (apply_event a f w e)) es) is
+    ∙ progress-ended a f w es c is
 
 -- the job ends at this event
-pub course-stop : (a : Policy) (f : Form) (sequence more : Sequence) (es : List Event) (e : Event) (w w' : JobProgress) (c : SequenceEnd) → sequence ≡ with_front es (with_front (e ∷ []) more) → apply_events a f no_progress es ≡ w → next_progress a f w e ≡ w' → w'.end ≡ Some c
+pub course-stop : (a : Policy) (f : Form) (sequence more : Sequence) (es : List Event) (e : Event) (w w' : JobProgress) (c : SequenceEnd)
+    → sequence ≡ with_front es (with_front (e ∷ []) more) → apply_events a f no_progress es ≡ w → next_progress a f w e ≡ w' → w'.end ≡ Some c
     → final_progress a f sequence ≡ w'
 course-stop a f sequence more es e w w' c is far step end =
     ap (final_progress a f) is
     ∙ ap (λ (v : JobProgress). end_unless_ended v more.end)
-    (progress-append a f no_progress es (e ∷ more.events) ∙ ap (λ (v : JobProgress). apply_events a f (next_progress a f v e) more.events) far ∙ ap (λ (v : JobProgress). apply_events a f v more.events) step ∙ progress-ended a f w' more.events c end)
+    (progress-append a f no_progress es (e ∷ more.events) ∙ ap (λ (v : JobProgress). apply_events a f (next_progress a f v e) more.events) far
+    ∙ ap (λ (v : JobProgress). apply_events a f v more.events) step ∙ progress-ended a f w' more.events c end)
     ∙ ap (λ (o : Option SequenceEnd). unless_ended o w' (end_with w' more.end)) end
 
 -- nothing more comes
-pub course-close : (a : Policy) (f : Form) (sequence : Sequence) (es : List Event) (w : JobProgress) (c : SequenceEnd) → sequence ≡ with_front es (record { events = []; end = c }) → apply_events a f no_progress es ≡ w → w.end ≡ None
+pub course-close : (a : Policy) (f : Form) (sequence : Sequence) (es : List Event) (w : JobProgress) (c : SequenceEnd) → sequence ≡ with_front es
+    (record { events = []; end = c }) → apply_events a f no_progress es ≡ w → w.end ≡ None
     → final_progress a f sequence ≡ end_with w c
 course-close a f sequence es w c is far end =
     ap (final_progress a f) is
@@ -28,7 +37,8 @@ course-close a f sequence es w c is far end =
     ∙ ap (λ (o : Option SequenceEnd). unless_ended o w (end_with w c)) end
 
 -- one event more
-pub progress-next : (a : Policy) (f : Form) (es : List Event) (e : Event) (w w' : JobProgress) → apply_events a f no_progress es ≡ w → next_progress a f w e ≡ w' → apply_events a f no_progress (es ++ e ∷ []) ≡ w'
+pub progress-next : (a : Policy) (f : Form) (es : List Event) (e : Event) (w w' : JobProgress) → apply_events a f no_progress es ≡ w
+    → next_progress a f w e ≡ w' → apply_events a f no_progress (es ++ e ∷ []) ≡ w'
 progress-next a f es e w w' far step = progress-append a f no_progress es (e ∷ []) ∙ ap (λ (v : JobProgress). next_progress a f v e) far ∙ step
 
 pub record Grows (w w' : JobProgress) : Type 0 where
@@ -40,7 +50,8 @@ pub record Grows (w w' : JobProgress) : Type 0 where
 grows-none : (w w' : JobProgress) → w'.packets ≡ w.packets → w'.reports ≡ w.reports → Grows w w'
 grows-none w w' ps rs = record { packets = []; packets_is = ps ∙ sym (append-nil w.packets); reports = []; reports_is = rs ∙ sym (append-nil w.reports) }
 
-refused-grows : (r : Option Fault) (w : JobProgress) (i : ℕ) (x : Placed) (state : SelectorState) (q : Captured) (o : Option SequenceEnd) → Grows w (unless_refused r w i x (decide w state (q ∷ []) o))
+refused-grows : (r : Option Fault) (w : JobProgress) (i : ℕ) (x : Placed) (state : SelectorState) (q : Captured) (o : Option SequenceEnd)
+    → Grows w (unless_refused r w i x (decide w state (q ∷ []) o))
 refused-grows None w i x state q o = record { packets = q ∷ []; packets_is = refl; reports = []; reports_is = sym (append-nil w.reports) }
 refused-grows (Some fault) w i x state q o = grows-none w (unless_refused (Some fault) w i x (decide w state (q ∷ []) o)) refl refl
 
@@ -52,11 +63,18 @@ verdict-grows form w i x (Refuse fault) state = grows-none w (apply_verdict form
 
 closed-grows : (policy : Policy) (w : JobProgress) (i : ℕ) (kind : Option Kind) (size : ℕ) → Grows w (end_input policy w i kind size)
 closed-grows Count w i kind size =
-    record { packets = []; packets_is = sym (append-nil w.packets); reports = record { input = i; kind = kind; size = size; tally = w.state.tally } ∷ []; reports_is = refl }
+    record {
+      packets = [];
+      packets_is = sym (append-nil w.packets);
+      reports = record { input = i; kind = kind; size = size; tally = w.state.tally } ∷
+          [];
+      reports_is = refl;
+    }
 closed-grows _ w i kind size = grows-none w w refl refl
 
 goes-grows : (policy : Policy) (form : Form) (w : JobProgress) (e : Event) → Grows w (apply_event policy form w e)
-goes-grows policy form w (Packet i x) = verdict-grows form w i x (judge policy w.state (w.decided + 1) x.packet).verdict (judge policy w.state (w.decided + 1) x.packet).state
+goes-grows policy form w (Packet i x) = verdict-grows form w i x (judge policy w.state (w.decided + 1) x.packet).verdict
+    (judge policy w.state (w.decided + 1) x.packet).state
 goes-grows policy form w (InputEnd i kind size) = closed-grows policy w i kind size
 
 unless-grows : (o : Option SequenceEnd) (w next : JobProgress) → Grows w next → Grows w (unless_ended o w next)
@@ -74,14 +92,18 @@ grows-on a b c one other = record {
 progress-grows : (policy : Policy) (form : Form) (w : JobProgress) (es : List Event) → Grows w (apply_events policy form w es)
 progress-grows policy form w [] = grows-none w w refl refl
 progress-grows policy form w (e ∷ es) =
-    grows-on w (next_progress policy form w e) (apply_events policy form (next_progress policy form w e) es) (unless-grows w.end w (apply_event policy form w e) (goes-grows policy form w e)) (progress-grows policy form (next_progress policy form w e) es)
+    grows-on w (next_progress policy form w e) (apply_events policy form (next_progress policy form w e) es)
+    (unless-grows w.end w (apply_event policy form w e) (goes-grows policy form w e)) (progress-grows policy form (next_progress policy form w e) es)
 
 -- how far a job comes after events that come first
-pub course-grows : (policy : Policy) (form : Form) (sequence more : Sequence) (es : List Event) (w : JobProgress) → sequence ≡ with_front es more → apply_events policy form no_progress es ≡ w → Grows w (final_progress policy form sequence)
+pub course-grows : (policy : Policy) (form : Form) (sequence more : Sequence) (es : List Event) (w : JobProgress) → sequence ≡ with_front es more
+    → apply_events policy form no_progress es ≡ w → Grows w (final_progress policy form sequence)
 course-grows policy form sequence more es w is far =
     let last : JobProgress = apply_events policy form w more.events in
     let all : final_progress policy form sequence ≡ end_unless_ended last more.end =
     ap (final_progress policy form) is
-    ∙ ap (λ (v : JobProgress). end_unless_ended v more.end) (progress-append policy form no_progress es more.events ∙ ap (λ (v : JobProgress). apply_events policy form v more.events) far) in
+    ∙ ap (λ (v : JobProgress). end_unless_ended v more.end) (progress-append policy form no_progress es more.events
+    ∙ ap (λ (v : JobProgress). apply_events policy form v more.events) far) in
     let G : JobProgress → Type 0 = λ v. Grows w v in
-    subst G (sym all) (grows-on w last (end_unless_ended last more.end) (progress-grows policy form w more.events) (unless-grows last.end last (end_with last more.end) (grows-none last (end_with last more.end) refl refl)))
+    subst G (sym all) (grows-on w last (end_unless_ended last more.end) (progress-grows policy form w more.events)
+    (unless-grows last.end last (end_with last more.end) (grows-none last (end_with last more.end) refl refl)))

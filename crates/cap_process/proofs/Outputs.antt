@@ -1,5 +1,9 @@
 -- Where a job writes, from one call to the next.
-use Rattle.cap_process.proofs.Common.{◌≡◌, inl, inr, ℕ, ◌+◌, Bool, List, [], ◌∷◌, ◌++◌, length, Option, None, Some, Ok, Err, refl, sym, ◌∙◌, ap, add-zero, true, append_assoc, append-nil, Stops, Captured, Fault, NoMemory, WriteFailed, Format, Options, takes_memory, added_text, refusal_of, Report, Complete, SelectorState, Form, AsCapture, AsReports, AsLines, closing_text, lines_text, final_text, form_refuses, output_text, Target, Capture, Text, Lines, HasWrittenTo, form_to, written_to, failures_to, report_text, reports_text}
+use Rattle.cap_process.proofs.Common.{◌≡◌, inl, inr, ℕ, ◌+◌, Bool, List, [], ◌∷◌, ◌++◌, length, Option, None, Some, Ok, Err, refl, sym, ◌∙◌, ap, add-zero, true}
+use Rattle.cap_process.proofs.Common.{append_assoc, append-nil, Stops, Captured, Fault, NoMemory, WriteFailed, Format, Options, takes_memory, added_text}
+use Rattle.cap_process.proofs.Common.{refusal_of, Report, Complete, SelectorState, Form, AsCapture, AsReports, AsLines, closing_text, lines_text, final_text}
+use Rattle.cap_process.proofs.Common.{form_refuses, output_text, Target, Capture, Text, Lines, HasWrittenTo, form_to, written_to, failures_to, report_text}
+use Rattle.cap_process.proofs.Common.{reports_text}
 use Rattle.std.proofs.lemmas.Grind.{flat_map-append}
 use Rattle.cap_print.specs.Rendering.{printed_text}
 use Rattle.cap_io.specs.Sink as sinks
@@ -33,7 +37,8 @@ pub record PutOk (before : List ℕ) (ps : List Captured) (rs : List Report) (q 
   pub form : form_to names new ≡ form_to names old
   pub failures : failures_to new ≡ failures_to old
 
-pub put-ok : (before : List ℕ) (ps : List Captured) (rs : List Report) (q : Captured) (names : List (List ℕ)) (old new : Target) → HasWrittenTo before names old ps rs
+pub put-ok : (before : List ℕ) (ps : List Captured) (rs : List Report) (q : Captured) (names : List (List ℕ)) (old new : Target)
+    → HasWrittenTo before names old ps rs
     → PutsIntoOutput q old (Ok tt) new → PutOk before ps rs q names old new
 put-ok before ps rs q names (Capture sink) new has puts =
     let next = put-next ps sink q (Ok tt) puts.sink has.put puts.puts in
@@ -59,18 +64,22 @@ put-ok before ps rs q names (Lines options bytes failures room) new has puts =
 
 -- ---- it is not put
 
-refusal-is : (refusal : Option Fault) (takes : Bool) (fault : Fault) → IsPutAnswer refusal takes (Err fault) → (fault ≡ WriteFailed → ⊥) → (fault ≡ NoMemory → ⊥) → refusal ≡ Some fault
+refusal-is : (refusal : Option Fault) (takes : Bool) (fault : Fault) → IsPutAnswer refusal takes (Err fault) → (fault ≡ WriteFailed → ⊥)
+    → (fault ≡ NoMemory → ⊥) → refusal ≡ Some fault
 refusal-is None takes fault answer output_text memory = elim answer [ inl e ↦ absurd (output_text e) | inr e ↦ absurd (memory e.0) ]
 refusal-is (Some refusal) takes fault answer output_text memory = ap Some (sym answer)
 
-stays-written : (refusal : Option Fault) (fault : Fault) (bytes output_text output_text' : List ℕ) → refusal ≡ Some fault → WritesPacket refusal bytes output_text (Err fault) output_text' → output_text' ≡ output_text
+stays-written : (refusal : Option Fault) (fault : Fault) (bytes output_text output_text' : List ℕ) → refusal ≡ Some fault → WritesPacket refusal bytes
+    output_text (Err fault) output_text' → output_text' ≡ output_text
 stays-written None fault bytes output_text output_text' is writes = (cc)
 stays-written (Some refusal) fault bytes output_text output_text' is writes = writes
 
-not-refused : (format : Format) (ps : List Captured) (p : Captured) (fault : Fault) → (refusal_of format ps p ≡ Some fault → ⊥) → IsPutAnswer (refusal_of format ps p) (takes_memory format ps p) (Err fault) → refusal_of format ps p ≡ None
+not-refused : (format : Format) (ps : List Captured) (p : Captured) (fault : Fault) → (refusal_of format ps p ≡ Some fault → ⊥)
+    → IsPutAnswer (refusal_of format ps p) (takes_memory format ps p) (Err fault) → refusal_of format ps p ≡ None
 not-refused format ps p fault none answer = by_refusal (refusal_of format ps p) refl answer
   where
-    by_refusal : (refusal : Option Fault) → refusal_of format ps p ≡ refusal → IsPutAnswer refusal (takes_memory format ps p) (Err fault) → refusal_of format ps p ≡ None
+    by_refusal : (refusal : Option Fault) → refusal_of format ps p ≡ refusal → IsPutAnswer refusal (takes_memory format ps p) (Err fault)
+        → refusal_of format ps p ≡ None
     by_refusal None is answer = is
     by_refusal (Some refusal) is answer = absurd (none (is ∙ ap Some (sym answer)))
 
@@ -79,19 +88,23 @@ memory-taken : (refusal : Option Fault) (takes : Bool) → refusal ≡ None → 
 memory-taken None takes is answer = elim answer [ inl failed ↦ (cc) | inr memory ↦ memory.1 ]
 memory-taken (Some refusal) takes is answer = (cc)
 
-stopped-within : (refusal : Option Fault) (bytes output_text output_text' : List ℕ) → refusal ≡ None → WritesPacket refusal bytes output_text (Err WriteFailed) output_text' → Stops output_text bytes output_text'
+stopped-within : (refusal : Option Fault) (bytes output_text output_text' : List ℕ) → refusal ≡ None → WritesPacket refusal bytes output_text
+    (Err WriteFailed) output_text' → Stops output_text bytes output_text'
 stopped-within None bytes output_text output_text' is writes = writes
 stopped-within (Some fault) bytes output_text output_text' is writes = (cc)
 
-stayed-written : (refusal : Option Fault) (bytes output_text output_text' : List ℕ) → refusal ≡ None → WritesPacket refusal bytes output_text (Err NoMemory) output_text' → output_text' ≡ output_text
+stayed-written : (refusal : Option Fault) (bytes output_text output_text' : List ℕ) → refusal ≡ None → WritesPacket refusal bytes output_text
+    (Err NoMemory) output_text' → output_text' ≡ output_text
 stayed-written None bytes output_text output_text' is writes = writes
 stayed-written (Some fault) bytes output_text output_text' is writes = writes
 
 -- why a packet that passes isn't put into a capture: the format refuses it; there was no memory; or
 -- the device failed
 abbrev pub WhyUnput : Fault → SinkView → List Captured → Captured → SinkView → Type 0
-WhyUnput WriteFailed old ps q new = (refusal_of old.format ps q ≡ None) × (new.failures ≡ old.failures + 1) × Stops old.written (added_text old.format ps q) new.written
-WhyUnput NoMemory old ps q new = (refusal_of old.format ps q ≡ None) × (takes_memory old.format ps q ≡ true) × (new.written ≡ old.written) × (new.failures ≡ old.failures)
+WhyUnput WriteFailed old ps q new = (refusal_of old.format ps q ≡ None) × (new.failures ≡ old.failures + 1)
+    × Stops old.written (added_text old.format ps q) new.written
+WhyUnput NoMemory old ps q new = (refusal_of old.format ps q ≡ None) × (takes_memory old.format ps q ≡ true) × (new.written ≡ old.written)
+    × (new.failures ≡ old.failures)
 WhyUnput fault old ps q new = (refusal_of old.format ps q ≡ Some fault) × (new.written ≡ old.written) × (new.failures ≡ old.failures)
 
 pub unput : (before : List ℕ) (ps : List Captured) (q : Captured) (old new : SinkView) (fault : Fault) → HasPackets before old ps
@@ -106,14 +119,23 @@ unput before ps q old new NoMemory has puts writes =
     let next = put-next ps old q (Err NoMemory) new has.put puts in
     let answer = put-answer ps old q (Err NoMemory) new has.put next in
     let bytes = put-writes ps old q (Err NoMemory) new has.put writes in
-    let none = not-refused old.format ps q NoMemory (refused-no_memory old.format ps q) answer in
-    (none, memory-taken (refusal_of old.format ps q) (takes_memory old.format ps q) none answer, stayed-written (refusal_of old.format ps q) (added_text old.format ps q) old.written new.written none bytes, next.adds.failures ∙ add-zero old.failures)
+    let none = not-refused old.format ps q NoMemory (refused-no_memory old.format ps q) answer in (
+      none,
+      memory-taken (refusal_of old.format ps q) (takes_memory old.format ps q) none answer,
+      stayed-written (refusal_of old.format ps q)
+          (added_text old.format ps q) old.written new.written none bytes,
+      next.adds.failures ∙ add-zero old.failures,
+    )
 unput before ps q old new fault has puts writes =
     let next = put-next ps old q (Err fault) new has.put puts in
     let answer = put-answer ps old q (Err fault) new has.put next in
     let bytes = put-writes ps old q (Err fault) new has.put writes in
-    let is = refusal-is (refusal_of old.format ps q) (takes_memory old.format ps q) fault answer (λ same. (cc)) (λ same. (cc)) in
-    (is, stays-written (refusal_of old.format ps q) fault (added_text old.format ps q) old.written new.written is bytes, next.adds.failures ∙ add-zero old.failures)
+    let is = refusal-is (refusal_of old.format ps q) (takes_memory old.format ps q) fault answer (λ same. (cc)) (λ same. (cc)) in (
+      is,
+      stays-written (refusal_of old.format ps q) fault (added_text old.format ps q) old.written new.written is bytes,
+      next.adds.failures
+          ∙ add-zero old.failures,
+    )
 
 -- ---- the clean end
 
@@ -122,12 +144,14 @@ pub closing-none : (form : Form) (link : Option ℕ) (ps : List Captured) → (0
 closing-none (AsCapture format) link [] some = absurd (some refl)
 closing-none _ link _ some = refl
 
-pub closing-some : (before : List ℕ) (names : List (List ℕ)) (form : Form) (t : Target) (link : Option ℕ) (ps : List Captured) (rs : List Report) (n : ℕ) (state : SelectorState) → HasWrittenTo before names t ps rs → form_to names t ≡ form → (0 ≡ length ps → ⊥)
+pub closing-some : (before : List ℕ) (names : List (List ℕ)) (form : Form) (t : Target) (link : Option ℕ) (ps : List Captured) (rs : List Report)
+    (n : ℕ) (state : SelectorState) → HasWrittenTo before names t ps rs → form_to names t ≡ form → (0 ≡ length ps → ⊥)
     → written_to t ≡ before ++ final_text form link (record { decided = n; state = state; packets = ps; reports = rs; end = Some Complete })
 closing-some before names form t link ps rs n state has same some =
     drained-text before names t ps rs has
     ∙ ap (λ (f : Form). before ++ output_text f ps rs) same
-    ∙ ap (λ (l : List ℕ). before ++ l) (sym (append-nil (output_text form ps rs)) ∙ ap (λ (l : List ℕ). output_text form ps rs ++ l) (sym (closing-none form link ps some)))
+    ∙ ap (λ (l : List ℕ). before ++ l) (sym (append-nil (output_text form ps rs)) ∙ ap (λ (l : List ℕ). output_text form ps rs ++ l)
+    (sym (closing-none form link ps some)))
 
 -- ---- a report
 
@@ -149,7 +173,8 @@ pub record ReportOk (before : List ℕ) (ps : List Captured) (rs : List Report) 
   pub form : form_to names new ≡ form_to names old
   pub failures : failures_to new ≡ failures_to old
 
-pub report-ok : (before : List ℕ) (ps : List Captured) (rs : List Report) (report : Report) (names : List (List ℕ)) (old new : Target) → HasWrittenTo before names old ps rs
+pub report-ok : (before : List ℕ) (ps : List Captured) (rs : List Report) (report : Report) (names : List (List ℕ)) (old new : Target)
+    → HasWrittenTo before names old ps rs
     → Reports (report_text names report) old (Ok tt) new → ReportOk before ps rs report names old new
 report-ok before ps rs report names (Text bytes failures room) new has puts =
     rw puts.is (record {

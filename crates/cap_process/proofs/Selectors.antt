@@ -1,5 +1,10 @@
 -- What a selector returns.
-use Rattle.cap_process.proofs.Common.{◌≡◌, ℕ, ◌+◌, ◌^◌, ◌<◌, ◌≤◌, nat_le, Bool, true, false, length, if◌then◌else◌, List, Option, None, Some, Ok, refl, sym, ◌∙◌, ap, arith, nat_tests, Captured, TooManyPackets, WindowView, Mark, Policy, Edit, Filter, KeepAll, Count, SelectorState, Judgement, Pass, PassLast, Skip, is_too_many, judge, judge_by, refuses, is_last, Tally, tally_with, is_count, spent_by, spent_by_verdict, marks_in, places, state_of, PolicyState, IsWindowFor, ReturnsVerdict, count_limit, TakesTally, verdict_if, verdict_of, IsVerdict, ◌↔◌, ◌-◌, not, IsTrue, [], ◌∷◌, ◌++◌, Contains, has_same, last, mark_of, window, unique, skip_judgement, passes}
+use Rattle.cap_process.proofs.Common.{◌≡◌, ℕ, ◌+◌, ◌^◌, ◌<◌, ◌≤◌, nat_le, Bool, true, false, length, if◌then◌else◌, List, Option, None, Some, Ok, refl, sym}
+use Rattle.cap_process.proofs.Common.{◌∙◌, ap, arith, nat_tests, Captured, TooManyPackets, WindowView, Mark, Policy, Edit, Filter, KeepAll, Count}
+use Rattle.cap_process.proofs.Common.{SelectorState, Judgement, Pass, PassLast, Skip, is_too_many, judge, judge_by, refuses, is_last, Tally, tally_with}
+use Rattle.cap_process.proofs.Common.{is_count, spent_by, spent_by_verdict, marks_in, places, state_of, PolicyState, IsWindowFor, ReturnsVerdict, count_limit}
+use Rattle.cap_process.proofs.Common.{TakesTally, verdict_if, verdict_of, IsVerdict, ◌↔◌, ◌-◌, not, IsTrue, [], ◌∷◌, ◌++◌, Contains, has_same, last, mark_of}
+use Rattle.cap_process.proofs.Common.{window, unique, skip_judgement, passes}
 use Rattle.cap_process.proofs.Marks.{answers-has_same}
 use Rattle.flt_bpf.specs.Content.{Content}
 use Rattle.cap_process.specs.declared.selector.Verdict as code
@@ -15,27 +20,37 @@ too-great policy number judges h = let e : nat_le (2 ^ 63) number ≡ true = gri
 not-too-great : (policy : Policy) (number : ℕ) → is_count policy ≡ false → number < 2 ^ 63 → is_too_many policy number ≡ false
 not-too-great policy number judges h = let e : nat_le (2 ^ 63) number ≡ false = grind (arith, nat_tests, h) in numbered policy number judges ∙ e
 
-pub too-many : (policy : Policy) (state : SelectorState) (number : ℕ) (p : Captured) → is_count policy ≡ false → 2 ^ 63 ≤ number → judge policy state number p ≡ refuses state TooManyPackets
-too-many policy state number p judges h = ap (λ (b : Bool). if b then refuses state TooManyPackets else judge_by policy state number p) (too-great policy number judges h)
+pub too-many : (policy : Policy) (state : SelectorState) (number : ℕ) (p : Captured) → is_count policy ≡ false → 2 ^ 63 ≤ number
+    → judge policy state number p ≡ refuses state TooManyPackets
+too-many policy state number p judges h = ap (λ (b : Bool). if b then refuses state TooManyPackets else judge_by policy state number p)
+    (too-great policy number judges h)
 
-pub upper_bound : (policy : Policy) (state : SelectorState) (number : ℕ) (p : Captured) → is_count policy ≡ false → number < 2 ^ 63 → judge policy state number p ≡ judge_by policy state number p
-upper_bound policy state number p judges h = ap (λ (b : Bool). if b then refuses state TooManyPackets else judge_by policy state number p) (not-too-great policy number judges h)
+pub upper_bound : (policy : Policy) (state : SelectorState) (number : ℕ) (p : Captured) → is_count policy ≡ false → number < 2 ^ 63
+    → judge policy state number p ≡ judge_by policy state number p
+upper_bound policy state number p judges h = ap (λ (b : Bool). if b then refuses state TooManyPackets else judge_by policy state number p)
+    (not-too-great policy number judges h)
 
 -- ---- what judging costs
 
-pub counted-spends : (policy : Policy) (number : ℕ) (p : Captured) (programs : List Content) → is_count policy ≡ true → programs ≡ spent_by_verdict policy number p programs
+pub counted-spends : (policy : Policy) (number : ℕ) (p : Captured) (programs : List Content) → is_count policy ≡ true → programs ≡ spent_by_verdict
+    policy number p programs
 counted-spends Count number p programs is = refl
 counted-spends _ number p programs is = (cc)
 
-pub refused-spends : (policy : Policy) (number : ℕ) (p : Captured) (programs : List Content) → is_count policy ≡ false → 2 ^ 63 ≤ number → programs ≡ spent_by_verdict policy number p programs
-refused-spends policy number p programs judges h = ap (λ (b : Bool). if b then programs else spent_by policy p programs) (sym (too-great policy number judges h))
+pub refused-spends : (policy : Policy) (number : ℕ) (p : Captured) (programs : List Content) → is_count policy ≡ false → 2 ^ 63 ≤ number
+    → programs ≡ spent_by_verdict policy number p programs
+refused-spends policy number p programs judges h = ap (λ (b : Bool). if b then programs else spent_by policy p programs)
+    (sym (too-great policy number judges h))
 
-pub judged-spends : (policy : Policy) (number : ℕ) (p : Captured) (programs : List Content) → is_count policy ≡ false → number < 2 ^ 63 → spent_by policy p programs ≡ spent_by_verdict policy number p programs
-judged-spends policy number p programs judges h = ap (λ (b : Bool). if b then programs else spent_by policy p programs) (sym (not-too-great policy number judges h))
+pub judged-spends : (policy : Policy) (number : ℕ) (p : Captured) (programs : List Content) → is_count policy ≡ false → number < 2 ^ 63
+    → spent_by policy p programs ≡ spent_by_verdict policy number p programs
+judged-spends policy number p programs judges h = ap (λ (b : Bool). if b then programs else spent_by policy p programs)
+    (sym (not-too-great policy number judges h))
 
 -- ---- what is returned
 
-pub tells-none : (count : Option ℕ) (j : Judgement) (state : SelectorState) (p : Captured) (v : code.Verdict) → ReturnsVerdict count j (Ok false) p state → verdict_of v p ≡ Skip → IsVerdict j (Ok v) p state
+pub tells-none : (count : Option ℕ) (j : Judgement) (state : SelectorState) (p : Captured) (v : code.Verdict) → ReturnsVerdict count j (Ok false) p
+    state → verdict_of v p ≡ Skip → IsVerdict j (Ok v) p state
 tells-none count j state p v keeps is = (is ∙ sym keeps.0, sym keeps.1)
 
 passing-as : (p : Captured) (b : Bool) → verdict_if p b ≡ (if b then PassLast p else Pass p)
@@ -47,8 +62,10 @@ pub tells-some : (count : Option ℕ) (j : Judgement) (state : SelectorState) (p
 tells-some count j state p v keeps is =
     (is ∙ passing-as p (is_last count (state.passed + 1)) ∙ sym (ap (λ (x : Judgement). x.verdict) keeps), sym (ap (λ (x : Judgement). x.state) keeps))
 
-pub tells-passed : (policy policy' : Policy) (state after : SelectorState) (number : ℕ) (p q : Captured) (v : code.Verdict) → is_count policy ≡ false → number < 2 ^ 63
-    → ReturnsVerdict (count_limit policy) (judge_by policy state number p) (Ok true) q after → policy' ≡ policy → verdict_of v q ≡ verdict_if q (is_last (count_limit policy') (after.passed + 1))
+pub tells-passed : (policy policy' : Policy) (state after : SelectorState) (number : ℕ) (p q : Captured) (v : code.Verdict) → is_count policy ≡ false
+    → number < 2 ^ 63
+    → ReturnsVerdict (count_limit policy) (judge_by policy state number p) (Ok true) q after → policy' ≡ policy → verdict_of v q ≡ verdict_if q
+    (is_last (count_limit policy') (after.passed + 1))
     → IsVerdict (judge policy state number p) (Ok v) q (state_of (after.passed + 1) after.window after.tally)
 tells-passed policy policy' state after number p q v judges less keeps same is =
     rw (upper_bound policy state number p judges less) (tells-some (count_limit policy) (judge_by policy state number p) after q v keeps
@@ -63,7 +80,8 @@ window-few _ _ is = absurd is
 
 -- ---- packets are counted
 
-pub tells-count : (policy : Policy) (passed : ℕ) (marks : List Mark) (tally tally' : Tally) (number : ℕ) (p : Captured) (v : code.Verdict) → is_count policy ≡ true → verdict_of v p ≡ Skip → tally' ≡ tally_with tally p
+pub tells-count : (policy : Policy) (passed : ℕ) (marks : List Mark) (tally tally' : Tally) (number : ℕ) (p : Captured) (v : code.Verdict)
+    → is_count policy ≡ true → verdict_of v p ≡ Skip → tally' ≡ tally_with tally p
     → IsVerdict (judge policy (state_of passed marks tally) number p) (Ok v) p (state_of passed marks tally')
 tells-count Count passed marks tally tally' number p v is skips more = (skips, ap (state_of passed marks) more)
 tells-count _ passed marks tally tally' number p v is skips more = (cc)
@@ -74,17 +92,21 @@ pub closes-policy : (b : Bool) (old new : PolicyState) (r : Option Tally) → Ta
 closes-policy false old new r c = ap (λ (v : PolicyState). v.policy) c.1
 closes-policy true old new r c = ap (λ (v : PolicyState). v.policy) c.1
 
-pub unique-seen : (n : Option ℕ) (w new : WindowView) (passed : ℕ) (tally : Tally) (p : Captured) (seen : Bool) → IsWindowFor n (Some w) → IsTrue seen ↔ Contains w.marks (mark_of p.bytes)
+pub unique-seen : (n : Option ℕ) (w new : WindowView) (passed : ℕ) (tally : Tally) (p : Captured) (seen : Bool) → IsWindowFor n (Some w)
+    → IsTrue seen ↔ Contains w.marks (mark_of p.bytes)
     → new ≡ window (last w.capacity (w.marks ++ mark_of p.bytes ∷ [])) w.capacity
-    → unique n (state_of passed w.marks tally) p ≡ (if seen then skip_judgement (state_of passed new.marks tally) else passes (state_of passed new.marks tally) p)
+    → unique n (state_of passed w.marks tally) p ≡ (if seen then skip_judgement (state_of passed new.marks tally) else passes
+    (state_of passed new.marks tally) p)
 unique-seen None w new passed tally p seen is answers new_is = absurd is
 unique-seen (Some n) w new passed tally p seen is answers new_is =
     let same : seen ≡ has_same w.marks (mark_of p.bytes) = answers-has_same w.marks (mark_of p.bytes) seen answers in
-    let marks : new.marks ≡ last (n - 1) (w.marks ++ mark_of p.bytes ∷ []) = ap (λ (v : WindowView). v.marks) new_is ∙ ap (λ (k : ℕ). last k (w.marks ++ mark_of p.bytes ∷ [])) is.0 in
+    let marks : new.marks ≡ last (n - 1) (w.marks ++ mark_of p.bytes ∷ []) = ap (λ (v : WindowView). v.marks) new_is
+    ∙ ap (λ (k : ℕ). last k (w.marks ++ mark_of p.bytes ∷ [])) is.0 in
     rw (marks, same) refl
 
 -- a packet that was not seen is kept
-pub unique-keeps : (n : Option ℕ) (w new : WindowView) (passed : ℕ) (tally : Tally) (p : Captured) (seen : Bool) → IsWindowFor n (Some w) → IsTrue seen ↔ Contains w.marks (mark_of p.bytes)
+pub unique-keeps : (n : Option ℕ) (w new : WindowView) (passed : ℕ) (tally : Tally) (p : Captured) (seen : Bool) → IsWindowFor n (Some w)
+    → IsTrue seen ↔ Contains w.marks (mark_of p.bytes)
     → new ≡ window (last w.capacity (w.marks ++ mark_of p.bytes ∷ [])) w.capacity
     → ReturnsVerdict None (unique n (state_of passed w.marks tally) p) (Ok (not seen)) p (state_of passed new.marks tally)
 unique-keeps n w new passed tally p true is answers new_is =

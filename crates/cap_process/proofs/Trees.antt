@@ -1,5 +1,8 @@
 -- The ways of searches, as marks and links change.
-use Rattle.cap_process.proofs.Common.{◌≡◌, ◌≢◌, ℕ, zero, suc, ◌+◌, ◌-◌, ◌^◌, ◌<◌, ◌≤◌, ◌⊎◌, inl, inr, Bool, true, false, not, List, [], ◌∷◌, ◌++◌, length, refl, sym, ap, ◌∙◌, arith, min, set, cases_order, get_or_append_left, length-append, get_or-set_other, get_or-set_same, IsWay, Ends, Goes, Agrees, Lacks, IsHung, IsOnTop, IsPutOnTop, IsSameOutside, mark_bit, link_by_bit, links_at, mark_at, Links, Mark}
+use Rattle.cap_process.proofs.Common.{◌≡◌, ◌≢◌, ℕ, zero, suc, ◌+◌, ◌-◌, ◌^◌, ◌<◌, ◌≤◌, ◌⊎◌, inl, inr, Bool, true, false, not, List, [], ◌∷◌, ◌++◌, length, refl}
+use Rattle.cap_process.proofs.Common.{sym, ap, ◌∙◌, arith, min, set, cases_order, get_or_append_left, length-append, get_or-set_other, get_or-set_same, IsWay}
+use Rattle.cap_process.proofs.Common.{Ends, Goes, Agrees, Lacks, IsHung, IsOnTop, IsPutOnTop, IsSameOutside, mark_bit, link_by_bit, links_at, mark_at, Links}
+use Rattle.cap_process.proofs.Common.{Mark}
 
 below_or : (a b : ℕ) → (a < b) ⊎ (b ≤ a)
 below_or a b = elim (cases_order a b) [ inl e ↦ inr (omega arith) | inr (inl lt) ↦ inl lt | inr (inr gt) ↦ inr (omega arith) ]
@@ -49,7 +52,8 @@ pub record HasTop (mask : ℕ) (ms : List Mark) (ls : List Links) (e : Mark) (de
   pub none : Lacks ms e limit → Lacks ms e (top + 1)
   pub below : IsWay mask ms ls e (depth + 1) top (link_by_bit (links_at ls top) (mark_bit e depth))
 
-pub top_of : {mask : ℕ} {ms : List Mark} {ls : List Links} {e : Mark} {depth limit d : ℕ} → IsWay mask ms ls e depth limit d → d ≤ limit → HasTop mask ms ls e depth limit (limit - d)
+pub top_of : {mask : ℕ} {ms : List Mark} {ls : List Links} {e : Mark} {depth limit d : ℕ} → IsWay mask ms ls e depth limit d → d ≤ limit
+    → HasTop mask ms ls e depth limit (limit - d)
 top_of (Ends past none) within = absurd (omega arith)
 top_of (Goes within step agrees none below) _ = record { agrees = agrees; none = none; below = below }
 
@@ -121,7 +125,8 @@ set_same ls place l within = get_or-set_same ls place l (record { zeros = 0; one
 pub step_at : {mask : ℕ} {ms : List Mark} {start now : List Links} {newest depth place d : ℕ} → IsPlacing mask ms start now newest depth place d → 1 ≤ d
 step_at {ms = ms} {place = place} p = least (p.tree (mark_at ms place) (agrees_itself (mark_at ms place)))
 
-module _ {mask : ℕ} {ms : List Mark} {start now : List Links} {newest depth place d : ℕ} (p : IsPlacing mask ms start now newest depth place d) (l : Links) where
+module _ {mask : ℕ} {ms : List Mark} {start now : List Links} {newest depth place d : ℕ} (p : IsPlacing mask ms start now newest depth place d)
+    (l : Links) where
   outside_set : IsSameOutside mask ms now (set now place l) depth place
   outside_set j never = set_other now place j l (λ e. never (omega arith) (rw e (agrees_itself (mark_at ms place))))
 
@@ -129,7 +134,8 @@ module _ {mask : ℕ} {ms : List Mark} {start now : List Links} {newest depth pl
   pub placing_end : place < d → place < length now → l.zeros ≡ d → l.ones ≡ d → IsPutOnTop mask ms start (set now place l) newest
   placing_end past within zeros ones =
       p.finish (set now place l) outside_set
-      (λ e agrees. Ends (rw (set_same now place l within) (elim (mark_bit e depth) as (λ bit. place < link_by_bit l bit) [ true ↦ omega arith | false ↦ omega arith ])) (ended (p.tree e agrees) past))
+      (λ e agrees. Ends (rw (set_same now place l within) (elim (mark_bit e depth) as (λ bit. place < link_by_bit l bit)
+      [ true ↦ omega arith | false ↦ omega arith ])) (ended (p.tree e agrees) past))
 
   -- the tree of one bit below the top becomes one below the mark that takes its place, if the top is none of it
   moved : {e : Mark} (done : List Links) (d' : ℕ) → HasTop mask ms now e depth place (place - d) → d ≤ place → place + 1 < 2 ^ 32
@@ -138,11 +144,13 @@ module _ {mask : ℕ} {ms : List Mark} {start now : List Links} {newest depth pl
       → d' ≡ min (link_by_bit (links_at now (place - d)) (mark_bit e depth) + d) (2 ^ 32 - 1) → IsWay mask ms done e (depth + 1) place d'
   moved done d' t within upper_bound links other reach =
       let step = step_at p in
-      raised place d' (relinked done t.below links) (λ lacks. past_top t (other lacks) lacks) (λ near. (omega arith, omega arith, omega arith)) (λ far. omega arith)
+      raised place d' (relinked done t.below links) (λ lacks. past_top t (other lacks) lacks) (λ near. (omega arith, omega arith, omega arith))
+      (λ far. omega arith)
 
   -- the mark that is taken the place of is equal
   pub placing_equal : d ≤ place → place < length now → place < length ms → place + 1 < 2 ^ 32 → mark_at ms place ≡ mark_at ms (place - d)
-      → ((bit : Bool) → link_by_bit l bit ≡ min (link_by_bit (links_at now (place - d)) bit + d) (2 ^ 32 - 1)) → IsPutOnTop mask ms start (set now place l) newest
+      → ((bit : Bool) → link_by_bit l bit ≡ min (link_by_bit (links_at now (place - d)) bit + d) (2 ^ 32 - 1)) → IsPutOnTop mask ms start
+      (set now place l) newest
   placing_equal within inside there upper_bound equal reach =
       let step = step_at p in
       p.finish (set now place l) outside_set

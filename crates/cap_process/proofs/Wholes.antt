@@ -1,6 +1,24 @@
 -- What whole commands write, and how they end: the verdicts on packets make a list, of which the form refuses the rest.
-use Rattle.cap_process.proofs.Common.{◌≡◌, ℕ, zero, suc, ◌+◌, ◌-◌, ◌^◌, ◌<◌, ◌&&◌, Bool, true, false, if◌then◌else◌, nat_le, max, List, [], ◌∷◌, ◌++◌, length, take, Option, None, Some, refl, sym, ◌∙◌, ap, arith, subst, append_assoc, append-nil, length-map, IfSome, unwrap_or, nat_lt, nat_eq, nat_tests, take-length, Captured, Fault, TooManyPackets, Format, Kind, Placed, Ending, End, FaultAt, items, kind_of, ItemsBack, text, Options, Rule, Event, Packet, InputEnd, SequenceEnd, Complete, FaultIn, Sequence, PacketOrder, InTurn, ByTime, InputItems, whole_input, Entry, packet_events, input_sequence, sequence_in_turn, sequence_of, end_of, end_after, entries_of, comes_before, insert_entry, sort_entries, sequence_of_entries, sequence_by_time, first_end, unless_fault, with_front, Policy, Edit, EditRule, Filter, KeepAll, Count, Judgement, SelectorState, initial_state, edited_packet_with, is_selected, judge, judge_by, passes, refuses, Report, Tally, nothing_counted, reports_text, Form, AsCapture, AsReports, AsLines, JobProgress, Work, no_progress, apply_verdict, apply_event, apply_events, next_progress, end_input, end_with, unless_ended, end_unless_ended, final_progress, output_text, text_at_end, first_link, lines_text, message, status, outcome_at, outcome, is_count, packets_selected, unique_after, at_most, end_at_time, first_without_time, packets_kept, packets_of, tally_of, Mark, mark_of, CopyEnds, EditEnds, EditKeeps, EditWrites, EditsAlike, EndsAs, EndsUnlessRefused, HasCarried, InfosEnds, MergeEnds, MergesOne, PrintEnds, copy_of, no_options, InfosReports, MergeWrites, PrintLines, PrintWrites, closing_if, edit_work, event_packets, infos_work, merge_work, file_packets, packets_in_order, print_work, reports_by, reports_of, packets_written, first_refusal, written_text, drop, map-append, take-append-drop, Items, items_from, CutsGivePrefixes}
-use Rattle.cap_process.proofs.Lists.{EndsSo, comes, count-packets, end-stays, ends_without_time, filtered-first, judged, judged_by, judged-is, none-refused, packets-of-input, policy_end, under_way, verdict_end}
+use Rattle.cap_process.proofs.Common.{◌≡◌, ℕ, zero, suc, ◌+◌, ◌-◌, ◌^◌, ◌<◌, ◌&&◌, Bool, true, false, if◌then◌else◌, nat_le, max, List, [], ◌∷◌, ◌++◌, length}
+use Rattle.cap_process.proofs.Common.{take, Option, None, Some, refl, sym, ◌∙◌, ap, arith, subst, append_assoc, append-nil, length-map, IfSome, unwrap_or}
+use Rattle.cap_process.proofs.Common.{nat_lt, nat_eq, nat_tests, take-length, Captured, Fault, TooManyPackets, Format, Kind, Placed, Ending, End, FaultAt}
+use Rattle.cap_process.proofs.Common.{items, kind_of, ItemsBack, text, Options, Rule, Event, Packet, InputEnd, SequenceEnd, Complete, FaultIn, Sequence}
+use Rattle.cap_process.proofs.Common.{PacketOrder, InTurn, ByTime, InputItems, whole_input, Entry, packet_events, input_sequence, sequence_in_turn, sequence_of}
+use Rattle.cap_process.proofs.Common.{end_of, end_after, entries_of, comes_before, insert_entry, sort_entries, sequence_of_entries, sequence_by_time, first_end}
+use Rattle.cap_process.proofs.Common.{unless_fault, with_front, Policy, Edit, EditRule, Filter, KeepAll, Count, Judgement, SelectorState, initial_state}
+use Rattle.cap_process.proofs.Common.{edited_packet_with, is_selected, judge, judge_by, passes, refuses, Report, Tally, nothing_counted, reports_text, Form}
+use Rattle.cap_process.proofs.Common.{AsCapture, AsReports, AsLines, JobProgress, Work, no_progress, apply_verdict, apply_event, apply_events, next_progress}
+use Rattle.cap_process.proofs.Common.{end_input, end_with, unless_ended, end_unless_ended, final_progress, output_text, text_at_end, first_link, lines_text}
+use Rattle.cap_process.proofs.Common.{message, status, outcome_at, outcome, is_count, packets_selected, unique_after, at_most, end_at_time, first_without_time}
+use Rattle.cap_process.proofs.Common.{packets_kept, packets_of, tally_of, Mark, mark_of, CopyEnds, EditEnds, EditKeeps, EditWrites, EditsAlike, EndsAs}
+use Rattle.cap_process.proofs.Common.{EndsUnlessRefused, HasCarried, InfosEnds, MergeEnds, MergesOne, PrintEnds, copy_of, no_options, InfosReports, MergeWrites}
+use Rattle.cap_process.proofs.Common.{PrintLines, PrintWrites, closing_if, edit_work, event_packets, infos_work, merge_work, file_packets, packets_in_order}
+use Rattle.cap_process.proofs.Common.{print_work, reports_by, reports_of, packets_written, first_refusal, written_text, drop, map-append, take-append-drop}
+use Rattle.cap_process.proofs.Common.{Items, items_from, CutsGivePrefixes, EndsByRefusal, IsFirstRefused, file_events, packets_edited, packets_merged}
+use Rattle.cap_process.proofs.Common.{packets_printed, ◌≤◌}
+use Rattle.cap_process.proofs.Common.{length-append}
+use Rattle.cap_process.proofs.Lists.{AtRefused, EndsSo, comes, placed, count-packets, end-stays, ends_without_time, filtered-first, judged, judged_by}
+use Rattle.cap_process.proofs.Lists.{judged-is, none-refused, packets-of-input, policy_end, under_way, verdict_end}
 use Rattle.cap_process.proofs.{Outcomes.progress-append, Selectors.upper_bound}
 use Rattle.std.proofs.lemmas.Bool.{and_right}
 use Rattle.cap_io.proofs.{Cuts.cut_tells, Cuts.has_cut, Cuts.items_from-units}
@@ -45,8 +63,11 @@ command-writes : (work : Work) (names : List (List ℕ)) (rs : List InputItems) 
     → judged work.policy 0 initial_state (event_packets (sequence_of work.order rs).events) ≡ ps
     → (outcome work names rs).output ≡ written_text work.form (outcome work names rs).status (first_link rs) (packets_written work.form [] ps)
 command-writes work names rs ps judges of_packets is =
-    ap (λ (l : List ℕ). l ++ text_at_end final.end work.form (first_link rs) final.packets) (of_packets final.packets final.reports ∙ ap (λ (l : List Captured). output_text work.form l []) packets)
-    ∙ ap (λ (l : List ℕ). output_text work.form (packets_written work.form [] ps) [] ++ l) (ap (λ (l : List Captured). text_at_end final.end work.form (first_link rs) l) packets ∙ final-end work.form (first_link rs) (packets_written work.form [] ps) w.end w s.end refl)
+    ap (λ (l : List ℕ). l ++ text_at_end final.end work.form (first_link rs) final.packets) (of_packets final.packets final.reports
+    ∙ ap (λ (l : List Captured). output_text work.form l []) packets)
+    ∙ ap (λ (l : List ℕ). output_text work.form (packets_written work.form [] ps) [] ++ l)
+    (ap (λ (l : List Captured). text_at_end final.end work.form (first_link rs) l) packets ∙ final-end work.form (first_link rs)
+    (packets_written work.form [] ps) w.end w s.end refl)
   where
     s : Sequence
     s = sequence_of work.order rs
@@ -73,16 +94,60 @@ final-is : (o : Option SequenceEnd) (w : JobProgress) (close : SequenceEnd) → 
 final-is None w close is = refl
 final-is (Some c) w close is = is
 
-ends-as : (work : Work) (names : List (List ℕ)) (rs : List InputItems) (w : JobProgress) (c : SequenceEnd) → w.end ≡ Some c → EndsAs names c (outcome_at work names rs w)
+ends-as : (work : Work) (names : List (List ℕ)) (rs : List InputItems) (w : JobProgress) (c : SequenceEnd) → w.end ≡ Some c
+    → EndsAs names c (outcome_at work names rs w)
 ends-as work names rs w Complete is = record { messages = ap (message names) is; status = ap status is }
 ends-as work names rs w (FaultIn input fault offset) is = record { messages = ap (message names) is; status = ap status is }
 
-command-ends : (work : Work) (names : List (List ℕ)) (rs : List InputItems) (ps : List Captured) → is_count work.policy ≡ false
-    → judged work.policy 0 initial_state (event_packets (sequence_of work.order rs).events) ≡ ps
-    → EndsUnlessRefused names (first_refusal work.form [] ps) (unwrap_or (policy_end work.policy 0 initial_state (sequence_of work.order rs).events) (sequence_of work.order rs).end) (outcome work names rs)
-command-ends work names rs ps judges is =
-    by_refusal (first_refusal work.form [] ps)
-    (subst (λ (l : List Captured). EndsSo (first_refusal work.form [] l) by_policy w.end) is (comes work.policy work.form 0 initial_state [] [] s.events judges).1)
+-- the packets of these events, in their places
+abbrev placed_of : List Event → List Placed
+placed_of [] = []
+placed_of (Packet input p ∷ es) = p ∷ placed_of es
+placed_of (InputEnd input kind size ∷ es) = placed_of es
+
+placed-packets : (es : List Event) → packets_of (placed_of es) ≡ event_packets es
+placed-packets [] = refl
+placed-packets (Packet input p ∷ es) = ap (λ (l : List Captured). p.packet ∷ l) (placed-packets es)
+placed-packets (InputEnd input kind size ∷ es) = placed-packets es
+
+-- of at most as many packets as these events have, those that the policy passes are these
+abbrev Passes : Policy → (List Captured → List Captured) → List Event → Type 0
+Passes a passing es =
+    (ds : List Event) → length (event_packets ds) ≤ length (event_packets es) → judged a 0 initial_state (event_packets ds) ≡ passing (event_packets ds)
+
+event-packets-append : (es fs : List Event) → event_packets (es ++ fs) ≡ event_packets es ++ event_packets fs
+event-packets-append [] fs = refl
+event-packets-append (Packet input p ∷ es) fs = ap (λ (l : List Captured). p.packet ∷ l) (event-packets-append es fs)
+event-packets-append (InputEnd input kind size ∷ es) fs = event-packets-append es fs
+
+front-shorter : (ds es all : List Event) → all ≡ ds ++ es → length (event_packets ds) ≤ length (event_packets all)
+front-shorter ds es all is =
+    let sum : length (event_packets all) ≡ length (event_packets ds) + length (event_packets es) =
+    ap (λ (l : List Event). length (event_packets l)) is ∙ ap length (event-packets-append ds es)
+    ∙ length-append (event_packets ds) (event_packets es) in
+    omega (arith, sum)
+
+-- the place of the first packet that is refused
+refused-at : (work : Work) (passing : List Captured → List Captured) (es : List Event) (fault : Fault) → Passes work.policy passing es
+    → AtRefused work.policy work.form 0 initial_state [] [] es fault → IsFirstRefused work.form passing es fault
+refused-at work passing es fault passes at = record {
+  before = at.before;
+  input = at.input;
+  p = at.p;
+  later = at.later;
+  are = at.are;
+  taken = sym (ap (first_refusal work.form []) (passes at.before (front-shorter at.before (Packet at.input at.p ∷ at.later) es at.are))) ∙ at.taken;
+  refused = sym (ap (first_refusal work.form []) (passes (at.before ++ Packet at.input at.p ∷ [])
+      (front-shorter (at.before ++ Packet at.input at.p ∷ []) at.later es
+      (at.are ∙ sym (append_assoc at.before (Packet at.input at.p ∷ []) at.later))))) ∙ at.refused;
+}
+
+command-ends : (work : Work) (names : List (List ℕ)) (rs : List InputItems) (passing : List Captured → List Captured) → is_count work.policy ≡ false
+    → Passes work.policy passing (sequence_of work.order rs).events
+    → EndsUnlessRefused names work.form passing (sequence_of work.order rs).events
+    (unwrap_or (policy_end work.policy 0 initial_state (sequence_of work.order rs).events) (sequence_of work.order rs).end) (outcome work names rs)
+unfolding refused-at
+command-ends work names rs passing judges passes = by_refusal (first_refusal work.form [] (passing (event_packets s.events))) refl
   where
     s : Sequence
     s = sequence_of work.order rs
@@ -93,24 +158,28 @@ command-ends work names rs ps judges is =
     by_policy : Option SequenceEnd
     by_policy = policy_end work.policy 0 initial_state s.events
 
+    is : judged work.policy 0 initial_state (event_packets s.events) ≡ passing (event_packets s.events)
+    is = passes s.events (omega arith)
+
     final : (o : Option SequenceEnd) → w.end ≡ o → (final_progress work.policy work.form s).end ≡ Some (unwrap_or o s.end)
     final o ends =
         final-is w.end w s.end refl ∙ ap (λ (e : Option SequenceEnd). Some (unwrap_or e s.end)) ends
 
-    by_refusal : (r : Option Fault) → EndsSo r by_policy w.end → EndsUnlessRefused names r (unwrap_or by_policy s.end) (outcome work names rs)
-    by_refusal None so = ends-as work names rs (final_progress work.policy work.form s) (unwrap_or by_policy s.end) (final by_policy so)
-    by_refusal (Some fault) so = record {
-      input = so.0;
-      offset = so.1;
-      by = ends-as work names rs (final_progress work.policy work.form s) (FaultIn so.0 fault so.1) (final (Some (FaultIn so.0 fault so.1)) so.2);
-    }
+    by_refusal : (r : Option Fault) → first_refusal work.form [] (passing (event_packets s.events)) ≡ r
+        → EndsByRefusal names work.form passing s.events r (unwrap_or by_policy s.end) (outcome work names rs)
+    by_refusal None none =
+        let so : EndsSo None by_policy w.end = subst (λ (r : Option Fault). EndsSo r by_policy w.end) (ap (first_refusal work.form []) is ∙ none)
+        (comes work.policy work.form 0 initial_state [] [] s.events judges).1 in
+        ends-as work names rs (final_progress work.policy work.form s) (unwrap_or by_policy s.end) (final by_policy so)
+    by_refusal (Some fault) hit =
+        let at = placed work.policy work.form 0 initial_state [] [] s.events judges fault (ap (first_refusal work.form []) is ∙ hit) in
+        record {
+          first = refused-at work passing s.events fault passes at;
+          by = ends-as work names rs (final_progress work.policy work.form s) (FaultIn at.input fault at.p.offset)
+              (final (Some (FaultIn at.input fault at.p.offset)) at.ends);
+        }
 
 -- ---- one input
-
-event-packets-append : (es fs : List Event) → event_packets (es ++ fs) ≡ event_packets es ++ event_packets fs
-event-packets-append [] fs = refl
-event-packets-append (Packet input p ∷ es) fs = ap (λ (l : List Captured). p.packet ∷ l) (event-packets-append es fs)
-event-packets-append (InputEnd input kind size ∷ es) fs = event-packets-append es fs
 
 one-input : (r : InputItems) (e : Ending) → event_packets (input_sequence 0 r e (sequence_in_turn 1 [])).events ≡ packets_of r.items.packets
 one-input r End =
@@ -120,28 +189,45 @@ one-input r End =
     ∙ packets-of-input 0 r.items.packets
 one-input r (FaultAt fault offset) = packets-of-input 0 r.items.packets
 
-in-file : (a : Policy) (file : List ℕ) → judged a 0 initial_state (event_packets (sequence_in_turn 0 (whole_input file ∷ [])).events) ≡ judged a 0 initial_state (file_packets file)
-in-file a file = ap (judged a 0 initial_state) (one-input (whole_input file) (items file).ending)
-
-before-end : (a : Policy) (k : ℕ) (state : SelectorState) (ps : List Placed) (kind : Option Kind) (size : ℕ) → policy_end a k state (packet_events 0 ps ++ InputEnd 0 kind size ∷ []) ≡ policy_end a k state (packet_events 0 ps)
+before-end : (a : Policy) (k : ℕ) (state : SelectorState) (ps : List Placed) (kind : Option Kind) (size : ℕ)
+    → policy_end a k state (packet_events 0 ps ++ InputEnd 0 kind size ∷ []) ≡ policy_end a k state (packet_events 0 ps)
 before-end a k state [] kind size = refl
-before-end a k state (p ∷ ps) kind size = ap (verdict_end 0 p (judge a state (k + 1) p.packet).verdict) (before-end a (k + 1) (judge a state (k + 1) p.packet).state ps kind size)
+before-end a k state (p ∷ ps) kind size = ap (verdict_end 0 p (judge a state (k + 1) p.packet).verdict)
+    (before-end a (k + 1) (judge a state (k + 1) p.packet).state ps kind size)
 
-one-end : (a : Policy) (r : InputItems) (e : Ending) → unwrap_or (policy_end a 0 initial_state (input_sequence 0 r e (sequence_in_turn 1 [])).events) (input_sequence 0 r e (sequence_in_turn 1 [])).end
+one-end : (a : Policy) (r : InputItems) (e : Ending) → unwrap_or (policy_end a 0 initial_state (input_sequence 0 r e (sequence_in_turn 1 [])).events)
+    (input_sequence 0 r e (sequence_in_turn 1 [])).end
     ≡ unwrap_or (policy_end a 0 initial_state (packet_events 0 r.items.packets)) (end_of 0 e)
 one-end a r End =
-    ap (λ (es : List Event). unwrap_or (policy_end a 0 initial_state es) Complete) (append-nil (packet_events 0 r.items.packets ++ InputEnd 0 (kind_of r.items.declared) r.size ∷ []))
+    ap (λ (es : List Event). unwrap_or (policy_end a 0 initial_state es) Complete)
+    (append-nil (packet_events 0 r.items.packets ++ InputEnd 0 (kind_of r.items.declared) r.size ∷ []))
     ∙ ap (λ (o : Option SequenceEnd). unwrap_or o Complete) (before-end a 0 initial_state r.items.packets (kind_of r.items.declared) r.size)
 one-end a r (FaultAt fault offset) = refl
 
 few-placed : (file : List ℕ) → length (file_packets file) < 2 ^ 63 → length (items file).packets < 2 ^ 63
 few-placed file less = let e = length-map (items file).packets (λ (p : Placed). p.packet) in omega (arith, e, less)
 
+file-packets : (file : List ℕ) → event_packets (file_events file) ≡ file_packets file
+file-packets file = one-input (whole_input file) (items file).ending
+
+few-events : (file : List ℕ) (es : List Event) → length (file_packets file) < 2 ^ 63 → length (event_packets es) ≤ length (event_packets (file_events file))
+    → length (placed_of es) < 2 ^ 63
+few-events file es less fewer =
+    let a = length-map (placed_of es) (λ (p : Placed). p.packet) in
+    let b = ap length (placed-packets es) in
+    let c = ap length (file-packets file) in
+    omega (arith, a, b, c, less, fewer)
+
 -- ---- edit
 
+edits : (s : EditRule) (file : List ℕ) → length (file_packets file) < 2 ^ 63 → Passes (Edit s) (packets_edited s) (file_events file)
+edits s file less es fewer =
+    subst (λ (l : List Captured). judged (Edit s) 0 initial_state l ≡ packets_edited s l) (placed-packets es)
+    (sym (judged-is (Edit s) (placed_of es) refl).0 ∙ (ends_without_time s (placed_of es) (few-events file es less fewer)).1)
+
 edited : (s : EditRule) (file : List ℕ) → length (file_packets file) < 2 ^ 63
-    → judged (Edit s) 0 initial_state (event_packets (sequence_in_turn 0 (whole_input file ∷ [])).events) ≡ unique_after s.window [] (packets_selected s 1 (file_packets file))
-edited s file less = in-file (Edit s) file ∙ sym (judged-is (Edit s) (items file).packets refl).0 ∙ (ends_without_time s (items file).packets (few-placed file less)).1
+    → judged (Edit s) 0 initial_state (event_packets (file_events file)) ≡ packets_edited s (file_packets file)
+edited s file less = edits s file less (file_events file) (omega arith) ∙ ap (packets_edited s) (file-packets file)
 
 pub edit_writes : EditWrites
 edit_writes s format names file less = command-writes (edit_work s format) names (whole_input file ∷ []) _ refl (capture-of-packets format) (edited s file less)
@@ -149,21 +235,29 @@ edit_writes s format names file less = command-writes (edit_work s format) names
 pub edit_ends : EditEnds
 edit_ends s format names file less =
     let r = whole_input file in
-    let ps = unique_after s.window [] (packets_selected s 1 (file_packets file)) in
-    subst (λ (c : SequenceEnd). EndsUnlessRefused names (first_refusal (AsCapture format) [] ps) c (outcome (edit_work s format) names (r ∷ [])))
+    subst (λ (c : SequenceEnd). EndsUnlessRefused names (AsCapture format) (packets_edited s) (file_events file) c
+    (outcome (edit_work s format) names (r ∷ [])))
     (one-end (Edit s) r r.items.ending
-    ∙ ap (λ (o : Option SequenceEnd). unwrap_or o (end_of 0 r.items.ending)) (sym (judged-is (Edit s) r.items.packets refl).1 ∙ (ends_without_time s r.items.packets (few-placed file less)).0))
-    (command-ends (edit_work s format) names (r ∷ []) ps refl (edited s file less))
+    ∙ ap (λ (o : Option SequenceEnd). unwrap_or o (end_of 0 r.items.ending)) (sym (judged-is (Edit s) r.items.packets refl).1
+    ∙ (ends_without_time s r.items.packets (few-placed file less)).0))
+    (command-ends (edit_work s format) names (r ∷ []) (packets_edited s) refl (edits s file less))
 
 -- ---- print
 
+prints : (rule : Rule) (count : Option ℕ) (file : List ℕ) → IfSome count (λ (n : ℕ). 0 < n) → length (file_packets file) < 2 ^ 63
+    → Passes (Filter rule count) (packets_printed rule count) (file_events file)
+prints rule count file some less es fewer =
+    subst (λ (l : List Captured). judged (Filter rule count) 0 initial_state l ≡ packets_printed rule count l) (placed-packets es)
+    (filtered-first rule count End (placed_of es) some (few-events file es less fewer)).0
+
 printed : (rule : Rule) (count : Option ℕ) (file : List ℕ) → IfSome count (λ (n : ℕ). 0 < n) → length (file_packets file) < 2 ^ 63
-    → judged (Filter rule count) 0 initial_state (event_packets (sequence_in_turn 0 (whole_input file ∷ [])).events) ≡ at_most count (packets_kept rule (file_packets file))
-printed rule count file some less = in-file (Filter rule count) file ∙ (filtered-first rule count End (items file).packets some (few-placed file less)).0
+    → judged (Filter rule count) 0 initial_state (event_packets (file_events file)) ≡ packets_printed rule count (file_packets file)
+printed rule count file some less = prints rule count file some less (file_events file) (omega arith) ∙ ap (packets_printed rule count) (file-packets file)
 
 pub print_writes : PrintWrites
 print_writes rule count format names file some less =
-    command-writes (print_work rule count (AsCapture format)) names (whole_input file ∷ []) _ refl (capture-of-packets format) (printed rule count file some less)
+    command-writes (print_work rule count (AsCapture format)) names (whole_input file ∷ []) _ refl (capture-of-packets format)
+    (printed rule count file some less)
 
 -- lines have no start
 no-close : (options : Options) (n : ℕ) (link : Option ℕ) (ps : List Captured) → closing_if n (AsLines options) link ps ≡ []
@@ -185,23 +279,26 @@ print_lines rule count options names file some less =
 pub print_ends : PrintEnds
 print_ends rule count form names file some less =
     let r = whole_input file in
-    let ps = at_most count (packets_kept rule (file_packets file)) in
-    subst (λ (c : SequenceEnd). EndsUnlessRefused names (first_refusal form [] ps) c (outcome (print_work rule count form) names (r ∷ [])))
+    subst (λ (c : SequenceEnd). EndsUnlessRefused names form (packets_printed rule count) (file_events file) c
+    (outcome (print_work rule count form) names (r ∷ [])))
     (one-end (Filter rule count) r r.items.ending ∙ (filtered-first rule count r.items.ending r.items.packets some (few-placed file less)).1)
-    (command-ends (print_work rule count form) names (r ∷ []) ps refl (printed rule count file some less))
+    (command-ends (print_work rule count form) names (r ∷ []) (packets_printed rule count) refl (prints rule count file some less))
 
 -- ---- merge
 
 pub merge_writes : MergeWrites
 merge_writes order format names rs less =
-    command-writes (merge_work order format) names rs (packets_in_order order rs) refl (capture-of-packets format) (merged 0 initial_state (sequence_of order rs).events (omega (arith, less))).0
+    command-writes (merge_work order format) names rs (packets_in_order order rs) refl (capture-of-packets format)
+    (merged 0 initial_state (sequence_of order rs).events (omega (arith, less))).0
 
 pub merge_ends : MergeEnds
 merge_ends order format names rs less =
     let s = sequence_of order rs in
     let all = merged 0 initial_state s.events (omega (arith, less)) in
-    subst (λ (e : Option SequenceEnd). EndsUnlessRefused names (first_refusal (AsCapture format) [] (packets_in_order order rs)) (unwrap_or e s.end) (outcome (merge_work order format) names rs)) all.1
-    (command-ends (merge_work order format) names rs (packets_in_order order rs) refl all.0)
+    subst (λ (e : Option SequenceEnd). EndsUnlessRefused names (AsCapture format) packets_merged s.events (unwrap_or e s.end)
+    (outcome (merge_work order format) names rs)) all.1
+    (command-ends (merge_work order format) names rs packets_merged refl
+    (λ es fewer. (merged 0 initial_state es (omega (arith, less, fewer))).0))
 
 -- ---- infos
 
@@ -228,15 +325,20 @@ report-next names input r rs next k state reports none = by_ending r.items.endin
     whole : Tally → List Report
     whole t = reports ++ report input r t ∷ more
 
-    by_ending : (e : Ending) → (apply_events Count (AsReports names) (under_way k state [] reports) (input_sequence input r e (sequence_in_turn (input + 1) rs)).events).reports ≡ reports ++ reports_by e (report input r (tally_of (packets_of r.items.packets))) more
+    by_ending : (e : Ending) → (apply_events Count (AsReports names) (under_way k state [] reports)
+        (input_sequence input r e (sequence_in_turn (input + 1) rs)).events).reports ≡ reports
+        ++ reports_by e (report input r (tally_of (packets_of r.items.packets))) more
     by_ending End =
-        ap (λ (es : List Event). (apply_events Count (AsReports names) (under_way k state [] reports) es).reports) (append_assoc (packet_events input r.items.packets) (ended ∷ []) later)
+        ap (λ (es : List Event). (apply_events Count (AsReports names) (under_way k state [] reports) es).reports)
+        (append_assoc (packet_events input r.items.packets) (ended ∷ []) later)
         ∙ count-packets (λ w. w.reports ≡ whole (tally_of (packets_of r.items.packets))) names input r.items.packets k state [] reports (ended ∷ later) none
-        (λ k' state' is. next k' (record { passed = state'.passed; window = state'.window; tally = nothing_counted }) (reports ++ report input r state'.tally ∷ []) refl
+        (λ k' state' is. next k' (record { passed = state'.passed; window = state'.window; tally = nothing_counted })
+        (reports ++ report input r state'.tally ∷ []) refl
         ∙ append_assoc reports (report input r state'.tally ∷ []) more
         ∙ ap whole is)
     by_ending (FaultAt fault offset) =
-        ap (λ (es : List Event). (apply_events Count (AsReports names) (under_way k state [] reports) es).reports) (sym (append-nil (packet_events input r.items.packets)))
+        ap (λ (es : List Event). (apply_events Count (AsReports names) (under_way k state [] reports) es).reports)
+        (sym (append-nil (packet_events input r.items.packets)))
         ∙ count-packets (λ w. w.reports ≡ reports ++ []) names input r.items.packets k state [] reports [] none (λ k' state' is. sym (append-nil reports))
 
 reported : (names : List (List ℕ)) (input : ℕ) (rs : List InputItems) → Reported names input rs
@@ -247,7 +349,8 @@ same-reports : (o : Option SequenceEnd) (w : JobProgress) (c : SequenceEnd) → 
 same-reports None w c = refl
 same-reports (Some d) w c = refl
 
-nothing-following-reports : (names : List (List ℕ)) (link : Option ℕ) (ps : List Captured) (o : Option SequenceEnd) → text_at_end o (AsReports names) link ps ≡ []
+nothing-following-reports : (names : List (List ℕ)) (link : Option ℕ) (ps : List Captured) (o : Option SequenceEnd) → text_at_end o (AsReports names)
+    link ps ≡ []
 nothing-following-reports names link [] None = refl
 nothing-following-reports names link [] (Some Complete) = refl
 nothing-following-reports names link [] (Some (FaultIn input fault offset)) = refl
@@ -257,7 +360,8 @@ nothing-following-reports names link (p ∷ ps) (Some (FaultIn input fault offse
 
 pub infos_reports : InfosReports
 infos_reports names rs =
-    ap (λ (l : List ℕ). l ++ text_at_end final.end (AsReports names) (first_link rs) final.packets) (ap (reports_text names) (same-reports w.end w s.end ∙ reported names 0 rs 0 initial_state [] refl))
+    ap (λ (l : List ℕ). l ++ text_at_end final.end (AsReports names) (first_link rs) final.packets)
+    (ap (reports_text names) (same-reports w.end w s.end ∙ reported names 0 rs 0 initial_state [] refl))
     ∙ ap (λ (l : List ℕ). reports_text names (reports_of 0 rs) ++ l) (nothing-following-reports names (first_link rs) final.packets final.end)
     ∙ append-nil (reports_text names (reports_of 0 rs))
   where
@@ -270,11 +374,13 @@ infos_reports names rs =
     final : JobProgress
     final = final_progress Count (AsReports names) s
 
-infos-go-on : (names : List (List ℕ)) (k : ℕ) (state : SelectorState) (reports : List Report) (es : List Event) → (apply_events Count (AsReports names) (under_way k state [] reports) es).end ≡ None
+infos-go-on : (names : List (List ℕ)) (k : ℕ) (state : SelectorState) (reports : List Report) (es : List Event)
+    → (apply_events Count (AsReports names) (under_way k state [] reports) es).end ≡ None
 infos-go-on names k state reports [] = refl
 infos-go-on names k state reports (Packet input p ∷ es) = infos-go-on names (k + 1) (judge Count state (k + 1) p.packet).state reports es
 infos-go-on names k state reports (InputEnd input kind size ∷ es) =
-    infos-go-on names k (apply_event Count (AsReports names) (under_way k state [] reports) (InputEnd input kind size)).state (apply_event Count (AsReports names) (under_way k state [] reports) (InputEnd input kind size)).reports es
+    infos-go-on names k (apply_event Count (AsReports names) (under_way k state [] reports) (InputEnd input kind size)).state
+    (apply_event Count (AsReports names) (under_way k state [] reports) (InputEnd input kind size)).reports es
 
 pub infos_ends : InfosEnds
 infos_ends names rs =
@@ -288,12 +394,14 @@ infos_ends names rs =
 same-packet : (p : Captured) → edited_packet_with no_options p p.time ≡ p
 same-packet p =
     let all : length p.bytes - 0 ≡ length p.bytes = omega arith in
-    ap (λ (bytes : List ℕ). record { link = p.link; snap = p.snap; name = p.name; time = p.time; orig = p.orig; bytes = bytes; comment = p.comment }) (ap (λ (n : ℕ). take n p.bytes) all ∙ take-length p.bytes)
+    ap (λ (bytes : List ℕ). record { link = p.link; snap = p.snap; name = p.name; time = p.time; orig = p.orig; bytes = bytes; comment = p.comment })
+    (ap (λ (n : ℕ). take n p.bytes) all ∙ take-length p.bytes)
 
 same-judge : (state : SelectorState) (number : ℕ) (p : Captured) → judge KeepAll state number p ≡ judge (Edit no_options) state number p
 same-judge state number p = by_number (nat_le (2 ^ 63) number)
   where
-    by_number : (b : Bool) → (if b then refuses state TooManyPackets else judge_by KeepAll state number p) ≡ (if b then refuses state TooManyPackets else judge_by (Edit no_options) state number p)
+    by_number : (b : Bool) → (if b then refuses state TooManyPackets else judge_by KeepAll state number p) ≡
+        (if b then refuses state TooManyPackets else judge_by (Edit no_options) state number p)
     by_number true = refl
     by_number false = ap (passes state) (sym (same-packet p))
 
@@ -312,7 +420,8 @@ same-events f w (e ∷ es) =
 abbrev entry : ℕ → Ending → ℕ → Placed → List Placed → Entry
 entry input ending greatest p ps = record { key = max greatest p.packet.time; input = input; p = p; end = end_after input ending ps }
 
-not-before : (input : ℕ) (ending : Ending) (greatest : ℕ) (p q : Placed) (ps : List Placed) → comes_before (entry input ending (max greatest p.packet.time) q ps) (entry input ending greatest p (q ∷ ps)) ≡ false
+not-before : (input : ℕ) (ending : Ending) (greatest : ℕ) (p q : Placed) (ps : List Placed)
+    → comes_before (entry input ending (max greatest p.packet.time) q ps) (entry input ending greatest p (q ∷ ps)) ≡ false
 not-before input ending greatest p q ps =
     let later : nat_lt (max (max greatest p.packet.time) q.packet.time) (max greatest p.packet.time) ≡ false = grind (arith, nat_tests) in
     let same : nat_lt input input ≡ false = grind (arith, nat_tests) in
@@ -323,13 +432,15 @@ insert-first : (input : ℕ) (ending : Ending) (greatest : ℕ) (p : Placed) (ps
 insert-first input ending greatest p [] = refl
 insert-first input ending greatest p (q ∷ ps) = rw (not-before input ending greatest p q ps) refl
 
-sorted : (input : ℕ) (ending : Ending) (greatest : ℕ) (ps : List Placed) → sort_entries (entries_of input ending greatest ps) ≡ entries_of input ending greatest ps
+sorted : (input : ℕ) (ending : Ending) (greatest : ℕ) (ps : List Placed) → sort_entries (entries_of input ending greatest ps) ≡ entries_of input
+    ending greatest ps
 sorted input ending greatest [] = refl
 sorted input ending greatest (p ∷ ps) =
     ap (insert_entry (entry input ending greatest p ps)) (sorted input ending (max greatest p.packet.time) ps)
     ∙ insert-first input ending greatest p ps
 
-last-of : (input : ℕ) (ending : Ending) (e : Event) → with_front (e ∷ []) (unless_fault (end_of input ending) (record { events = []; end = Complete })) ≡ record { events = e ∷ []; end = end_of input ending }
+last-of : (input : ℕ) (ending : Ending) (e : Event)
+    → with_front (e ∷ []) (unless_fault (end_of input ending) (record { events = []; end = Complete })) ≡ record { events = e ∷ []; end = end_of input ending }
 last-of input End e = refl
 last-of input (FaultAt fault offset) e = refl
 
@@ -347,7 +458,8 @@ unless-end End = refl
 unless-end (FaultAt fault offset) = refl
 
 one-by-time : (greatest : ℕ) (ending : Ending) (ps : List Placed)
-    → unless_fault (end_after 0 ending ps) (sequence_of_entries (sort_entries (entries_of 0 ending greatest ps))) ≡ record { events = packet_events 0 ps; end = end_of 0 ending }
+    → unless_fault (end_after 0 ending ps) (sequence_of_entries (sort_entries (entries_of 0 ending greatest ps))) ≡ record
+    { events = packet_events 0 ps; end = end_of 0 ending }
 one-by-time greatest ending [] = unless-end ending
 one-by-time greatest ending (p ∷ ps) = ap sequence_of_entries (sorted 0 ending greatest (p ∷ ps)) ∙ of-entries 0 ending greatest p ps
 
@@ -360,7 +472,8 @@ by-time r =
     ∙ one-by-time r.greatest r.items.ending r.items.packets
 
 -- an input's end changes nothing where nothing is reported
-ended-same : (a : Policy) (f : Form) (w : JobProgress) (input : ℕ) (kind : Option Kind) (size : ℕ) → is_count a ≡ false → next_progress a f w (InputEnd input kind size) ≡ w
+ended-same : (a : Policy) (f : Form) (w : JobProgress) (input : ℕ) (kind : Option Kind) (size : ℕ) → is_count a ≡ false
+    → next_progress a f w (InputEnd input kind size) ≡ w
 ended-same a f w input kind size judges = by_end w.end
   where
     by_end : (o : Option SequenceEnd) → unless_ended o w (end_input a w input kind size) ≡ w
@@ -368,16 +481,19 @@ ended-same a f w input kind size judges = by_end w.end
     by_end (Some c) = refl
 
 in-turn : (a : Policy) (f : Form) (r : InputItems) (ending : Ending) → is_count a ≡ false
-    → final_progress a f (record { events = packet_events 0 r.items.packets; end = end_of 0 ending }) ≡ final_progress a f (input_sequence 0 r ending (record { events = []; end = Complete }))
+    → final_progress a f (record { events = packet_events 0 r.items.packets; end = end_of 0 ending }) ≡ final_progress a f
+    (input_sequence 0 r ending (record { events = []; end = Complete }))
 in-turn a f r (FaultAt fault offset) judges = refl
 in-turn a f r End judges =
     let es = packet_events 0 r.items.packets in
     let ended = InputEnd 0 (kind_of r.items.declared) r.size in
     let w = apply_events a f no_progress es in
     ap (λ (u : JobProgress). end_unless_ended u Complete)
-    (sym (ap (apply_events a f no_progress) (append-nil (es ++ ended ∷ [])) ∙ progress-append a f no_progress es (ended ∷ []) ∙ ended-same a f w 0 (kind_of r.items.declared) r.size judges))
+    (sym (ap (apply_events a f no_progress) (append-nil (es ++ ended ∷ [])) ∙ progress-append a f no_progress es (ended ∷ [])
+    ∙ ended-same a f w 0 (kind_of r.items.declared) r.size judges))
 
-same-order : (a : Policy) (f : Form) (r : InputItems) (order : PacketOrder) → is_count a ≡ false → final_progress a f (sequence_of order (r ∷ [])) ≡ final_progress a f (sequence_in_turn 0 (r ∷ []))
+same-order : (a : Policy) (f : Form) (r : InputItems) (order : PacketOrder) → is_count a ≡ false → final_progress a f (sequence_of order (r ∷ [])) ≡
+    final_progress a f (sequence_in_turn 0 (r ∷ []))
 same-order a f r InTurn judges = refl
 same-order a f r ByTime judges = ap (final_progress a f) (by-time r) ∙ in-turn a f r r.items.ending judges
 
@@ -386,13 +502,15 @@ merges_one order format names file =
     let r = whole_input file in
     let f = AsCapture format in
     ap (outcome_at (merge_work order format) names (r ∷ [])) (same-order KeepAll f r order refl)
-    ∙ ap (λ (w : JobProgress). outcome_at (merge_work order format) names (r ∷ []) (end_unless_ended w (sequence_in_turn 0 (r ∷ [])).end)) (same-events f no_progress (sequence_in_turn 0 (r ∷ [])).events)
+    ∙ ap (λ (w : JobProgress). outcome_at (merge_work order format) names (r ∷ []) (end_unless_ended w (sequence_in_turn 0 (r ∷ [])).end))
+    (same-events f no_progress (sequence_in_turn 0 (r ∷ [])).events)
 
 -- ---- what a format carries
 
 all-selected : (number : ℕ) (ps : List Captured) → packets_selected no_options number ps ≡ ps
 all-selected number [] = refl
-all-selected number (p ∷ ps) = ap (λ (q : Captured). q ∷ packets_selected no_options (number + 1) ps) (same-packet p) ∙ ap (λ (l : List Captured). p ∷ l) (all-selected (number + 1) ps)
+all-selected number (p ∷ ps) = ap (λ (q : Captured). q ∷ packets_selected no_options (number + 1) ps) (same-packet p)
+    ∙ ap (λ (l : List Captured). p ∷ l) (all-selected (number + 1) ps)
 
 all-unique : (before : List Mark) (ps : List Captured) → unique_after None before ps ≡ ps
 all-unique before [] = refl
@@ -404,16 +522,22 @@ nothing-closes format (suc n) link p ps = refl
 
 -- the packets of such a file are all unique and selected, and none is refused
 copied : (format : Format) (file : List ℕ) (p : Captured) (ps : List Captured) → HasCarried format file p ps
-    → (unique_after None [] (packets_selected no_options 1 (file_packets file)) ≡ p ∷ ps) × (packets_written (AsCapture format) [] (p ∷ ps) ≡ p ∷ ps) × (first_refusal (AsCapture format) [] (p ∷ ps) ≡ None)
+    → (unique_after None [] (packets_selected no_options 1 (file_packets file)) ≡ p ∷ ps) × (packets_written (AsCapture format) [] (p ∷ ps) ≡ p ∷ ps)
+    × (first_refusal (AsCapture format) [] (p ∷ ps) ≡ None)
 copied format file p ps h =
-    let none = none-refused (AsCapture format) [] (p ∷ ps) (λ xs q ys is. (h.carried.each xs q ys is).taken) in
-    (ap (λ (l : List Captured). unique_after None [] (packets_selected no_options 1 l)) h.packets ∙ ap (unique_after None []) (all-selected 1 (p ∷ ps)) ∙ all-unique [] (p ∷ ps), none.0, none.1)
+    let none = none-refused (AsCapture format) [] (p ∷ ps) (λ xs q ys is. (h.carried.each xs q ys is).taken) in (
+      ap (λ (l : List Captured). unique_after None [] (packets_selected no_options 1 l)) h.packets ∙ ap (unique_after None [])
+          (all-selected 1 (p ∷ ps)) ∙ all-unique [] (p ∷ ps),
+      none.0,
+      none.1,
+    )
 
 few-carried : (format : Format) (file : List ℕ) (p : Captured) (ps : List Captured) → HasCarried format file p ps → length (file_packets file) < 2 ^ 63
 few-carried format file p ps h = subst (λ (l : List Captured). length l < 2 ^ 63) (sym h.packets) h.few
 
 -- the text of the packets is written
-copy-is : (format : Format) (names : List (List ℕ)) (file : List ℕ) (p : Captured) (ps : List Captured) → HasCarried format file p ps → copy_of format names file ≡ text format (p ∷ ps)
+copy-is : (format : Format) (names : List (List ℕ)) (file : List ℕ) (p : Captured) (ps : List Captured) → HasCarried format file p ps
+    → copy_of format names file ≡ text format (p ∷ ps)
 copy-is format names file p ps h =
     let code = (outcome (edit_work no_options format) names (whole_input file ∷ [])).status in
     let link = first_link (whole_input file ∷ []) in
@@ -424,7 +548,8 @@ copy-is format names file p ps h =
     ∙ ap (λ (l : List ℕ). text format (p ∷ ps) ++ l) (nothing-closes format code link p ps)
     ∙ append-nil (text format (p ∷ ps))
 
-copy-packets : (format : Format) (names : List (List ℕ)) (file : List ℕ) (p : Captured) (ps : List Captured) → ItemsBack → HasCarried format file p ps → file_packets (copy_of format names file) ≡ p ∷ ps
+copy-packets : (format : Format) (names : List (List ℕ)) (file : List ℕ) (p : Captured) (ps : List Captured) → ItemsBack → HasCarried format file p ps
+    → file_packets (copy_of format names file) ≡ p ∷ ps
 copy-packets format names file p ps back h = ap file_packets (copy-is format names file p ps h) ∙ (back format p ps h.carried).packets
 
 pub edit_keeps : ItemsBack → EditKeeps
@@ -439,7 +564,8 @@ all-in-time : (number : ℕ) (ps : List Placed) → first_without_time no_option
 all-in-time number [] = refl
 all-in-time number (p ∷ ps) = by_selection (all-in-time (number + 1) ps) (is_selected no_options number p.packet)
   where
-    by_selection : first_without_time no_options (number + 1) ps ≡ None → (b : Bool) → (if b && false then Some p.offset else first_without_time no_options (number + 1) ps) ≡ None
+    by_selection : first_without_time no_options (number + 1) ps ≡ None → (b : Bool)
+        → (if b && false then Some p.offset else first_without_time no_options (number + 1) ps) ≡ None
     by_selection more true = more
     by_selection more false = more
 
@@ -447,9 +573,12 @@ pub copy_ends : CopyEnds
 copy_ends format names file p ps h =
     let r = whole_input file in
     let all = copied format file p ps h in
-    let selected = packets_selected no_options 1 (file_packets file) in
-    subst (λ (t : Option Fault). EndsUnlessRefused names t (end_of 0 r.items.ending) (outcome (edit_work no_options format) names (r ∷ []))) (ap (first_refusal (AsCapture format) []) all.0 ∙ all.2)
-    (subst (λ (t : Option ℕ). EndsUnlessRefused names (first_refusal (AsCapture format) [] (unique_after None [] selected)) (unwrap_or (end_at_time t) (end_of 0 r.items.ending)) (outcome (edit_work no_options format) names (r ∷ []))) (all-in-time 1 r.items.packets)
+    subst (λ (t : Option Fault). EndsByRefusal names (AsCapture format) (packets_edited no_options) (file_events file) t (end_of 0 r.items.ending)
+    (outcome (edit_work no_options format) names (r ∷ [])))
+    (ap (λ (l : List Captured). first_refusal (AsCapture format) [] (packets_edited no_options l)) (file-packets file)
+    ∙ ap (first_refusal (AsCapture format) []) all.0 ∙ all.2)
+    (subst (λ (t : Option ℕ). EndsUnlessRefused names (AsCapture format) (packets_edited no_options) (file_events file)
+    (unwrap_or (end_at_time t) (end_of 0 r.items.ending)) (outcome (edit_work no_options format) names (r ∷ []))) (all-in-time 1 r.items.packets)
     (edit_ends no_options format names file (few-carried format file p ps h)))
 
 pub cuts_give_prefixes : CutsGivePrefixes
@@ -457,7 +586,12 @@ cuts_give_prefixes file n =
     let c = has_cut (take n file) in
     let rest : List ℕ = c.rest ++ drop n file in
     let following : List Placed = (items_from c.declared (0 + length c.done) rest).packets in
-    let file_is : file ≡ c.done ++ rest = sym (take-append-drop n file) ∙ ap (λ (l : List ℕ). l ++ drop n file) c.cut.joined ∙ append_assoc c.done c.rest (drop n file) in
-    let whole : file_packets file ≡ packets_of (c.packets ++ following) = ap (λ (i : Items). packets_of i.packets) (ap items file_is ∙ items_from-units c.cut.units rest) in
-    let front : file_packets (take n file) ≡ packets_of c.packets = ap (λ (i : Items). packets_of i.packets) (cut_tells (take n file) c).items in
-    (packets_of following, whole ∙ map-append (λ (p : Placed). p.packet) c.packets following ∙ ap (λ (l : List Captured). l ++ packets_of following) (sym front))
+    let file_is : file ≡ c.done ++ rest = sym (take-append-drop n file) ∙ ap (λ (l : List ℕ). l ++ drop n file) c.cut.joined
+    ∙ append_assoc c.done c.rest (drop n file) in
+    let whole : file_packets file ≡ packets_of (c.packets ++ following) = ap (λ (i : Items). packets_of i.packets)
+    (ap items file_is ∙ items_from-units c.cut.units rest) in
+    let front : file_packets (take n file) ≡ packets_of c.packets = ap (λ (i : Items). packets_of i.packets) (cut_tells (take n file) c).items in (
+      packets_of following,
+      whole ∙ map-append (λ (p : Placed). p.packet) c.packets following ∙ ap (λ (l : List Captured). l ++ packets_of following)
+          (sym front),
+    )

@@ -41,6 +41,12 @@ closing_if (suc n) form link ps = []
 abbrev pub written_text : Form → (status : ℕ) → Option ℕ → List Captured → List ℕ
 written_text form status link ps = output_text form ps [] ++ closing_if status form link ps
 
+-- the packets of events, in their order
+abbrev pub event_packets : List Event → List Captured
+event_packets [] = []
+event_packets (Packet input p ∷ es) = p.packet ∷ event_packets es
+event_packets (InputEnd input kind size ∷ es) = event_packets es
+
 -- the packets of a file, in its order, up to the first fault
 abbrev pub file_packets : List ℕ → List Captured
 file_packets file = packets_of (items file).packets
@@ -70,22 +76,51 @@ first_refusal form before [] = None
 first_refusal form before (p ∷ ps) =
     option_or (form_refuses form before p) (first_refusal form (before ++ p ∷ []) ps)
 
--- it ends by this fault, at some packet
-pub record EndsAtPacket (names : List (List ℕ)) (fault : Fault) (o : Outcome) : Type 0 where
+-- The first packet among these events that the form refuses, and why: no packet that passes with the
+-- events before it is refused, and one is if it comes with them. `passing` gives the packets that
+-- pass.
+pub record IsFirstRefused (form : Form) (passing : List Captured → List Captured) (es : List Event)
+    (fault : Fault) : Type 0 where
+  pub before : List Event
   pub input : ℕ
-  pub offset : ℕ
-  pub by : EndsByFault names input fault offset o
+  pub p : Placed
+  pub later : List Event
+  pub are : es ≡ before ++ Packet input p ∷ later
+  pub taken : first_refusal form [] (passing (event_packets before)) ≡ None
+  pub refused : first_refusal form [] (passing (event_packets (before ++ Packet input p ∷ [])))
+      ≡ Some fault
 
--- It ends at the packet that the form refuses for this; if it refuses none, it ends like this.
-abbrev pub EndsUnlessRefused : List (List ℕ) → Option Fault → SequenceEnd → Outcome → Type 0
-EndsUnlessRefused names None end o = EndsAs names end o
-EndsUnlessRefused names (Some fault) end o = EndsAtPacket names fault o
+-- it ends by this fault, at the first packet that the form refuses
+pub record EndsAtPacket (names : List (List ℕ)) (form : Form) (passing : List Captured → List Captured)
+    (es : List Event) (fault : Fault) (o : Outcome) : Type 0 where
+  pub first : IsFirstRefused form passing es fault
+  pub by : EndsByFault names first.input fault first.p.offset o
+
+-- if the form refuses a packet for this, it ends at the first such packet; else like this
+abbrev pub EndsByRefusal : List (List ℕ) → Form → (List Captured → List Captured) → List Event → Option Fault
+    → SequenceEnd → Outcome → Type 0
+EndsByRefusal names form passing es None end o = EndsAs names end o
+EndsByRefusal names form passing es (Some fault) end o = EndsAtPacket names form passing es fault o
+
+-- It ends at the first packet of these events that the form refuses; if it refuses none, like this.
+abbrev pub EndsUnlessRefused : List (List ℕ) → Form → (List Captured → List Captured) → List Event
+    → SequenceEnd → Outcome → Type 0
+EndsUnlessRefused names form passing es end o =
+    EndsByRefusal names form passing es (first_refusal form [] (passing (event_packets es))) end o
+
+-- the packets and the end of a file
+abbrev pub file_events : List ℕ → List Event
+file_events file = (sequence_of InTurn (whole_input file ∷ [])).events
 
 -- ---- edit
 
 -- the work of an edit that writes this format
 abbrev pub edit_work : EditRule → Format → Work
 edit_work s format = record { order = InTurn; policy = Edit s; form = AsCapture format }
+
+-- the packets of a file that an edit writes: the unique ones of those that it selects
+abbrev pub packets_edited : EditRule → List Captured → List Captured
+packets_edited s ps = unique_after s.window [] (packets_selected s 1 ps)
 
 -- An edit of a file with fewer than 2^63 packets writes the unique ones of the selected packets, up
 -- to the first whose moved time is out of range or that the format refuses; if there are none, and
@@ -98,8 +133,7 @@ EditWrites =
     ≡ written_text (AsCapture format)
     (outcome (edit_work s format) names (whole_input file ∷ [])).status
     (first_link (whole_input file ∷ []))
-    (packets_written (AsCapture format) []
-    (unique_after s.window [] (packets_selected s 1 (file_packets file))))
+    (packets_written (AsCapture format) [] (packets_edited s (file_packets file)))
 
 -- Such an edit ends at the first packet that the format refuses; if it refuses none, at the
 -- first that is selected and whose moved time is out of range; if there is none, as the file
@@ -108,9 +142,7 @@ abbrev pub EditEnds : Type 0
 EditEnds =
     (s : EditRule) (format : Format) (names : List (List ℕ)) (file : List ℕ)
     → length (file_packets file) < 2 ^ 63
-    → EndsUnlessRefused names
-    (first_refusal (AsCapture format) []
-    (unique_after s.window [] (packets_selected s 1 (file_packets file))))
+    → EndsUnlessRefused names (AsCapture format) (packets_edited s) (file_events file)
     (unwrap_or (end_at_time (first_without_time s 1 (items file).packets))
     (end_of 0 (items file).ending))
     (outcome (edit_work s format) names (whole_input file ∷ []))
@@ -120,6 +152,10 @@ EditEnds =
 -- the work of a print by this filter, which ends after `count` packets, if there is a count
 abbrev pub print_work : Rule → Option ℕ → Form → Work
 print_work rule count form = record { order = InTurn; policy = Filter rule count; form = form }
+
+-- the packets of a file that a print writes: those that the rule keeps, the first of them by a count
+abbrev pub packets_printed : Rule → Option ℕ → List Captured → List Captured
+packets_printed rule count ps = at_most count (packets_kept rule ps)
 
 -- A print of a file with fewer than 2^63 packets as a capture writes those that the rule keeps, the
 -- first of them if a count, which is at least 1, is given, up to the first that the rule or the
@@ -132,7 +168,7 @@ PrintWrites =
     ≡ written_text (AsCapture format)
     (outcome (print_work rule count (AsCapture format)) names (whole_input file ∷ [])).status
     (first_link (whole_input file ∷ []))
-    (packets_written (AsCapture format) [] (at_most count (packets_kept rule (file_packets file))))
+    (packets_written (AsCapture format) [] (packets_printed rule count (file_packets file)))
 
 -- A print of such a file as lines writes those of the packets that the rule keeps, the first of
 -- them if a count, which is at least 1, is given, up to the first that the rule refuses.
@@ -141,7 +177,7 @@ PrintLines =
     (rule : Rule) (count : Option ℕ) (options : Options) (names : List (List ℕ)) (file : List ℕ)
     → IfSome count (λ (n : ℕ). 0 < n) → length (file_packets file) < 2 ^ 63
     → (outcome (print_work rule count (AsLines options)) names (whole_input file ∷ [])).output
-    ≡ lines_text options (at_most count (packets_kept rule (file_packets file)))
+    ≡ lines_text options (packets_printed rule count (file_packets file))
 
 -- a rule refuses a packet, or goes on
 abbrev pub end_by_decision : Decision → Placed → (later : SequenceEnd) → SequenceEnd
@@ -172,8 +208,7 @@ abbrev pub PrintEnds : Type 0
 PrintEnds =
     (rule : Rule) (count : Option ℕ) (form : Form) (names : List (List ℕ)) (file : List ℕ)
     → IfSome count (λ (n : ℕ). 0 < n) → length (file_packets file) < 2 ^ 63
-    → EndsUnlessRefused names
-    (first_refusal form [] (at_most count (packets_kept rule (file_packets file))))
+    → EndsUnlessRefused names form (packets_printed rule count) (file_events file)
     (print_end rule count (items file))
     (outcome (print_work rule count form) names (whole_input file ∷ []))
 
@@ -183,11 +218,9 @@ PrintEnds =
 abbrev pub merge_work : PacketOrder → Format → Work
 merge_work order format = record { order = order; policy = KeepAll; form = AsCapture format }
 
--- the packets of events
-abbrev pub event_packets : List Event → List Captured
-event_packets [] = []
-event_packets (Packet input p ∷ es) = p.packet ∷ event_packets es
-event_packets (InputEnd input kind size ∷ es) = event_packets es
+-- all packets, as a merge passes them
+abbrev pub packets_merged : List Captured → List Captured
+packets_merged ps = ps
 
 -- the packets of inputs in an order, up to the first fault
 abbrev pub packets_in_order : PacketOrder → List InputItems → List Captured
@@ -210,7 +243,7 @@ abbrev pub MergeEnds : Type 0
 MergeEnds =
     (order : PacketOrder) (format : Format) (names : List (List ℕ)) (rs : List InputItems)
     → length (packets_in_order order rs) < 2 ^ 63
-    → EndsUnlessRefused names (first_refusal (AsCapture format) [] (packets_in_order order rs))
+    → EndsUnlessRefused names (AsCapture format) packets_merged (sequence_of order rs).events
     (sequence_of order rs).end (outcome (merge_work order format) names rs)
 
 -- ---- infos

@@ -5,13 +5,14 @@ use cap_command::{Command, Edit, Print, Shift};
 use cap_octet::Format;
 use capkit::Line;
 use std::alloc::Global;
+use std::process::Abort;
 use std::test::Fail;
 
 /// 2^63.
 const END: u64 = 9_223_372_036_854_775_808;
 
 /// A field of an edit, its value, and whether the edit is proper: each limit from both sides.
-const EDITS: [(&str, u64, bool); 19] = [
+const EDITS: &[(&str, u64, bool)] = &[
     ("nothing", 0, true),
     ("first", 0, false),
     ("first", 2, false),
@@ -49,9 +50,12 @@ fn set(edit: &mut Edit, field: &str, value: u64) -> Result<(), Fail> {
     Ok(())
 }
 
+/// A row of the next table.
+type Row = (&'static str, bool, bool, bool);
+
 /// Lines, and whether they are proper with a listing of no bytes, if the row says so, and written
 /// packets, if it says so.
-const PRINTS: [(&str, bool, bool, bool); 7] = [
+const PRINTS: &[Row] = &[
     ("print in", false, false, true),
     ("print -c 1 -e -x in ip", false, false, true),
     ("print -e -x in", true, false, true),
@@ -82,33 +86,71 @@ fn is_of_one(command: &Command, is_proper: bool) -> bool {
     command.is_proper(1) == is_proper && !command.is_proper(0) && !command.is_proper(2)
 }
 
-#[test]
-fn proper_commands(rt: HostRuntime) -> Result<(), Fail> {
-    for (field, value, is_proper) in EDITS {
-        let mut command = command_of(rt.alloc(), "edit in out")?;
-        if let Command::Edit(edit) = &mut command {
-            set(edit, field, value)?;
-        }
-        assert!(rt; is_of_one(&command, is_proper), "{field} {value}");
+/// Whether an edit with this value in a field is proper, or isn't.
+fn edit_is(alloc: Global, (field, value, is_proper): (&str, u64, bool)) -> Result<bool, Fail> {
+    let mut command = command_of(alloc, "edit in out")?;
+    if let Command::Edit(edit) = &mut command {
+        set(edit, field, value)?;
     }
-    for (words, has_code, writes, is_proper) in PRINTS {
-        let mut command = command_of(rt.alloc(), words)?;
-        if let Command::Print(print) = &mut command {
-            add(print, has_code, writes, rt.alloc());
-        }
-        assert!(rt; is_of_one(&command, is_proper), "{words}");
+    Ok(is_of_one(&command, is_proper))
+}
+
+/// Asserts it of each edit.
+fn assert_edits(rt: &(impl Abort + AllocGlobal)) -> Result<(), Fail> {
+    for row in EDITS {
+        assert!(rt; edit_is(rt.alloc(), *row)?, "{} {}", row.0, row.1);
     }
-    let mut command = command_of(rt.alloc(), "print in")?;
+    Ok(())
+}
+
+/// Whether the print that a row asks for is proper, or isn't.
+fn print_is(alloc: Global, (words, has_code, writes, is_proper): Row) -> Result<bool, Fail> {
+    let mut command = command_of(alloc, words)?;
+    if let Command::Print(print) = &mut command {
+        add(print, has_code, writes, alloc);
+    }
+    Ok(is_of_one(&command, is_proper))
+}
+
+/// Asserts it of each print.
+fn assert_prints(rt: &(impl Abort + AllocGlobal)) -> Result<(), Fail> {
+    for row in PRINTS {
+        assert!(rt; print_is(rt.alloc(), *row)?, "{}", row.0);
+    }
+    Ok(())
+}
+
+/// Whether a print of no packets is proper.
+fn prints_nothing(alloc: Global) -> Result<bool, Fail> {
+    let mut command = command_of(alloc, "print in")?;
     if let Command::Print(print) = &mut command {
         print.count = Some(0);
     }
-    assert!(rt; !command.is_proper(1));
-    for words in ["merge -w out in", "infos in"] {
-        let command = command_of(rt.alloc(), words)?;
-        assert!(rt; command.is_proper(1) && command.is_proper(256), "{words}");
-        assert!(rt; !command.is_proper(0) && !command.is_proper(257), "{words}");
+    Ok(command.is_proper(1))
+}
+
+/// Words, and the least and the most inputs that their commands have.
+const INPUTS: &[(&str, usize, usize)] = &[
+    ("merge -w out in", 1, 256),
+    ("infos in", 1, 256),
+    ("compile", 0, 0),
+];
+
+/// Whether a row's command is proper with as many inputs as it says, and with no more or fewer.
+fn has_inputs(alloc: Global, (words, least, most): (&str, usize, usize)) -> Result<bool, Fail> {
+    let command = command_of(alloc, words)?;
+    let refuses_fewer = least == 0 || !command.is_proper(least.saturating_sub(1));
+    let refuses_more = !command.is_proper(most.saturating_add(1));
+    Ok(command.is_proper(least) && command.is_proper(most) && refuses_fewer && refuses_more)
+}
+
+#[test]
+fn proper_commands(rt: HostRuntime) -> Result<(), Fail> {
+    assert_edits(&rt)?;
+    assert_prints(&rt)?;
+    assert!(rt; !prints_nothing(rt.alloc())?);
+    for row in INPUTS {
+        assert!(rt; has_inputs(rt.alloc(), *row)?, "{}", row.0);
     }
-    let compile = command_of(rt.alloc(), "compile")?;
-    assert!(rt; compile.is_proper(0) && !compile.is_proper(1));
     Ok(())
 }

@@ -1,5 +1,12 @@
 -- What has come when an input is read on, or its packet is decided.
-use Rattle.cap_tools.proofs.Common.{◌≡◌, ℕ, suc, ◌+◌, Bool, true, false, List, [], ◌∷◌, ◌++◌, length, drop, map, None, Some, Result, Ok, refl, sym, ◌∙◌, ap, arith, subst, add-zero, Option, option_to_list, append_assoc, append-nil, length-append, Captured, Fault, Declared, Placed, placed_at, Items, Ending, End, FaultAt, NoUnit, items, items_from, after_packets, no_items, front_of, kind_of, SourceView, Phase, Ended, FindsPacket, FindsEnd, Finds, Advances, IsAt, pending, IsAt-items, items-begin, Advances-sound, InputItems, Event, Packet, InputEnd, FaultIn, Sequence, sequence_of, sequence_in_turn, input_sequence, with_front, whole_input, PacketOrder, InputView, InputsView, Future, InputPast, AreInputsAfter, AreFutures, AreSettled, waiting_packets, input_items, inputs_with, items_left, inputs_left, sequence_left, no_future, input_after, input_after_decided, actual_future, wholes_of, ComeFirst, finish_at, slice_get, IsInput}
+use Rattle.cap_tools.proofs.Common.{◌≡◌, ℕ, suc, ◌+◌, Bool, true, false, List, [], ◌∷◌, ◌++◌, length, drop, map, None, Some, Result, Ok, refl, sym, ◌∙◌, ap}
+use Rattle.cap_tools.proofs.Common.{arith, subst, add-zero, Option, option_to_list, append_assoc, append-nil, length-append, Captured, Fault, Declared, Placed}
+use Rattle.cap_tools.proofs.Common.{placed_at, Items, Ending, End, FaultAt, NoUnit, items, items_from, after_packets, no_items, front_of, kind_of, SourceView}
+use Rattle.cap_tools.proofs.Common.{Phase, Ended, FindsPacket, FindsEnd, Finds, Advances, IsAt, pending, IsAt-items, items-begin, Advances-sound, InputItems}
+use Rattle.cap_tools.proofs.Common.{Event, Packet, InputEnd, FaultIn, Sequence, sequence_of, sequence_in_turn, input_sequence, with_front, whole_input}
+use Rattle.cap_tools.proofs.Common.{PacketOrder, InputView, InputsView, Future, InputPast, AreInputsAfter, AreFutures, AreSettled, waiting_packets, input_items}
+use Rattle.cap_tools.proofs.Common.{inputs_with, items_left, inputs_left, sequence_left, no_future, input_after, input_after_decided, actual_future, wholes_of}
+use Rattle.cap_tools.proofs.Common.{ComeFirst, finish_at, slice_get, IsInput}
 use Rattle.cap_io.proofs.Cuts.{items_from-stops}
 
 abbrev pub At : InputPast → InputView → Type 0
@@ -23,9 +30,19 @@ stands-split [] (x ∷ xs) ys h st = absurd st
 stands-split (s ∷ ss) [] ys h st = record { front = []; here = s; back = ss; is = refl; before = tt; at = st.0; following = st.1 }
 stands-split (s ∷ ss) (x ∷ xs) ys h st =
     let more = stands-split ss xs ys h st.1 in
-    record { front = s ∷ more.front; here = more.here; back = more.back; is = ap (λ (l : List InputPast). s ∷ l) more.is; before = (st.0, more.before); at = more.at; following = more.following }
+    record {
+      front = s ∷ more.front;
+      here = more.here;
+      back = more.back;
+      is = ap (λ (l : List InputPast). s ∷ l) more.is;
+      before =
+          (st.0, more.before);
+      at = more.at;
+      following = more.following;
+    }
 
-pub stands-join : (us vs : List InputPast) (s : InputPast) (xs ys : List InputView) (h : InputView) → AreInputsAfter us xs → At s h → AreInputsAfter vs ys → AreInputsAfter (us ++ s ∷ vs) (xs ++ h ∷ ys)
+pub stands-join : (us vs : List InputPast) (s : InputPast) (xs ys : List InputView) (h : InputView) → AreInputsAfter us xs → At s h
+    → AreInputsAfter vs ys → AreInputsAfter (us ++ s ∷ vs) (xs ++ h ∷ ys)
 stands-join [] vs s [] ys h before at with_front = (at, with_front)
 stands-join [] vs s (x ∷ xs) ys h before at with_front = absurd before
 stands-join (a ∷ us) vs s [] ys h before at with_front = absurd before
@@ -52,24 +69,36 @@ fits-split (x ∷ xs) ys h [] fits = absurd fits
 fits-split [] ys h (f ∷ fs) fits = record { front = []; here = f; back = fs; is = refl; before = tt; fit = fits.0; following = fits.1 }
 fits-split (x ∷ xs) ys h (f ∷ fs) fits =
     let more = fits-split xs ys h fs fits.1 in
-    record { front = f ∷ more.front; here = more.here; back = more.back; is = ap (λ (l : List Future). f ∷ l) more.is; before = (fits.0, more.before); fit = more.fit; following = more.following }
+    record {
+      front = f ∷ more.front;
+      here = more.here;
+      back = more.back;
+      is = ap (λ (l : List Future). f ∷ l) more.is;
+      before = (fits.0, more.before);
+      fit = more.fit;
+      following = more.following;
+    }
 
-pub fits-join : (xs ys : List InputView) (h : InputView) (fs gs : List Future) (f : Future) → AreFutures xs fs → Fit h f → AreFutures ys gs → AreFutures (xs ++ h ∷ ys) (fs ++ f ∷ gs)
+pub fits-join : (xs ys : List InputView) (h : InputView) (fs gs : List Future) (f : Future) → AreFutures xs fs → Fit h f → AreFutures ys gs
+    → AreFutures (xs ++ h ∷ ys) (fs ++ f ∷ gs)
 fits-join [] ys h [] gs f before fit with_front = (fit, with_front)
 fits-join [] ys h (g ∷ fs) gs f before fit with_front = absurd before
 fits-join (x ∷ xs) ys h [] gs f before fit with_front = absurd before
 fits-join (x ∷ xs) ys h (g ∷ fs) gs f before fit with_front = (before.0, fits-join xs ys h fs gs f before.1 fit with_front)
 
-pub wholes-join : (us vs : List InputPast) (s : InputPast) (xs ys : List InputView) (h : InputView) (fs gs : List Future) (f : Future) → AreInputsAfter us xs → AreFutures xs fs
+pub wholes-join : (us vs : List InputPast) (s : InputPast) (xs ys : List InputView) (h : InputView) (fs gs : List Future) (f : Future)
+    → AreInputsAfter us xs → AreFutures xs fs
     → inputs_with (us ++ s ∷ vs) (xs ++ h ∷ ys) (fs ++ f ∷ gs) ≡ inputs_with us xs fs ++ input_items s h f ∷ inputs_with vs ys gs
 wholes-join [] vs s [] ys h [] gs f st fits = refl
 wholes-join [] vs s [] ys h (g ∷ fs) gs f st fits = absurd fits
 wholes-join [] vs s (x ∷ xs) ys h fs gs f st fits = absurd st
 wholes-join (a ∷ us) vs s [] ys h fs gs f st fits = absurd st
 wholes-join (a ∷ us) vs s (x ∷ xs) ys h [] gs f st fits = absurd fits
-wholes-join (a ∷ us) vs s (x ∷ xs) ys h (g ∷ fs) gs f st fits = ap (λ (l : List InputItems). input_items a x g ∷ l) (wholes-join us vs s xs ys h fs gs f st.1 fits.1)
+wholes-join (a ∷ us) vs s (x ∷ xs) ys h (g ∷ fs) gs f st fits = ap (λ (l : List InputItems). input_items a x g ∷ l)
+    (wholes-join us vs s xs ys h fs gs f st.1 fits.1)
 
-pub rests-join : (xs ys : List InputView) (h : InputView) (fs gs : List Future) (f : Future) → AreFutures xs fs → inputs_left (xs ++ h ∷ ys) (fs ++ f ∷ gs) ≡ inputs_left xs fs ++ items_left h f ∷ inputs_left ys gs
+pub rests-join : (xs ys : List InputView) (h : InputView) (fs gs : List Future) (f : Future) → AreFutures xs fs → inputs_left (xs ++ h ∷ ys)
+    (fs ++ f ∷ gs) ≡ inputs_left xs fs ++ items_left h f ∷ inputs_left ys gs
 rests-join [] ys h [] gs f fits = refl
 rests-join [] ys h (g ∷ fs) gs f fits = absurd fits
 rests-join (x ∷ xs) ys h [] gs f fits = absurd fits
@@ -94,9 +123,12 @@ pub record Carries (s s' : InputPast) (xs ys : List InputView) (h h' : InputView
   pub future : Future
   pub fit : Fit h future
   pub same : input_items s h future ≡ input_items s' h' f'
-  pub left_is : (fs gs : List Future) → AreFutures xs fs → AreFutures ys gs → sequence_left order (xs ++ h ∷ ys) (inputs_left xs fs ++ items_left h future ∷ inputs_left ys gs) ≡ with_front new (sequence_left order (xs ++ h' ∷ ys) (inputs_left xs fs ++ items_left h' f' ∷ inputs_left ys gs))
+  pub left_is : (fs gs : List Future) → AreFutures xs fs → AreFutures ys gs → sequence_left order (xs ++ h ∷ ys)
+      (inputs_left xs fs ++ items_left h future ∷ inputs_left ys gs) ≡ with_front new
+      (sequence_left order (xs ++ h' ∷ ys) (inputs_left xs fs ++ items_left h' f' ∷ inputs_left ys gs))
 
-pub come-on : (us vs : List InputPast) (s s' : InputPast) (xs ys : List InputView) (h h' : InputView) (order : PacketOrder) (es new : List Event) → AreInputsAfter us xs
+pub come-on : (us vs : List InputPast) (s s' : InputPast) (xs ys : List InputView) (h h' : InputView) (order : PacketOrder) (es new : List Event)
+    → AreInputsAfter us xs
     → AreSettled (us ++ s ∷ vs) (record { order = order; cursors = xs ++ h ∷ ys }) es
     → ((f' : Future) → Fit h' f' → Carries s s' xs ys h h' order new f')
     → AreSettled (us ++ s' ∷ vs) (record { order = order; cursors = xs ++ h' ∷ ys }) (es ++ new)
@@ -112,9 +144,11 @@ come-on us vs s s' xs ys h h' order es new st come carries fs fits =
     ∙ was
     ∙ ap (λ (l : List InputItems). with_front es (sequence_left order (xs ++ h ∷ ys) l)) (rests-join xs ys h split.front split.back c.future split.before)
     ∙ ap (with_front es) (c.left_is split.front split.back split.before split.following)
-    ∙ ap (λ (l : List Event). record { events = l; end = (sequence_left order (xs ++ h' ∷ ys) (inputs_left xs split.front ++ items_left h' split.here ∷ inputs_left ys split.back)).end })
+    ∙ ap (λ (l : List Event). record
+    { events = l; end = (sequence_left order (xs ++ h' ∷ ys) (inputs_left xs split.front ++ items_left h' split.here ∷ inputs_left ys split.back)).end })
     (append-back es new (sequence_left order (xs ++ h' ∷ ys) (inputs_left xs split.front ++ items_left h' split.here ∷ inputs_left ys split.back)).events)
-    ∙ ap (λ (l : List InputItems). with_front (es ++ new) (sequence_left order (xs ++ h' ∷ ys) l)) (sym (rests-join xs ys h' split.front split.back split.here split.before)))
+    ∙ ap (λ (l : List InputItems). with_front (es ++ new) (sequence_left order (xs ++ h' ∷ ys) l))
+    (sym (rests-join xs ys h' split.front split.back split.here split.before)))
   where
     append-back : (xs ys zs : List Event) → xs ++ (ys ++ zs) ≡ (xs ++ ys) ++ zs
     append-back [] ys zs = refl
@@ -145,14 +179,22 @@ not-ended s s' advances is =
     let same = subst P is advances in
     let e : Ok true ≡ Ok false = same.0 in cc
 
-pub carries-found : (s : InputPast) (xs ys : List InputView) (h : InputView) (s' : SourceView) (order : PacketOrder) → ((rs : List InputItems) → sequence_left order (xs ++ h ∷ ys) rs ≡ sequence_left order (xs ++ input_after h (Ok true) s' ∷ ys) rs) → h.waiting ≡ false → Advances h.source.phase h.source (Ok true) s' → (finds : FindsPacket h.source s') (f' : Future)
+pub carries-found : (s : InputPast) (xs ys : List InputView) (h : InputView) (s' : SourceView) (order : PacketOrder)
+    → ((rs : List InputItems) → sequence_left order (xs ++ h ∷ ys) rs ≡ sequence_left order (xs ++ input_after h (Ok true) s' ∷ ys) rs)
+    → h.waiting ≡ false → Advances h.source.phase h.source (Ok true) s' → (finds : FindsPacket h.source s') (f' : Future)
     → Carries s (record { text = s.text; done = s.done ++ finds.passes.passed; packets = s.packets ++ [] }) xs ys h (input_after h (Ok true) s') order [] f'
 carries-found s xs ys h s' order lefts waits advances finds f' = record {
   future = record { items = after_packets (waiting_packets true s') f'.items; size = f'.size };
   fit = λ e. absurd (not-ended h.source s' advances e);
   same = rw (waits, append-nil s.packets) refl;
   left_is = λ fs gs before with_back.
-      ap (λ (b : Bool). sequence_left order (xs ++ h ∷ ys) (inputs_left xs fs ++ record { greatest = h.greatest; items = after_packets (waiting_packets b h.source) (after_packets (waiting_packets true s') f'.items); size = f'.size } ∷ inputs_left ys gs)) waits
+      ap (λ (b : Bool). sequence_left order (xs ++ h ∷ ys)
+      (inputs_left xs fs ++ record {
+        greatest = h.greatest;
+        items = after_packets (waiting_packets b h.source)
+            (after_packets (waiting_packets true s') f'.items);
+        size = f'.size;
+      } ∷ inputs_left ys gs)) waits
       ∙ lefts (inputs_left xs fs ++ items_left (input_after h (Ok true) s') f' ∷ inputs_left ys gs);
 }
 
@@ -174,23 +216,31 @@ turn-next : (turn g g' : ℕ) (x : Placed) (items : Items) (size : ℕ) (rs qs :
 turn-next turn g g' x items size rs qs is =
     ap (sequence_in_turn turn) (drop-front rs qs (record { greatest = g; items = after_packets (x ∷ []) items; size = size }) turn is)
     ∙ came-next turn g g' x items size items.ending (sequence_in_turn (turn + 1) qs)
-    ∙ ap (λ (l : List InputItems). with_front (Packet turn x ∷ []) (sequence_in_turn turn l)) (sym (drop-front rs qs (record { greatest = g'; items = after_packets [] items; size = size }) turn is))
+    ∙ ap (λ (l : List InputItems). with_front (Packet turn x ∷ []) (sequence_in_turn turn l))
+    (sym (drop-front rs qs (record { greatest = g'; items = after_packets [] items; size = size }) turn is))
 
 -- the packet that waits
 pub hand_is : (s : SourceView) (p : Captured) → s.packet ≡ Some p → waiting_packets true s ≡ record { offset = s.offset; packet = p } ∷ []
 hand_is s p is = ap (λ (o : Option Captured). placed_at s.offset (option_to_list o)) is
 
-pub left-decided : (h : InputView) (turn : ℕ) (p : Captured) → h.waiting ≡ true → h.source.packet ≡ Some p → (f : Future) (rs qs : List InputItems) → length rs ≡ turn
-    → from_turn turn (rs ++ items_left h f ∷ qs) ≡ with_front (Packet turn (record { offset = h.source.offset; packet = p }) ∷ []) (from_turn turn (rs ++ items_left (input_after_decided h) f ∷ qs))
+pub left-decided : (h : InputView) (turn : ℕ) (p : Captured) → h.waiting ≡ true → h.source.packet ≡ Some p → (f : Future) (rs qs : List InputItems)
+    → length rs ≡ turn
+    → from_turn turn (rs ++ items_left h f ∷ qs) ≡ with_front (Packet turn (record { offset = h.source.offset; packet = p }) ∷ [])
+    (from_turn turn (rs ++ items_left (input_after_decided h) f ∷ qs))
 left-decided h turn p waits held f rs qs is =
-    ap (λ (l : List Placed). from_turn turn (rs ++ record { greatest = h.greatest; items = after_packets l f.items; size = f.size } ∷ qs)) (ap (λ b. waiting_packets b h.source) waits ∙ hand_is h.source p held)
+    ap (λ (l : List Placed). from_turn turn (rs ++ record { greatest = h.greatest; items = after_packets l f.items; size = f.size } ∷ qs))
+    (ap (λ b. waiting_packets b h.source) waits ∙ hand_is h.source p held)
     ∙ turn-next turn h.greatest (input_after_decided h).greatest (record { offset = h.source.offset; packet = p }) f.items f.size rs qs is
 
-pub carries-decided : (s : InputPast) (xs ys : List InputView) (h : InputView) (i : ℕ) (order : PacketOrder) (bytes : List ℕ) (p : Captured) → h.waiting ≡ true → h.source.packet ≡ Some p
+pub carries-decided : (s : InputPast) (xs ys : List InputView) (h : InputView) (i : ℕ) (order : PacketOrder) (bytes : List ℕ) (p : Captured)
+    → h.waiting ≡ true → h.source.packet ≡ Some p
     → ((f : Future) → Fit h f → (fs gs : List Future) → AreFutures xs fs → AreFutures ys gs
-    → sequence_left order (xs ++ h ∷ ys) (inputs_left xs fs ++ items_left h f ∷ inputs_left ys gs) ≡ with_front (Packet i (record { offset = h.source.offset; packet = p }) ∷ []) (sequence_left order (xs ++ input_after_decided h ∷ ys) (inputs_left xs fs ++ items_left (input_after_decided h) f ∷ inputs_left ys gs)))
+    → sequence_left order (xs ++ h ∷ ys) (inputs_left xs fs ++ items_left h f ∷ inputs_left ys gs) ≡ with_front
+    (Packet i (record { offset = h.source.offset; packet = p }) ∷ [])
+    (sequence_left order (xs ++ input_after_decided h ∷ ys) (inputs_left xs fs ++ items_left (input_after_decided h) f ∷ inputs_left ys gs)))
     → (f' : Future) → Fit (input_after_decided h) f'
-    → Carries s (record { text = s.text; done = s.done ++ bytes; packets = s.packets ++ record { offset = h.source.offset; packet = p } ∷ [] }) xs ys h (input_after_decided h) order (Packet i (record { offset = h.source.offset; packet = p }) ∷ []) f'
+    → Carries s (record { text = s.text; done = s.done ++ bytes; packets = s.packets ++ record { offset = h.source.offset; packet = p } ∷ [] }) xs ys
+    h (input_after_decided h) order (Packet i (record { offset = h.source.offset; packet = p }) ∷ []) f'
 carries-decided s xs ys h i order bytes p waits held lefts f' fit =
     let x : Placed = record { offset = h.source.offset; packet = p } in
     let hand : waiting_packets h.waiting h.source ≡ x ∷ [] = ap (λ b. waiting_packets b h.source) waits ∙ hand_is h.source p held in
@@ -199,7 +249,11 @@ carries-decided s xs ys h i order bytes p waits held lefts f' fit =
       fit = fit;
       same =
           ap (λ (l : List Placed). record { greatest = 0; items = after_packets s.packets (after_packets l f'.items); size = f'.size }) hand
-          ∙ ap (λ (l : List Placed). record { greatest = 0; items = record { packets = l; declared = f'.items.declared; ending = f'.items.ending }; size = f'.size }) (sym (append_assoc s.packets (x ∷ []) f'.items.packets));
+          ∙ ap (λ (l : List Placed). record {
+            greatest = 0;
+            items = record { packets = l; declared = f'.items.declared; ending = f'.items.ending };
+            size = f'.size;
+          }) (sym (append_assoc s.packets (x ∷ []) f'.items.packets));
       left_is = lefts f' fit;
     }
 
@@ -217,7 +271,9 @@ same-end s s' advances is = let P : Phase → Type 0 = λ p. Advances p s (Ok fa
 
 pub carries-closed : (s : InputPast) (xs ys : List InputView) (h : InputView) (s' : SourceView) (order : PacketOrder) (new : List Event)
     → ((fs gs : List Future) → AreFutures xs fs → AreFutures ys gs
-    → sequence_left order (xs ++ h ∷ ys) (inputs_left xs fs ++ record { greatest = h.greatest; items = no_items s'.declared None 0; size = s'.offset } ∷ inputs_left ys gs) ≡ with_front new (sequence_left order (xs ++ input_after h (Ok false) s' ∷ ys) (inputs_left xs fs ++ record { greatest = h.greatest; items = no_items s'.declared None 0; size = s'.offset } ∷ inputs_left ys gs)))
+    → sequence_left order (xs ++ h ∷ ys) (inputs_left xs fs ++ record { greatest = h.greatest; items = no_items s'.declared None 0; size = s'.offset }
+    ∷ inputs_left ys gs) ≡ with_front new (sequence_left order (xs ++ input_after h (Ok false) s' ∷ ys)
+    (inputs_left xs fs ++ record { greatest = h.greatest; items = no_items s'.declared None 0; size = s'.offset } ∷ inputs_left ys gs)))
     → h.waiting ≡ false → Advances h.source.phase h.source (Ok false) s' → (finds : FindsEnd h.source s') → (f' : Future) → Fit (input_after h (Ok false) s') f'
     → Carries s (record { text = s.text; done = s.done ++ finds.passes.passed; packets = s.packets ++ [] }) xs ys h (input_after h (Ok false) s') order new f'
 carries-closed s xs ys h s' order new lefts waits advances finds f' fit =
@@ -226,29 +282,42 @@ carries-closed s xs ys h s' order new lefts waits advances finds f' fit =
       fit = λ e. is ∙ ap no_future (same-end h.source s' advances e);
       same = rw (waits, append-nil s.packets) refl;
       left_is = λ fs gs before with_back.
-          ap (λ (b : Bool). sequence_left order (xs ++ h ∷ ys) (inputs_left xs fs ++ record { greatest = h.greatest; items = after_packets (waiting_packets b h.source) f'.items; size = f'.size } ∷ inputs_left ys gs)) waits
-          ∙ ap (λ (f : Future). sequence_left order (xs ++ h ∷ ys) (inputs_left xs fs ++ record { greatest = h.greatest; items = after_packets [] f.items; size = f.size } ∷ inputs_left ys gs)) is
+          ap (λ (b : Bool). sequence_left order (xs ++ h ∷ ys)
+          (inputs_left xs fs ++ record { greatest = h.greatest; items = after_packets (waiting_packets b h.source) f'.items; size = f'.size } ∷
+          inputs_left ys gs)) waits
+          ∙ ap (λ (f : Future). sequence_left order (xs ++ h ∷ ys)
+          (inputs_left xs fs ++ record { greatest = h.greatest; items = after_packets [] f.items; size = f.size } ∷ inputs_left ys gs)) is
           ∙ lefts fs gs before with_back
-          ∙ ap (λ (f : Future). with_front new (sequence_left order (xs ++ input_after h (Ok false) s' ∷ ys) (inputs_left xs fs ++ items_left (input_after h (Ok false) s') f ∷ inputs_left ys gs))) (sym is);
+          ∙ ap (λ (f : Future). with_front new (sequence_left order (xs ++ input_after h (Ok false) s' ∷ ys)
+          (inputs_left xs fs ++ items_left (input_after h (Ok false) s') f ∷ inputs_left ys gs))) (sym is);
     }
 
 -- ---- an input ends by a fault
 
 pub turn-broken : (turn g : ℕ) (declared : Declared) (fault : Fault) (offset size : ℕ) (rs qs : List InputItems) → length rs ≡ turn
-    → from_turn turn (rs ++ record { greatest = g; items = no_items declared (Some fault) offset; size = size } ∷ qs) ≡ record { events = []; end = FaultIn turn fault offset }
+    → from_turn turn (rs ++ record { greatest = g; items = no_items declared (Some fault) offset; size = size } ∷ qs) ≡ record
+    { events = []; end = FaultIn turn fault offset }
 turn-broken turn g declared fault offset size rs qs is =
     ap (sequence_in_turn turn) (drop-front rs qs (record { greatest = g; items = no_items declared (Some fault) offset; size = size }) turn is)
 
 -- ---- the true future
 
-true-items : (s : InputPast) (h : InputView) → At s h → (b : Bool) → h.waiting ≡ b → after_packets s.packets (after_packets (waiting_packets b h.source) (actual_future h.source).items) ≡ items s.text
+true-items : (s : InputPast) (h : InputView) → At s h → (b : Bool) → h.waiting ≡ b → after_packets s.packets
+    (after_packets (waiting_packets b h.source) (actual_future h.source).items) ≡ items s.text
 true-items s h at true is =
     let P : Bool → Type 0 = λ b. IsAt s.text s.done s.packets b h.source in
     let here : IsAt s.text s.done s.packets true h.source = subst P is at in
     let has = here.waits refl in
     ap (λ (l : List Placed). after_packets s.packets (after_packets l (actual_future h.source).items)) (hand_is h.source has.packet has.held)
-    ∙ ap (λ (l : List Placed). record { packets = l; declared = (actual_future h.source).items.declared; ending = (actual_future h.source).items.ending }) (sym (append_assoc s.packets (record { offset = h.source.offset; packet = has.packet } ∷ []) (actual_future h.source).items.packets))
-    ∙ ap (λ n. after_packets (s.packets ++ record { offset = h.source.offset; packet = has.packet } ∷ []) (items_from h.source.declared n h.source.unread)) here.place
+    ∙ ap (λ (l : List Placed). record {
+      packets = l;
+      declared = (actual_future h.source).items.declared;
+      ending =
+          (actual_future h.source).items.ending;
+    })
+    (sym (append_assoc s.packets (record { offset = h.source.offset; packet = has.packet } ∷ []) (actual_future h.source).items.packets))
+    ∙ ap (λ n. after_packets (s.packets ++ record { offset = h.source.offset; packet = has.packet } ∷ [])
+    (items_from h.source.declared n h.source.unread)) here.place
     ∙ sym (IsAt-items s.text s.done s.packets h.source here)
 true-items s h at false is =
     let P : Bool → Type 0 = λ b. IsAt s.text s.done s.packets b h.source in
@@ -272,17 +341,20 @@ true-whole s h at =
     ap (λ (i : Items). record { greatest = 0; items = i; size = (actual_future h.source).size }) (true-items s h at h.waiting refl)
     ∙ ap (λ n. record { greatest = 0; items = items s.text; size = n }) (true-size s h at)
 
-pub true-wholes : (ss : List InputPast) (hs : List InputView) → AreInputsAfter ss hs → inputs_with ss hs (map (λ (h : InputView). actual_future h.source) hs) ≡ wholes_of ss
+pub true-wholes : (ss : List InputPast) (hs : List InputView) → AreInputsAfter ss hs
+    → inputs_with ss hs (map (λ (h : InputView). actual_future h.source) hs) ≡ wholes_of ss
 true-wholes [] [] st = refl
 true-wholes [] (h ∷ hs) st = absurd st
 true-wholes (s ∷ ss) [] st = absurd st
-true-wholes (s ∷ ss) (h ∷ hs) st = ap (λ (r : InputItems). r ∷ inputs_with ss hs (map (λ (h : InputView). actual_future h.source) hs)) (true-whole s h st.0) ∙ ap (λ (l : List InputItems). whole_input s.text ∷ l) (true-wholes ss hs st.1)
+true-wholes (s ∷ ss) (h ∷ hs) st = ap (λ (r : InputItems). r ∷ inputs_with ss hs (map (λ (h : InputView). actual_future h.source) hs))
+    (true-whole s h st.0) ∙ ap (λ (l : List InputItems). whole_input s.text ∷ l) (true-wholes ss hs st.1)
 
 pub true-fit : (s : InputPast) (h : InputView) → At s h → Fit h (actual_future h.source)
 true-fit s h at e =
     let over = at.ended e in
     let stops : front_of h.source.declared h.source.unread ≡ NoUnit None = rw over.unread over.ends in
-    ap (λ (i : Items). record { items = i; size = (actual_future h.source).size }) (items_from-stops h.source.declared (h.source.offset + length h.source.block) h.source.unread None stops)
+    ap (λ (i : Items). record { items = i; size = (actual_future h.source).size })
+    (items_from-stops h.source.declared (h.source.offset + length h.source.block) h.source.unread None stops)
     ∙ ap (λ n. record { items = no_items h.source.declared None 0; size = n }) (rw (over.block, over.unread) (simp (add-zero)))
 
 pub true-fits : (ss : List InputPast) (hs : List InputView) → AreInputsAfter ss hs → AreFutures hs (map (λ (h : InputView). actual_future h.source) hs)
@@ -292,7 +364,8 @@ true-fits (s ∷ ss) [] st = absurd st
 true-fits (s ∷ ss) (h ∷ hs) st = (true-fit s h st.0, true-fits ss hs st.1)
 
 -- what came is the first of the order of the whole inputs
-pub come-first : (ss : List InputPast) (inputs : InputsView) (es : List Event) → AreInputsAfter ss inputs.cursors → AreSettled ss inputs es → ComeFirst (sequence_of inputs.order (wholes_of ss)) es
+pub come-first : (ss : List InputPast) (inputs : InputsView) (es : List Event) → AreInputsAfter ss inputs.cursors → AreSettled ss inputs es
+    → ComeFirst (sequence_of inputs.order (wholes_of ss)) es
 come-first ss inputs es following come = record {
   later = sequence_left inputs.order inputs.cursors (inputs_left inputs.cursors (map (λ (h : InputView). actual_future h.source) inputs.cursors));
   is =
@@ -301,7 +374,8 @@ come-first ss inputs es following come = record {
 }
 
 -- what an input finds that met no fault
-pub finds : (s : InputPast) (h : InputView) (s' : SourceView) (r : Result Bool Fault) → At s h → h.waiting ≡ false → Advances h.source.phase h.source r s' → Finds h.source r s'
+pub finds : (s : InputPast) (h : InputView) (s' : SourceView) (r : Result Bool Fault) → At s h → h.waiting ≡ false → Advances h.source.phase h.source
+    r s' → Finds h.source r s'
 finds s h s' r at waits advances =
     let P : Bool → Type 0 = λ b. IsAt s.text s.done s.packets b h.source in
     Advances-sound s.text s.done s.packets h.source s' r (subst P waits at) advances

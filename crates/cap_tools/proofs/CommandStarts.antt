@@ -1,6 +1,17 @@
 -- The job of a command of which nothing is done.
 use Rattle.cap_tools.proofs.Coming.{come-first}
-use Rattle.cap_tools.proofs.Common.{◌≡◌, inl, inr, ℕ, ◌+◌, ◌≤◌, Bool, true, not, List, [], map, length, None, Option, Result, Ok, Err, refl, sym, ap, arith, subst, ◌∙◌, nat_eq, nat_le, ◌&&◌, add-zero, DeviceFault, Stops, listing, Target, Capture, Text, Lines, target_at, written_to, failures_to, failures_by, Reports, is_text, written_by, MessagesView, is_proper, is_proper_edit, is_proper_print, most_inputs, IsCompiled, IsTold, Insn, Link, Turn, InTurn, Count, KeepAll, Call, JobView, JobEnd, first_job, state_at, end_message, end_of_write, end_status, fresh_inputs, nothing_done, order_of, InputsView, EndsList, ending, Assignment, Preparing, assignment, SelectorView, initial_state, CompileGives, DecidedBy, PreparesBy, PreparesOnly, RefusesStart, Refusal, refusal_status, IsReadyIf, IsSound, Some, spent_in, with_preparing, suc, ◌*◌, ◌^◌, ◌<◌, ◌∷◌, drop, Writing, HasWrittenTo, append-nil, IsAt-start, HasPackets-none, InputItems, sequence_in_turn, sequence_by_time, PacketOrder, ByTime, Policy, FreshInput, fresh_view, Future, AreInputsAfter, KnowGreatest, AreFutures, AreSettled, ended_count, inputs_with, inputs_left, input_items, steps_left_in, steps_left, most_steps, reads_of, most_turns, steps_owed_in_all, owed_in, PacketsDecided, false, ap₂, All, is_some, option_map, Content, empty, truth, Rule, by_reading, by_answer, AreNew, preparing_of, MakesStep}
+use Rattle.cap_tools.proofs.Common.{◌≡◌, inl, inr, ℕ, ◌+◌, ◌≤◌, Bool, true, not, List, [], map, length, None, Option, Result, Ok, Err, refl, sym, ap, arith}
+use Rattle.cap_tools.proofs.Common.{subst, ◌∙◌, nat_eq, nat_le, ◌&&◌, add-zero, DeviceFault, Stops, listing, Target, Capture, Text, Lines, target_at}
+use Rattle.cap_tools.proofs.Common.{written_to, failures_to, failures_by, Reports, is_text, written_by, MessagesView, is_proper, is_proper_edit}
+use Rattle.cap_tools.proofs.Common.{is_proper_print, most_inputs, IsCompiled, IsTold, Insn, Link, Turn, InTurn, Count, KeepAll, Call, JobView, JobEnd}
+use Rattle.cap_tools.proofs.Common.{first_job, state_at, end_message, end_of_write, end_status, fresh_inputs, nothing_done, order_of, InputsView, EndsList}
+use Rattle.cap_tools.proofs.Common.{ending, Assignment, Preparing, assignment, SelectorView, initial_state, CompileGives, DecidedBy, PreparesBy, PreparesOnly}
+use Rattle.cap_tools.proofs.Common.{RefusesStart, Refusal, refusal_status, IsReadyIf, IsSound, Some, spent_in, with_preparing, suc, ◌*◌, ◌^◌, ◌<◌, ◌∷◌, drop}
+use Rattle.cap_tools.proofs.Common.{Writing, HasWrittenTo, append-nil, IsAt-start, HasPackets-none, InputItems, sequence_in_turn, sequence_by_time, PacketOrder}
+use Rattle.cap_tools.proofs.Common.{ByTime, Policy, FreshInput, fresh_view, Future, AreInputsAfter, KnowGreatest, AreFutures, AreSettled, ended_count}
+use Rattle.cap_tools.proofs.Common.{inputs_with, inputs_left, input_items, steps_left_in, steps_left, most_steps, reads_of, most_turns, steps_owed_in_all}
+use Rattle.cap_tools.proofs.Common.{owed_in, PacketsDecided, false, ap₂, All, is_some, option_map, Content, empty, truth, Rule, by_reading, by_answer, AreNew}
+use Rattle.cap_tools.proofs.Common.{preparing_of, MakesStep}
 use Rattle.cap_tools.proofs.{Fetches.mk, Programs.new-for}
 use Rattle.std.proofs.lemmas.Bool.{and_parts, eqb-true, leb-true}
 use Rattle.cap_octet.specs.Device.{AppendsOrStops, failures_of}
@@ -12,7 +23,8 @@ start-following : (os : List FreshInput) → AreInputsAfter (map nothing_done os
 start-following [] = tt
 start-following (o ∷ os) = (IsAt-start o.text o.given o.failures o.sure, start-following os)
 
-start-wholes : (os : List FreshInput) (fs : List Future) → AreFutures (map fresh_view os) fs → inputs_with (map nothing_done os) (map fresh_view os) fs ≡ inputs_left (map fresh_view os) fs
+start-wholes : (os : List FreshInput) (fs : List Future) → AreFutures (map fresh_view os) fs → inputs_with (map nothing_done os) (map fresh_view os)
+    fs ≡ inputs_left (map fresh_view os) fs
 start-wholes [] [] fits = refl
 start-wholes [] (f ∷ fs) fits = absurd fits
 start-wholes (o ∷ os) [] fits = absurd fits
@@ -76,7 +88,9 @@ first-few order os = let e = start-owed os in let r = e.0 in let w = e.1 in omeg
 
 -- ---- the first step of a job, whose preparation was taken out
 
-pub first-step : (inputs_tell output_tells tells : Bool) (p : Preparing) (old : JobView) (r : Turn) (new : JobView) → IsFresh old → PreparesBy (Some p) output_tells tells (with_preparing (Some p) old) r new → KeepsFirst old r new → PreparesOnly old new → MakesStep inputs_tell output_tells tells (with_preparing (Some p) old) r new
+pub first-step : (inputs_tell output_tells tells : Bool) (p : Preparing) (old : JobView) (r : Turn) (new : JobView) → IsFresh old
+    → PreparesBy (Some p) output_tells tells (with_preparing (Some p) old) r new → KeepsFirst old r new → PreparesOnly old new
+    → MakesStep inputs_tell output_tells tells (with_preparing (Some p) old) r new
 first-step inputs_tell output_tells tells p old r new fresh prepares keeps only = record {
   after = λ s is. absurd (let both = sym fresh.done ∙ is in cc both);
   exact = λ ti to undone none. absurd (cc none);
@@ -86,14 +100,24 @@ first-step inputs_tell output_tells tells p old r new fresh prepares keeps only 
 }
 
 -- a refusal ends the job
-pub refused-step : (inputs_tell output_tells tells : Bool) (p : Preparing) (refusal : Refusal) (old : JobView) (r : Turn) (new : JobView) → IsFresh old → r ≡ Turn.Done (refusal_status refusal) → RefusesStart refusal tells old (refusal_status refusal) new
-    → (RefusesStart refusal tells (with_preparing (Some p) old) (refusal_status refusal) new → PreparesBy (Some p) output_tells tells (with_preparing (Some p) old) (Turn.Done (refusal_status refusal)) new) → KeepsFirst old r new → MakesStep inputs_tell output_tells tells (with_preparing (Some p) old) r new
+pub refused-step : (inputs_tell output_tells tells : Bool) (p : Preparing) (refusal : Refusal) (old : JobView) (r : Turn) (new : JobView)
+    → IsFresh old → r ≡ Turn.Done (refusal_status refusal) → RefusesStart refusal tells old (refusal_status refusal) new
+    → (RefusesStart refusal tells (with_preparing (Some p) old) (refusal_status refusal) new → PreparesBy (Some p) output_tells tells
+    (with_preparing (Some p) old) (Turn.Done (refusal_status refusal)) new) → KeepsFirst old r new → MakesStep inputs_tell output_tells tells
+    (with_preparing (Some p) old) r new
 refused-step inputs_tell output_tells tells p refusal old r new fresh is refuses gives keeps =
     let P : Turn → Type 0 = λ t. PreparesBy (Some p) output_tells tells (with_preparing (Some p) old) t new in
-    first-step inputs_tell output_tells tells p old r new fresh (subst P (sym is) (gives (record { status_is = refl; exact = refuses.exact; new_is = refuses.new_is }))) keeps
-    (record { inputs = ap (λ (j : JobView). j.state.inputs) refuses.new_is; decided = ap (λ (j : JobView). j.state.decided) refuses.new_is; unspent = ap (λ (j : JobView). spent_in j.programs) refuses.new_is })
+    first-step inputs_tell output_tells tells p old r new fresh
+    (subst P (sym is) (gives (record { status_is = refl; exact = refuses.exact; new_is = refuses.new_is }))) keeps
+    (record {
+      inputs = ap (λ (j : JobView). j.state.inputs) refuses.new_is;
+      decided = ap (λ (j : JobView). j.state.decided) refuses.new_is;
+      unspent =
+          ap (λ (j : JobView). spent_in j.programs) refuses.new_is;
+    })
 
-pub lists-some : (tells : Bool) (words : List ℕ) (link : Link) (prog : List Insn) (p : Option Preparing) (old new : JobView) (r : Turn) → IsCompiled words link prog → EndsList prog tells old r new → CompileGives words link tells (with_preparing p old) r new
+pub lists-some : (tells : Bool) (words : List ℕ) (link : Link) (prog : List Insn) (p : Option Preparing) (old new : JobView) (r : Turn)
+    → IsCompiled words link prog → EndsList prog tells old r new → CompileGives words link tells (with_preparing p old) r new
 lists-some tells words link prog p old new Turn.More compiled lists = lists
 lists-some tells words link prog p old new (Turn.Done status) compiled lists = inl (record {
   prog = prog;
@@ -109,7 +133,14 @@ pub made-no-step : (old now : JobView) (p : Preparing) → old ≡ now → IsSou
 made-no-step old now p is sound some = (let R : Option Preparing → Type 0 = λ o. IsReadyIf o old in subst R some sound.6)
 
 pub taken-fresh : (old now : JobView) (p : Option Preparing) → old ≡ now → IsFresh old → IsFresh (with_preparing p old)
-taken-fresh old now p is fresh = record { turns = fresh.turns; done = fresh.done; programs = fresh.programs; left = fresh.left; upper_bound = fresh.upper_bound }
+taken-fresh old now p is fresh = record {
+  turns = fresh.turns;
+  done = fresh.done;
+  programs = fresh.programs;
+  left = fresh.left;
+  upper_bound =
+      fresh.upper_bound;
+}
 
 -- the job before it was taken out
 pub untaken : (old now : JobView) (p : Option Preparing) → old ≡ now → old.preparing ≡ p → with_preparing p old ≡ now
@@ -129,7 +160,8 @@ few-inputs (Command.Print print) n is = one-input n (is_proper_print print) is
 few-inputs (Command.Compile compile) n is = let none = eqb-true n 0 is in omega (arith, none)
 
 -- the job that was made of these parts is that of the command
-pub first-made : {Z : Type 0} (c : Command Z) (call : Call) (a : Assignment) (inputs : InputsView) (selector : SelectorView) (messages : MessagesView) (target : Target)
+pub first-made : {Z : Type 0} (c : Command Z) (call : Call) (a : Assignment) (inputs : InputsView) (selector : SelectorView) (messages : MessagesView)
+    (target : Target)
     → a.preparing ≡ (assignment c).preparing → a.order ≡ (assignment c).order → a.policy ≡ (assignment c).policy → a.writing ≡ (assignment c).writing
     → inputs ≡ fresh_inputs a.order call.inputs → selector ≡ record { policy = a.policy; state = initial_state; programs = [] }
     → messages ≡ record { names = call.names; device = call.messages } → target ≡ target_at a.writing call.output.written call.output.failures call.room
@@ -150,32 +182,67 @@ pub first-ready : {Z : Type 0} (c : Command Z) (call : Call) → length call.inp
 first-ready (Command.Edit edit) call upper_bound = tt
 first-ready (Command.Merge merge) call upper_bound = tt
 first-ready Command.Infos call upper_bound = tt
-first-ready (Command.Print print) call upper_bound = record { turns = refl; done = refl; programs = refl; left = first-less (assignment (Command.Print print)).order call.inputs upper_bound; upper_bound = first-few (assignment (Command.Print print)).order call.inputs }
-first-ready (Command.Compile compile) call upper_bound =
-    (record { turns = refl; done = refl; programs = refl; left = first-less (assignment (Command.Compile compile)).order call.inputs upper_bound; upper_bound = first-few (assignment (Command.Compile compile)).order call.inputs }, refl)
+first-ready (Command.Print print) call upper_bound =
+    record {
+      turns = refl;
+      done = refl;
+      programs = refl;
+      left = first-less (assignment (Command.Print print)).order call.inputs upper_bound;
+      upper_bound = first-few (assignment (Command.Print print)).order call.inputs;
+    }
+first-ready (Command.Compile compile) call upper_bound = (
+  record {
+    turns = refl;
+    done = refl;
+    programs = refl;
+    left = first-less (assignment (Command.Compile compile)).order call.inputs upper_bound;
+    upper_bound = first-few (assignment (Command.Compile compile)).order call.inputs;
+  },
+  refl,
+)
 
 -- nothing is decided of the inputs
 pub first-decided : {Z : Type 0} (c : Command Z) (call : Call)
     → DecidedBy (assignment c).preparing (map nothing_done call.inputs) call.output.written (first_job (assignment c) call)
-first-decided (Command.Edit edit) call = record { packets = nothing-decided (assignment (Command.Edit edit)).order call.inputs call.output.written (assignment (Command.Edit edit)).policy call.names (assignment (Command.Edit edit)).writing call.output.failures call.room; programs = refl }
-first-decided (Command.Merge merge) call = record { packets = nothing-decided (order_of (not merge.append)) call.inputs call.output.written KeepAll call.names (Writing.Capture merge.format) call.output.failures call.room; programs = refl }
-first-decided Command.Infos call = record { packets = nothing-decided InTurn call.inputs call.output.written Count call.names Writing.Text call.output.failures call.room; programs = refl }
-first-decided (Command.Print print) call = λ rule is programs made. record { packets = nothing-decided (assignment (Command.Print print)).order call.inputs call.output.written _ call.names (assignment (Command.Print print)).writing call.output.failures call.room; programs = new-for rule programs made }
+first-decided (Command.Edit edit) call = record {
+  packets = nothing-decided (assignment (Command.Edit edit)).order call.inputs call.output.written
+      (assignment (Command.Edit edit)).policy call.names (assignment (Command.Edit edit)).writing call.output.failures call.room;
+  programs = refl;
+}
+first-decided (Command.Merge merge) call = record {
+  packets = nothing-decided (order_of (not merge.append)) call.inputs call.output.written KeepAll
+      call.names (Writing.Capture merge.format) call.output.failures call.room;
+  programs = refl;
+}
+first-decided Command.Infos call = record {
+  packets = nothing-decided InTurn call.inputs call.output.written Count call.names Writing.Text
+      call.output.failures call.room;
+  programs = refl;
+}
+first-decided (Command.Print print) call = λ rule is programs made. record {
+  packets = nothing-decided (assignment (Command.Print print)).order
+      call.inputs call.output.written _ call.names (assignment (Command.Print print)).writing call.output.failures call.room;
+  programs =
+      new-for rule programs made;
+}
 first-decided (Command.Compile compile) call = tt
 
 -- ---- a listing is written
 
 -- what is appended to a text, or that its device failed
-appended : (old new : Target) (bytes : List ℕ) (r : Result (Unit {0}) DeviceFault) → is_text old ≡ true → Reports bytes old r new → AppendsOrStops r (written_to old) bytes (written_to new) × (failures_to new ≡ failures_to old + failures_of r)
+appended : (old new : Target) (bytes : List ℕ) (r : Result (Unit {0}) DeviceFault) → is_text old ≡ true → Reports bytes old r new
+    → AppendsOrStops r (written_to old) bytes (written_to new) × (failures_to new ≡ failures_to old + failures_of r)
 appended (Capture sink) new bytes r text to = (cc)
 appended (Lines options written failures room) new bytes r text to = (cc)
 appended (Text written failures room) new bytes r text to =
     let P : Target → Type 0 = λ t. AppendsOrStops r written bytes (written_to t) × (failures_to t ≡ failures + failures_of r) in
     subst P (sym to.is) (to.appends, refl)
 
-pub listed : (insns : List Insn) (tells : Bool) (old new : JobView) (output : Target) (r : Result (Unit {0}) DeviceFault) → is_text old.state.output ≡ true → Reports (listing insns) old.state.output r output
+pub listed : (insns : List Insn) (tells : Bool) (old new : JobView) (output : Target) (r : Result (Unit {0}) DeviceFault) → is_text old.state.output ≡
+    true → Reports (listing insns) old.state.output r output
     → new ≡ ending (end_of_write r) new.err (record old { state = record old.state { output = output } })
-    → IsTold tells old.err (end_message old.state.names old.state.inputs.cursors (end_of_write r)) new.err → (end_of_write r ≡ JobEnd.Complete → new.err ≡ old.err) → EndsList insns tells old (Turn.Done (end_status (end_of_write r))) new
+    → IsTold tells old.err (end_message old.state.names old.state.inputs.cursors (end_of_write r)) new.err
+    → (end_of_write r ≡ JobEnd.Complete → new.err ≡ old.err) → EndsList insns tells old (Turn.Done (end_status (end_of_write r))) new
 listed insns tells old new output (Ok done) text lists is told quiet =
     let to = appended old.state.output output (listing insns) (Ok done) text lists in
     inl (record {

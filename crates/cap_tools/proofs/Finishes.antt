@@ -1,11 +1,20 @@
 -- The step that ends the output.
 use Rattle.cap_tools.proofs.Coming.{true-whole, true-wholes, true-fit, true-fits, At}
-use Rattle.cap_tools.proofs.Common.{None, all_ends, ◌≡◌, ℕ, ◌+◌, List, [], ◌∷◌, ◌++◌, map, Option, Some, Result, Ok, Err, refl, sym, ◌∙◌, ap, subst, add-zero, append-nil, option_or, Stops, Captured, DeviceFault, Fault, WriteFailed, first_link_of, items, SinkView, FinishesEmpty, HasPackets, link_or_ethernet, file_start, text, Ended, finish-none, finish-none-writes, finish-some, Report, Event, InputItems, Complete, sequence_of, with_front, PacketOrder, Policy, SelectorState, AsCapture, JobProgress, closing_text, lines_text, end_with, final_text, first_link, Target, Capture, Text, Lines, HasWrittenTo, form_to, written_to, failures_to, EndsOutput, FinishesInto, InputView, Future, InputPast, AreInputsAfter, IsNext, AllEnded, actual_future, first_declared_link, next-is-of, reports_text, JobState, PacketsDecided, EndLeaves, end_of_write, StopsWriting, progress_at, progress_of, progress_over, wholes_of, Next}
+use Rattle.cap_tools.proofs.Common.{None, all_ends, ◌≡◌, ℕ, ◌+◌, List, [], ◌∷◌, ◌++◌, map, Option, Some, Result, Ok, Err, refl, sym, ◌∙◌, ap, subst, add-zero}
+use Rattle.cap_tools.proofs.Common.{append-nil, option_or, Stops, Captured, DeviceFault, Fault, WriteFailed, first_link_of, items, SinkView, FinishesEmpty}
+use Rattle.cap_tools.proofs.Common.{HasPackets, link_or_ethernet, file_start, text, Ended, finish-none, finish-none-writes, finish-some, Report, Event}
+use Rattle.cap_tools.proofs.Common.{InputItems, Complete, sequence_of, with_front, PacketOrder, Policy, SelectorState, AsCapture, JobProgress, closing_text}
+use Rattle.cap_tools.proofs.Common.{lines_text, end_with, final_text, first_link, Target, Capture, Text, Lines, HasWrittenTo, form_to, written_to, failures_to}
+use Rattle.cap_tools.proofs.Common.{EndsOutput, FinishesInto, InputView, Future, InputPast, AreInputsAfter, IsNext, AllEnded, actual_future}
+use Rattle.cap_tools.proofs.Common.{first_declared_link, next-is-of, reports_text, JobState, PacketsDecided, EndLeaves, end_of_write, StopsWriting, progress_at}
+use Rattle.cap_tools.proofs.Common.{progress_of, progress_over, wholes_of, Next}
 use Rattle.cap_tools.proofs.{Fetches.mk, Fetches.inputs_at, Laws.OverAt, Laws.over-at}
 use Rattle.cap_tools.proofs.Nexts.{all-course, stops-at, once-closing}
 
 -- all events came
-over-all : (ss : List InputPast) (before : List ℕ) (cursors : List InputView) (order : PacketOrder) (policy : Policy) (state : SelectorState) (names : List (List ℕ)) (output : Target) (decided : ℕ) → OverAt order cursors → (d : PacketsDecided ss before (mk cursors order policy state names output decided))
+over-all : (ss : List InputPast) (before : List ℕ) (cursors : List InputView) (order : PacketOrder) (policy : Policy) (state : SelectorState)
+    (names : List (List ℕ)) (output : Target) (decided : ℕ) → OverAt order cursors
+    → (d : PacketsDecided ss before (mk cursors order policy state names output decided))
     → sequence_of order (wholes_of ss) ≡ record { events = d.events; end = Complete }
 over-all ss before cursors order policy state names output decided at d =
     let fits = true-fits ss cursors d.following in
@@ -31,7 +40,8 @@ abbrev over : JobState → List Captured → List Report → JobProgress
 over m packets reports = end_with (progress_at m packets reports) Complete
 
 -- what is written of a job that met its clean end
-finish-text : (before : List ℕ) (names : List (List ℕ)) (ps : List Captured) (rs : List Report) (n : ℕ) (state : SelectorState) (target new : Target) (link : Option ℕ) → HasWrittenTo before names target ps rs → EndsOutput link target (Ok tt) new
+finish-text : (before : List ℕ) (names : List (List ℕ)) (ps : List Captured) (rs : List Report) (n : ℕ) (state : SelectorState) (target new : Target)
+    (link : Option ℕ) → HasWrittenTo before names target ps rs → EndsOutput link target (Ok tt) new
     → written_to new ≡ before ++ final_text (form_to names target) link (record { decided = n; state = state; packets = ps; reports = rs; end = Some Complete })
 finish-text before names [] rs n state (Capture sink) new link has finishes =
     ap written_to finishes.is
@@ -39,14 +49,16 @@ finish-text before names [] rs n state (Capture sink) new link has finishes =
     ∙ ap (λ (l : List ℕ). l ++ file_start sink.format (link_or_ethernet link)) (has.written ∙ append-nil before)
 finish-text before names (q ∷ qs) rs n state (Capture sink) new link has finishes =
     let same = finish-some before q qs sink link (Ok tt) finishes.sink has finishes.finishes in
-    ap written_to finishes.is ∙ ap (λ (v : SinkView). v.written) same.1 ∙ has.written ∙ ap (λ (l : List ℕ). before ++ l) (sym (append-nil (text sink.format (q ∷ qs))))
+    ap written_to finishes.is ∙ ap (λ (v : SinkView). v.written) same.1 ∙ has.written ∙ ap (λ (l : List ℕ). before ++ l)
+    (sym (append-nil (text sink.format (q ∷ qs))))
 finish-text before names ps rs n state (Text bytes failures room) new link has finishes =
     ap written_to finishes.1 ∙ has ∙ ap (λ (l : List ℕ). before ++ l) (sym (append-nil (reports_text names rs)))
 finish-text before names ps rs n state (Lines options bytes failures room) new link has finishes =
     ap written_to finishes.1 ∙ has ∙ ap (λ (l : List ℕ). before ++ l) (sym (append-nil (lines_text options ps)))
 
 -- it is written without a failure
-finish-device : (before : List ℕ) (names : List (List ℕ)) (ps : List Captured) (rs : List Report) (target new : Target) (link : Option ℕ) → HasWrittenTo before names target ps rs → EndsOutput link target (Ok tt) new
+finish-device : (before : List ℕ) (names : List (List ℕ)) (ps : List Captured) (rs : List Report) (target new : Target) (link : Option ℕ)
+    → HasWrittenTo before names target ps rs → EndsOutput link target (Ok tt) new
     → failures_to new ≡ failures_to target
 finish-device before names [] rs (Capture sink) new link has finishes =
     let empty : FinishesEmpty sink (link_or_ethernet link) (Ok tt) finishes.sink = finish-none before sink link (Ok tt) finishes.sink has finishes.finishes in
@@ -63,12 +75,14 @@ record StopsEmpty (before : List ℕ) (sink : SinkView) (packets : List Captured
   pub failures : failures_to new ≡ sink.failures + 1
   pub stops : Stops sink.written (file_start sink.format (link_or_ethernet link)) (written_to new)
 
-finish-empty : (before : List ℕ) (sink : SinkView) (packets : List Captured) (link : Option ℕ) (fault : Fault) (new : Target) → HasPackets before sink packets → FinishesInto link sink (Err fault) new
+finish-empty : (before : List ℕ) (sink : SinkView) (packets : List Captured) (link : Option ℕ) (fault : Fault) (new : Target) → HasPackets before sink
+    packets → FinishesInto link sink (Err fault) new
     → StopsEmpty before sink packets link new
 finish-empty before sink (q ∷ qs) link fault new has finishes =
     absurd (let same = finish-some before q qs sink link (Err fault) finishes.sink has finishes.finishes in let e = same.0 in cc)
 finish-empty before sink [] link fault new has finishes =
-    let empty : FinishesEmpty sink (link_or_ethernet link) (Err fault) finishes.sink = finish-none before sink link (Err fault) finishes.sink has finishes.finishes in
+    let empty : FinishesEmpty sink (link_or_ethernet link) (Err fault) finishes.sink = finish-none before sink link (Err fault) finishes.sink has
+    finishes.finishes in
     let exact : fault ≡ WriteFailed = empty.answer in
     let failed : finishes.sink.failures ≡ sink.failures + 1 = rw exact at empty.failures in
     let S : Target → Type 0 = λ t. Stops sink.written (file_start sink.format (link_or_ethernet link)) (written_to t) in
@@ -78,24 +92,36 @@ finish-empty before sink [] link fault new has finishes =
       stops = subst S (sym finishes.is) (finish-none-writes before sink link (Err fault) finishes.sink has finishes.writes);
     }
 
-finish-stops : (ss : List InputPast) (before : List ℕ) (names : List (List ℕ)) (target : Target) (cursors : List InputView) (order : PacketOrder) (policy : Policy) (state : SelectorState) (decided : ℕ) (fault : DeviceFault) (new : JobState)
+finish-stops : (ss : List InputPast) (before : List ℕ) (names : List (List ℕ)) (target : Target) (cursors : List InputView) (order : PacketOrder)
+    (policy : Policy) (state : SelectorState) (decided : ℕ) (fault : DeviceFault) (new : JobState)
     → (d : PacketsDecided ss before (mk cursors order policy state names target decided))
     → sequence_of order (wholes_of ss) ≡ record { events = d.events; end = Complete }
-    → first_link (wholes_of ss) ≡ first_declared_link cursors → IsNext (inputs_at order cursors) Next.Finish → new.inputs ≡ record { order = order; cursors = cursors } → EndsOutput (first_declared_link cursors) target (Err fault) new.output
+    → first_link (wholes_of ss) ≡ first_declared_link cursors → IsNext (inputs_at order cursors) Next.Finish
+    → new.inputs ≡ record { order = order; cursors = cursors } → EndsOutput (first_declared_link cursors) target (Err fault) new.output
     → StopsWriting d new
-finish-stops ss before names (Text bytes failures room) cursors order policy state decided fault new d all link tells inputs finishes = absurd (let e = finishes.0 in cc)
-finish-stops ss before names (Lines options bytes failures room) cursors order policy state decided fault new d all link tells inputs finishes = absurd (let e = finishes.0 in cc)
+finish-stops ss before names (Text bytes failures room) cursors order policy state decided fault new d all link tells inputs finishes =
+    absurd (let e = finishes.0 in cc)
+finish-stops ss before names (Lines options bytes failures room) cursors order policy state decided fault new d all link tells inputs finishes =
+    absurd (let e = finishes.0 in cc)
 finish-stops ss before names (Capture sink) cursors order policy state decided fault new d all link tells inputs finishes =
-    let empty : StopsEmpty before sink d.packets (first_declared_link cursors) new.output = finish-empty before sink d.packets (first_declared_link cursors) finishes.0 new.output d.output finishes.1 in
+    let empty : StopsEmpty before sink d.packets (first_declared_link cursors) new.output = finish-empty before sink d.packets
+    (first_declared_link cursors) finishes.0 new.output d.output finishes.1 in
     let bytes : List ℕ = file_start sink.format (link_or_ethernet (first_declared_link cursors)) in
     let closing_is : bytes ≡ closing_text (AsCapture sink.format) (first_link (wholes_of ss)) d.packets =
-    ap (λ (o : Option ℕ). file_start sink.format (link_or_ethernet o)) (sym link) ∙ ap (closing_text (AsCapture sink.format) (first_link (wholes_of ss))) (sym empty.none) in
-    stops-at ss before (mk cursors order policy state names (Capture sink) decided) new bytes d None (all_ends (next-is-of (inputs_at order cursors) Next.Finish tells) inputs)
-    (record { is = all; goes = ap (λ (w : JobProgress). w.end) d.progress }, closing_is ∙ ap (λ (w : JobProgress). closing_text (AsCapture sink.format) (first_link (wholes_of ss)) w.packets) (sym d.progress))
+    ap (λ (o : Option ℕ). file_start sink.format (link_or_ethernet o)) (sym link)
+    ∙ ap (closing_text (AsCapture sink.format) (first_link (wholes_of ss))) (sym empty.none) in
+    stops-at ss before (mk cursors order policy state names (Capture sink) decided) new bytes d None
+    (all_ends (next-is-of (inputs_at order cursors) Next.Finish tells) inputs) (
+      record { is = all; goes = ap (λ (w : JobProgress). w.end) d.progress },
+      closing_is
+          ∙ ap (λ (w : JobProgress). closing_text (AsCapture sink.format) (first_link (wholes_of ss)) w.packets) (sym d.progress),
+    )
     empty.stops empty.failures
 
-pub finish-leaves : (ss : List InputPast) (before : List ℕ) (cursors : List InputView) (order : PacketOrder) (policy : Policy) (state : SelectorState) (names : List (List ℕ)) (output : Target) (decided : ℕ) (r : Result (Unit {0}) DeviceFault) (new : JobState)
-    → IsNext (inputs_at order cursors) Next.Finish → new.inputs ≡ record { order = order; cursors = cursors } → EndsOutput (first_declared_link cursors) output r new.output → (d : PacketsDecided ss before (mk cursors order policy state names output decided))
+pub finish-leaves : (ss : List InputPast) (before : List ℕ) (cursors : List InputView) (order : PacketOrder) (policy : Policy) (state : SelectorState)
+    (names : List (List ℕ)) (output : Target) (decided : ℕ) (r : Result (Unit {0}) DeviceFault) (new : JobState)
+    → IsNext (inputs_at order cursors) Next.Finish → new.inputs ≡ record { order = order; cursors = cursors }
+    → EndsOutput (first_declared_link cursors) output r new.output → (d : PacketsDecided ss before (mk cursors order policy state names output decided))
     → EndLeaves d (end_of_write r) new
 finish-leaves ss before cursors order policy state names output decided (Ok done) new tells inputs finishes d =
     let at : OverAt order cursors = over-at order cursors tells in
@@ -114,4 +140,5 @@ finish-leaves ss before cursors order policy state names output decided (Ok done
     }
 finish-leaves ss before cursors order policy state names output decided (Err fault) new tells inputs finishes d =
     let at : OverAt order cursors = over-at order cursors tells in
-    finish-stops ss before names output cursors order policy state decided fault new d (over-all ss before cursors order policy state names output decided at d) (links ss cursors d.following at.ended) tells inputs finishes
+    finish-stops ss before names output cursors order policy state decided fault new d
+    (over-all ss before cursors order policy state names output decided at d) (links ss cursors d.following at.ended) tells inputs finishes

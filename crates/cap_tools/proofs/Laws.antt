@@ -1,6 +1,13 @@
 -- What a place says of what is left, for inputs in turn and for a merge.
 use Rattle.cap_tools.proofs.Coming.{from_turn, left-decided, turn-closes, turn-broken, hand_is, At, Fit, fits-join, rests-join, rests-length}
-use Rattle.cap_tools.proofs.Common.{append-nil, ◌≡◌, inl, inr, ℕ, zero, suc, ◌+◌, ◌≤◌, Bool, true, false, cond, not, max, List, [], ◌∷◌, ◌++◌, length, drop, Option, None, Some, refl, sym, ◌∙◌, ap, arith, subst, Captured, Fault, Kind, Declared, Items, no_items, kind_of, IsAt, Phase, Ended, InputItems, Event, Packet, InputEnd, SequenceEnd, Complete, FaultIn, PacketOrder, InTurn, ByTime, with_front, sequence_in_turn, sequence_by_time, fault_without_packets, sequence_of_entries, sort_entries, all_entries, unless_fault, Policy, Form, JobProgress, apply_events, end_input, unless_ended, InputView, InputPast, Future, AreFutures, AreInputsAfter, IsInput, ended_count, input_after_decided, is_open, items_left, inputs_left, key_of, sequence_left, packet_time, AllEnded, AllReady, IsNextIn, IsOpen, IsReady, KeysFrom, NoneEnded, NoneWaits, count-open, count-all, merged-broken, Placed, after_packets, first_end, waiting_packets, no_future, IsFrom, end_at, AllFrom, merged-next, Next}
+use Rattle.cap_tools.proofs.Common.{append-nil, ◌≡◌, inl, inr, ℕ, zero, suc, ◌+◌, ◌≤◌, Bool, true, false, cond, not, max, List, [], ◌∷◌, ◌++◌, length, drop}
+use Rattle.cap_tools.proofs.Common.{Option, None, Some, refl, sym, ◌∙◌, ap, arith, subst, Captured, Fault, Kind, Declared, Items, no_items, kind_of, IsAt}
+use Rattle.cap_tools.proofs.Common.{Phase, Ended, InputItems, Event, Packet, InputEnd, SequenceEnd, Complete, FaultIn, PacketOrder, InTurn, ByTime, with_front}
+use Rattle.cap_tools.proofs.Common.{sequence_in_turn, sequence_by_time, fault_without_packets, sequence_of_entries, sort_entries, all_entries, unless_fault}
+use Rattle.cap_tools.proofs.Common.{Policy, Form, JobProgress, apply_events, end_input, unless_ended, InputView, InputPast, Future, AreFutures, AreInputsAfter}
+use Rattle.cap_tools.proofs.Common.{IsInput, ended_count, input_after_decided, is_open, items_left, inputs_left, key_of, sequence_left, packet_time, AllEnded}
+use Rattle.cap_tools.proofs.Common.{AllReady, IsNextIn, IsOpen, IsReady, KeysFrom, NoneEnded, NoneWaits, count-open, count-all, merged-broken, Placed}
+use Rattle.cap_tools.proofs.Common.{after_packets, first_end, waiting_packets, no_future, IsFrom, end_at, AllFrom, merged-next, Next}
 
 -- a packet waits, whose greatest time so far is at least the key; or the input is at its clean end
 pub data InputFrom (k : ℕ) (h : InputView) : Type 0 where
@@ -14,19 +21,23 @@ InputsFrom k (h ∷ hs) = InputFrom k h × InputsFrom k hs
 abbrev first_is : InputView → Captured → Placed
 first_is h p = record { offset = h.source.offset; packet = p }
 
-pub waiting-rest : (h : InputView) (p : Captured) (f : Future) → h.waiting ≡ true → h.source.packet ≡ Some p → (items_left h f).items ≡ after_packets (first_is h p ∷ []) f.items
+pub waiting-rest : (h : InputView) (p : Captured) (f : Future) → h.waiting ≡ true → h.source.packet ≡ Some p → (items_left h f).items ≡ after_packets
+    (first_is h p ∷ []) f.items
 waiting-rest h p f waits held = ap (λ (l : List Placed). after_packets l f.items) (ap (λ b. waiting_packets b h.source) waits ∙ hand_is h.source p held)
 
 pub ended-rest : (h : InputView) (f : Future) → h.waiting ≡ false → h.source.phase ≡ Ended → Fit h f → (items_left h f).items ≡ (no_future h.source).items
 ended-rest h f waits e fit = ap (λ b. after_packets (waiting_packets b h.source) f.items) waits ∙ ap (λ (g : Future). g.items) (fit e)
 
 from-one : (k : ℕ) (h : InputView) (f : Future) → InputFrom k h → Fit h f → IsFrom k h.greatest (items_left h f).items.packets
-from-one k h f (waits_from p waits held less) fit = let P : Items → Type 0 = λ i. IsFrom k h.greatest i.packets in subst P (sym (waiting-rest h p f waits held)) less
+from-one k h f (waits_from p waits held less) fit = let P : Items → Type 0 = λ i. IsFrom k h.greatest i.packets in
+    subst P (sym (waiting-rest h p f waits held)) less
 from-one k h f (ended_from waits e) fit = let P : Items → Type 0 = λ i. IsFrom k h.greatest i.packets in subst P (sym (ended-rest h f waits e fit)) tt
 
 whole-one : (k n : ℕ) (h : InputView) (f : Future) → InputFrom k h → Fit h f → end_at n (items_left h f) ≡ Complete
-whole-one k n h f (waits_from p waits held less) fit = ap (λ (i : Items). end_at n (record { greatest = h.greatest; items = i; size = f.size })) (waiting-rest h p f waits held)
-whole-one k n h f (ended_from waits e) fit = ap (λ (i : Items). end_at n (record { greatest = h.greatest; items = i; size = f.size })) (ended-rest h f waits e fit)
+whole-one k n h f (waits_from p waits held less) fit = ap (λ (i : Items). end_at n (record { greatest = h.greatest; items = i; size = f.size }))
+    (waiting-rest h p f waits held)
+whole-one k n h f (ended_from waits e) fit = ap (λ (i : Items). end_at n (record { greatest = h.greatest; items = i; size = f.size }))
+    (ended-rest h f waits e fit)
 
 pub all-from : (k : ℕ) (hs : List InputView) (fs : List Future) → InputsFrom k hs → AreFutures hs fs → AllFrom k (inputs_left hs fs)
 all-from k [] [] from fits = tt
@@ -35,24 +46,38 @@ all-from k (h ∷ hs) [] from fits = absurd fits
 all-from k (h ∷ hs) (f ∷ fs) from fits = (from-one k h f from.0 fits.0, all-from k hs fs from.1 fits.1)
 
 -- where no input has to be read none ends by a fault, whatever comes
-pub none-broken : (k n : ℕ) (hs : List InputView) (fs : List Future) → InputsFrom k hs → AreFutures hs fs → fault_without_packets n (inputs_left hs fs) ≡ Complete
+pub none-broken : (k n : ℕ) (hs : List InputView) (fs : List Future) → InputsFrom k hs → AreFutures hs fs → fault_without_packets n
+    (inputs_left hs fs) ≡ Complete
 none-broken k n [] [] from fits = refl
 none-broken k n [] (f ∷ fs) from fits = absurd fits
 none-broken k n (h ∷ hs) [] from fits = absurd fits
-none-broken k n (h ∷ hs) (f ∷ fs) from fits = ap (λ (c : SequenceEnd). first_end c (fault_without_packets (n + 1) (inputs_left hs fs))) (whole-one k n h f from.0 fits.0) ∙ none-broken k (n + 1) hs fs from.1 fits.1
+none-broken k n (h ∷ hs) (f ∷ fs) from fits = ap (λ (c : SequenceEnd). first_end c (fault_without_packets (n + 1) (inputs_left hs fs)))
+    (whole-one k n h f from.0 fits.0) ∙ none-broken k (n + 1) hs fs from.1 fits.1
 
 -- the input with the least key, the lowest input of those, is decided: whatever comes, its packet
 -- is next
 pub merge-decides : (xs ys : List InputView) (h : InputView) (p : Captured) (fs gs : List Future) (f : Future) → h.waiting ≡ true → h.source.packet ≡ Some p
-    → InputsFrom (max h.greatest p.time + 1) xs → InputsFrom (max h.greatest p.time) ys → AreFutures xs fs → AreFutures ys gs → fault_without_packets 0 (inputs_left xs fs ++ items_left h f ∷ inputs_left ys gs) ≡ Complete
-    → sequence_by_time (inputs_left xs fs ++ items_left h f ∷ inputs_left ys gs) ≡ with_front (Packet (length (inputs_left xs fs)) (first_is h p) ∷ []) (sequence_by_time (inputs_left xs fs ++ items_left (input_after_decided h) f ∷ inputs_left ys gs))
+    → InputsFrom (max h.greatest p.time + 1) xs → InputsFrom (max h.greatest p.time) ys → AreFutures xs fs → AreFutures ys gs
+    → fault_without_packets 0 (inputs_left xs fs ++ items_left h f ∷ inputs_left ys gs) ≡ Complete
+    → sequence_by_time (inputs_left xs fs ++ items_left h f ∷ inputs_left ys gs) ≡ with_front
+    (Packet (length (inputs_left xs fs)) (first_is h p) ∷ [])
+    (sequence_by_time (inputs_left xs fs ++ items_left (input_after_decided h) f ∷ inputs_left ys gs))
 merge-decides xs ys h p fs gs f waits held over from fits_x fits_y whole =
     let is = waiting-rest h p f waits held in
     let key : max h.greatest p.time ≡ (input_after_decided h).greatest = rw held refl in
-    merged-next (inputs_left xs fs) (inputs_left ys gs) h.greatest (first_is h p) (items_left h f).items f.items.packets f.size (ap (λ (i : Items). i.packets) is) whole
+    merged-next (inputs_left xs fs) (inputs_left ys gs) h.greatest (first_is h p) (items_left h f).items f.items.packets f.size
+    (ap (λ (i : Items). i.packets) is) whole
     (all-from (max h.greatest p.time + 1) xs fs over fits_x) (all-from (max h.greatest p.time) ys gs from fits_y)
-    ∙ ap (λ (i : Items). with_front (Packet (length (inputs_left xs fs)) (first_is h p) ∷ []) (sequence_by_time (inputs_left xs fs ++ record { greatest = max h.greatest p.time; items = record { packets = f.items.packets; declared = i.declared; ending = i.ending }; size = f.size } ∷ inputs_left ys gs))) is
-    ∙ ap (λ n. with_front (Packet (length (inputs_left xs fs)) (first_is h p) ∷ []) (sequence_by_time (inputs_left xs fs ++ record { greatest = n; items = f.items; size = f.size } ∷ inputs_left ys gs))) key
+    ∙ ap (λ (i : Items). with_front (Packet (length (inputs_left xs fs)) (first_is h p) ∷ [])
+    (sequence_by_time (inputs_left xs fs
+    ++ record {
+      greatest = max h.greatest p.time;
+      items = record { packets = f.items.packets; declared = i.declared; ending = i.ending };
+      size =
+          f.size;
+    } ∷ inputs_left ys gs))) is
+    ∙ ap (λ n. with_front (Packet (length (inputs_left xs fs)) (first_is h p) ∷ [])
+    (sequence_by_time (inputs_left xs fs ++ record { greatest = n; items = f.items; size = f.size } ∷ inputs_left ys gs))) key
 
 -- ---- which inputs are ready
 
@@ -123,12 +148,17 @@ pub record ReadLaws (order : PacketOrder) (i : ℕ) (xs ys : List InputView) (h 
   pub closed_one : order ≡ InTurn → (kind : Option Kind) (size : ℕ) → closed_events kind size ≡ InputEnd i kind size ∷ []
   pub closed_left : (h' : InputView) → h'.source.phase ≡ Ended → (declared : Declared) (g size : ℕ) (fs gs : List Future) → AreFutures xs fs → AreFutures ys gs
       → sequence_left order (xs ++ h ∷ ys) (inputs_left xs fs ++ record { greatest = g; items = no_items declared None 0; size = size } ∷ inputs_left ys gs)
-      ≡ with_front (closed_events (kind_of declared) size) (sequence_left order (xs ++ h' ∷ ys) (inputs_left xs fs ++ record { greatest = g; items = no_items declared None 0; size = size } ∷ inputs_left ys gs))
-  pub closed_way : (policy : Policy) (form : Form) (w : JobProgress) (kind : Option Kind) (size : ℕ) → w.end ≡ None → apply_events policy form w (closed_events kind size) ≡ closed_in order policy w i kind size
+      ≡ with_front (closed_events (kind_of declared) size)
+      (sequence_left order (xs ++ h' ∷ ys) (inputs_left xs fs ++ record { greatest = g; items = no_items declared None 0; size = size } ∷
+      inputs_left ys gs))
+  pub closed_way : (policy : Policy) (form : Form) (w : JobProgress) (kind : Option Kind) (size : ℕ) → w.end ≡ None → apply_events policy form w
+      (closed_events kind size) ≡ closed_in order policy w i kind size
   pub broken_left : (declared : Declared) (fault : Fault) (offset g size : ℕ) (fs gs : List Future) → AreFutures xs fs → AreFutures ys gs
-      → sequence_left order (xs ++ h ∷ ys) (inputs_left xs fs ++ record { greatest = g; items = no_items declared (Some fault) offset; size = size } ∷ inputs_left ys gs) ≡ record { events = []; end = FaultIn i fault offset }
+      → sequence_left order (xs ++ h ∷ ys) (inputs_left xs fs ++ record { greatest = g; items = no_items declared (Some fault) offset; size = size } ∷
+      inputs_left ys gs) ≡ record { events = []; end = FaultIn i fault offset }
 
-turn-reads : (i : ℕ) (xs ys : List InputView) (h : InputView) → length xs ≡ i → h.waiting ≡ false → IsOpen h → AllEnded xs → NoneEnded ys → ReadLaws InTurn i xs ys h
+turn-reads : (i : ℕ) (xs ys : List InputView) (h : InputView) → length xs ≡ i → h.waiting ≡ false → IsOpen h → AllEnded xs → NoneEnded ys
+    → ReadLaws InTurn i xs ys h
 turn-reads i xs ys h here waits on ended none = record {
   here = here;
   waits = waits;
@@ -138,7 +168,8 @@ turn-reads i xs ys h here waits on ended none = record {
   closed_left = λ h' e declared g size fs gs before with_back.
       let rs : List InputItems = inputs_left xs fs ++ record { greatest = g; items = no_items declared None 0; size = size } ∷ inputs_left ys gs in
       at rs
-      ∙ turn-closes i g g declared size (record { greatest = g; items = no_items declared None 0; size = size }) (inputs_left xs fs) (inputs_left ys gs) (rests-length xs fs before ∙ here)
+      ∙ turn-closes i g g declared size (record { greatest = g; items = no_items declared None 0; size = size }) (inputs_left xs fs)
+      (inputs_left ys gs) (rests-length xs fs before ∙ here)
       ∙ ap (λ n. with_front (InputEnd i (kind_of declared) size ∷ []) (from_turn n rs)) (ap (λ n. n + 1) (sym here) ∙ sym (count-ended xs ys h' ended e none));
   closed_way = λ policy form w kind size on. ap (λ (o : Option SequenceEnd). unless_ended o w (end_input policy w i kind size)) on;
   broken_left = λ declared fault offset g size fs gs before with_back.
@@ -149,10 +180,13 @@ turn-reads i xs ys h here waits on ended none = record {
     at : (rs : List InputItems) → sequence_left InTurn (xs ++ h ∷ ys) rs ≡ from_turn i rs
     at rs = ap (λ n. from_turn n rs) (count-open xs ys h ended on ∙ here)
 
-merge-breaks : (i : ℕ) (xs ys : List InputView) (declared : Declared) (fault : Fault) (offset g size : ℕ) (fs gs : List Future) → length xs ≡ i → InputsFrom 0 xs → AreFutures xs fs
-    → sequence_by_time (inputs_left xs fs ++ record { greatest = g; items = no_items declared (Some fault) offset; size = size } ∷ inputs_left ys gs) ≡ record { events = []; end = FaultIn i fault offset }
+merge-breaks : (i : ℕ) (xs ys : List InputView) (declared : Declared) (fault : Fault) (offset g size : ℕ) (fs gs : List Future) → length xs ≡ i
+    → InputsFrom 0 xs → AreFutures xs fs
+    → sequence_by_time (inputs_left xs fs ++ record { greatest = g; items = no_items declared (Some fault) offset; size = size } ∷ inputs_left ys
+    gs) ≡ record { events = []; end = FaultIn i fault offset }
 merge-breaks i xs ys declared fault offset g size fs gs here ready before =
-    merged-broken (inputs_left xs fs) (inputs_left ys gs) (record { greatest = g; items = no_items declared (Some fault) offset; size = size }) fault offset (none-broken 0 0 xs fs ready before) refl
+    merged-broken (inputs_left xs fs) (inputs_left ys gs) (record { greatest = g; items = no_items declared (Some fault) offset; size = size }) fault
+    offset (none-broken 0 0 xs fs ready before) refl
     ∙ ap (λ n. record { events = []; end = FaultIn n fault offset }) (rests-length xs fs before ∙ here)
 
 merge-reads : (i : ℕ) (xs ys : List InputView) (h : InputView) → length xs ≡ i → h.waiting ≡ false → InputsFrom 0 xs → ReadLaws ByTime i xs ys h
@@ -172,14 +206,20 @@ pub record ReadAt (order : PacketOrder) (cursors : List InputView) (i : ℕ) : T
   pub among : IsInput cursors i cursor
   pub laws : ReadLaws order i among.front among.back cursor
 
-pub read-at : (order : PacketOrder) (ss : List InputPast) (cursors : List InputView) (i : ℕ) → IsNextIn order cursors (Next.Read i) → AreInputsAfter ss cursors → ReadAt order cursors i
+pub read-at : (order : PacketOrder) (ss : List InputPast) (cursors : List InputView) (i : ℕ) → IsNextIn order cursors (Next.Read i)
+    → AreInputsAfter ss cursors → ReadAt order cursors i
 read-at InTurn ss cursors i tells following =
     let a = tells.among in
     record { cursor = tells.cursor; among = a; laws = turn-reads i a.front a.back tells.cursor a.place tells.waits tells.unended tells.front tells.back }
 read-at ByTime ss cursors i tells following =
     let a = tells.among in
     let P : List InputView → Type 0 = λ l. AreInputsAfter ss l in
-    record { cursor = tells.cursor; among = a; laws = merge-reads i a.front a.back tells.cursor a.place tells.waits (ready-front ss a.front (tells.cursor ∷ a.back) (subst P a.splits following) tells.front) }
+    record {
+      cursor = tells.cursor;
+      among = a;
+      laws = merge-reads i a.front a.back tells.cursor a.place tells.waits
+          (ready-front ss a.front (tells.cursor ∷ a.back) (subst P a.splits following) tells.front);
+    }
 
 -- ---- the current packet is decided
 
@@ -187,7 +227,9 @@ pub record DecideLaws (order : PacketOrder) (i : ℕ) (xs ys : List InputView) (
   pub here : length xs ≡ i
   pub waits : h.waiting ≡ true
   pub decided_left : (p : Captured) → h.source.packet ≡ Some p → (f : Future) → Fit h f → (fs gs : List Future) → AreFutures xs fs → AreFutures ys gs
-      → sequence_left order (xs ++ h ∷ ys) (inputs_left xs fs ++ items_left h f ∷ inputs_left ys gs) ≡ with_front (Packet i (record { offset = h.source.offset; packet = p }) ∷ []) (sequence_left order (xs ++ input_after_decided h ∷ ys) (inputs_left xs fs ++ items_left (input_after_decided h) f ∷ inputs_left ys gs))
+      → sequence_left order (xs ++ h ∷ ys) (inputs_left xs fs ++ items_left h f ∷ inputs_left ys gs) ≡ with_front
+      (Packet i (record { offset = h.source.offset; packet = p }) ∷ [])
+      (sequence_left order (xs ++ input_after_decided h ∷ ys) (inputs_left xs fs ++ items_left (input_after_decided h) f ∷ inputs_left ys gs))
 
 turn-decides : (i : ℕ) (xs ys : List InputView) (h : InputView) → length xs ≡ i → h.waiting ≡ true → IsOpen h → AllEnded xs → DecideLaws InTurn i xs ys h
 turn-decides i xs ys h here waits on ended = record {
@@ -198,23 +240,30 @@ turn-decides i xs ys h here waits on ended = record {
       let rs' : List InputItems = inputs_left xs fs ++ items_left (input_after_decided h) f ∷ inputs_left ys gs in
       ap (λ n. from_turn n rs) (count-open xs ys h ended on ∙ here)
       ∙ left-decided h i p waits held f (inputs_left xs fs) (inputs_left ys gs) (rests-length xs fs before ∙ here)
-      ∙ ap (λ n. with_front (Packet i (record { offset = h.source.offset; packet = p }) ∷ []) (from_turn n rs')) (sym (count-open xs ys (input_after_decided h) ended on ∙ here));
+      ∙ ap (λ n. with_front (Packet i (record { offset = h.source.offset; packet = p }) ∷ []) (from_turn n rs'))
+      (sym (count-open xs ys (input_after_decided h) ended on ∙ here));
 }
 
-merge-left : (i : ℕ) (xs ys : List InputView) (h : InputView) → length xs ≡ i → h.waiting ≡ true → InputsFrom 0 (xs ++ h ∷ ys) → KeysFrom (key_of h + 1) xs → KeysFrom (key_of h) ys
+merge-left : (i : ℕ) (xs ys : List InputView) (h : InputView) → length xs ≡ i → h.waiting ≡ true → InputsFrom 0 (xs ++ h ∷ ys)
+    → KeysFrom (key_of h + 1) xs → KeysFrom (key_of h) ys
     → (p : Captured) → h.source.packet ≡ Some p → (f : Future) → Fit h f → (fs gs : List Future) → AreFutures xs fs → AreFutures ys gs
-    → sequence_by_time (inputs_left xs fs ++ items_left h f ∷ inputs_left ys gs) ≡ with_front (Packet i (record { offset = h.source.offset; packet = p }) ∷ []) (sequence_by_time (inputs_left xs fs ++ items_left (input_after_decided h) f ∷ inputs_left ys gs))
+    → sequence_by_time (inputs_left xs fs ++ items_left h f ∷ inputs_left ys gs) ≡ with_front
+    (Packet i (record { offset = h.source.offset; packet = p }) ∷ [])
+    (sequence_by_time (inputs_left xs fs ++ items_left (input_after_decided h) f ∷ inputs_left ys gs))
 merge-left i xs ys h here waits ready over from p held f fit fs gs before after_fits =
     let r = ready-split xs ys h ready in
     let key : key_of h ≡ max h.greatest p.time = ap (λ (o : Option Captured). max h.greatest (packet_time o)) held in
     let O : ℕ → Type 0 = λ k. InputsFrom (k + 1) xs in
     let F : ℕ → Type 0 = λ k. InputsFrom k ys in
     let B : List InputItems → Type 0 = λ l. fault_without_packets 0 l ≡ Complete in
-    merge-decides xs ys h p fs gs f waits held (subst O key (from-of (key_of h + 1) xs over r.before)) (subst F key (from-of (key_of h) ys from r.following)) before after_fits
+    merge-decides xs ys h p fs gs f waits held (subst O key (from-of (key_of h + 1) xs over r.before))
+    (subst F key (from-of (key_of h) ys from r.following)) before after_fits
     (subst B (rests-join xs ys h fs gs f before) (none-broken 0 0 (xs ++ h ∷ ys) (fs ++ f ∷ gs) ready (fits-join xs ys h fs gs f before fit after_fits)))
-    ∙ ap (λ n. with_front (Packet n (record { offset = h.source.offset; packet = p }) ∷ []) (sequence_by_time (inputs_left xs fs ++ items_left (input_after_decided h) f ∷ inputs_left ys gs))) (rests-length xs fs before ∙ here)
+    ∙ ap (λ n. with_front (Packet n (record { offset = h.source.offset; packet = p }) ∷ [])
+    (sequence_by_time (inputs_left xs fs ++ items_left (input_after_decided h) f ∷ inputs_left ys gs))) (rests-length xs fs before ∙ here)
 
-merge-decide-laws : (i : ℕ) (xs ys : List InputView) (h : InputView) → length xs ≡ i → h.waiting ≡ true → InputsFrom 0 (xs ++ h ∷ ys) → KeysFrom (key_of h + 1) xs → KeysFrom (key_of h) ys → DecideLaws ByTime i xs ys h
+merge-decide-laws : (i : ℕ) (xs ys : List InputView) (h : InputView) → length xs ≡ i → h.waiting ≡ true → InputsFrom 0 (xs ++ h ∷ ys)
+    → KeysFrom (key_of h + 1) xs → KeysFrom (key_of h) ys → DecideLaws ByTime i xs ys h
 merge-decide-laws i xs ys h here waits ready over from = record {
   here = here;
   waits = waits;
@@ -226,7 +275,8 @@ pub record DecideAt (order : PacketOrder) (cursors : List InputView) (i : ℕ) :
   pub among : IsInput cursors i cursor
   pub laws : DecideLaws order i among.front among.back cursor
 
-pub decide-at : (order : PacketOrder) (ss : List InputPast) (cursors : List InputView) (i : ℕ) → IsNextIn order cursors (Next.Decide i) → AreInputsAfter ss cursors → DecideAt order cursors i
+pub decide-at : (order : PacketOrder) (ss : List InputPast) (cursors : List InputView) (i : ℕ) → IsNextIn order cursors (Next.Decide i)
+    → AreInputsAfter ss cursors → DecideAt order cursors i
 decide-at InTurn ss cursors i tells following =
     let a = tells.among in
     record { cursor = tells.cursor; among = a; laws = turn-decides i a.front a.back tells.cursor a.place tells.waits tells.unended tells.front }
@@ -234,7 +284,12 @@ decide-at ByTime ss cursors i tells following =
     let l = tells.1 in
     let a = l.among in
     let P : List InputView → Type 0 = λ v. InputsFrom 0 v in
-    record { cursor = l.cursor; among = a; laws = merge-decide-laws i a.front a.back l.cursor a.place l.waits (subst P a.splits (all-ready ss cursors following tells.0)) l.over l.from }
+    record {
+      cursor = l.cursor;
+      among = a;
+      laws = merge-decide-laws i a.front a.back l.cursor a.place l.waits
+          (subst P a.splits (all-ready ss cursors following tells.0)) l.over l.from;
+    }
 
 -- ---- nothing is left
 
@@ -273,6 +328,7 @@ over-at InTurn cursors ended = record {
 over-at ByTime cursors tells = record {
   ended = tells.1;
   over_left = λ fs fits.
-      ap (λ (c : SequenceEnd). unless_fault c (sequence_of_entries (sort_entries (all_entries 0 (inputs_left cursors fs))))) (none-broken 0 0 cursors fs (ended-from-all cursors tells.0 tells.1) fits)
+      ap (λ (c : SequenceEnd). unless_fault c (sequence_of_entries (sort_entries (all_entries 0 (inputs_left cursors fs)))))
+      (none-broken 0 0 cursors fs (ended-from-all cursors tells.0 tells.1) fits)
       ∙ ap (λ l. sequence_of_entries (sort_entries l)) (no-entries 0 cursors fs tells.0 tells.1 fits);
 }

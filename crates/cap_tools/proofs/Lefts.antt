@@ -1,5 +1,10 @@
 -- Each step leaves less to do, and is paid by what was read.
-use Rattle.cap_tools.proofs.Common.{◌≡◌, ℕ, ◌+◌, ◌*◌, ◌^◌, ◌<◌, ◌≤◌, suc, Bool, true, false, List, [], ◌∷◌, ◌++◌, length, Result, Ok, Err, refl, sym, ◌∙◌, ap, arith, length-append, slice_set, Fault, SourceView, Phase, Reading, Ended, Failed, Steps, end_offset, phase_after, PacketOrder, InTurn, ByTime, InputView, InputsView, IsInput, MarksDecided, ReadSteps, input_after, input_after_decided, input_steps_left, is_packet_found, steps_left_in, steps_owed, with_cursor, owed_by, steps_left, IsNext, IsNextIn, IsOpen, set-here, most_turns, reads_of, IsPaid, steps_owed_in_all, owed_in, Option, None, Some, most_steps, HasFewTurns, OutputView, Preparing, JobView, StepReads, reads_on, decides_one, leaves_one, reads_nothing, Next, IsCounted}
+use Rattle.cap_tools.proofs.Common.{◌≡◌, ℕ, ◌+◌, ◌*◌, ◌^◌, ◌<◌, ◌≤◌, suc, Bool, true, false, List, [], ◌∷◌, ◌++◌, length, Result, Ok, Err, refl, sym, ◌∙◌, ap}
+use Rattle.cap_tools.proofs.Common.{arith, length-append, slice_set, Fault, SourceView, Phase, Reading, Ended, Failed, Steps, end_offset, phase_after}
+use Rattle.cap_tools.proofs.Common.{PacketOrder, InTurn, ByTime, InputView, InputsView, IsInput, MarksDecided, ReadSteps, input_after, input_after_decided}
+use Rattle.cap_tools.proofs.Common.{input_steps_left, is_packet_found, steps_left_in, steps_owed, with_cursor, owed_by, steps_left, IsNext, IsNextIn, IsOpen}
+use Rattle.cap_tools.proofs.Common.{set-here, most_turns, reads_of, IsPaid, steps_owed_in_all, owed_in, Option, None, Some, most_steps, HasFewTurns, OutputView}
+use Rattle.cap_tools.proofs.Common.{Preparing, JobView, StepReads, reads_on, decides_one, leaves_one, reads_nothing, Next, IsCounted}
 use Rattle.cap_tools.proofs.Fetches.{among-same}
 use Rattle.std.specs.Prelude.{OnOk}
 
@@ -26,11 +31,15 @@ record Exchanged (cursors cursors' : List InputView) (h h' : InputView) : Type 0
 
 exchanged : (cursors : List InputView) (i : ℕ) (h h' : InputView) → IsInput cursors i h → Exchanged cursors (slice_set cursors i h') h h'
 exchanged cursors i h h' a =
-    let set : slice_set cursors i h' ≡ a.front ++ h' ∷ a.back = ap (λ (l : List InputView). slice_set l i h') a.splits ∙ set-here a.front a.back h h' i a.place in
-    let left : steps_left_in cursors ≡ steps_left_in a.front + (input_steps_left h + steps_left_in a.back) = ap steps_left_in a.splits ∙ left-append a.front (h ∷ a.back) in
-    let left' : steps_left_in (slice_set cursors i h') ≡ steps_left_in a.front + (input_steps_left h' + steps_left_in a.back) = ap steps_left_in set ∙ left-append a.front (h' ∷ a.back) in
+    let set : slice_set cursors i h' ≡ a.front ++ h' ∷ a.back = ap (λ (l : List InputView). slice_set l i h') a.splits ∙ set-here a.front a.back h h'
+    i a.place in
+    let left : steps_left_in cursors ≡ steps_left_in a.front + (input_steps_left h + steps_left_in a.back) = ap steps_left_in a.splits
+    ∙ left-append a.front (h ∷ a.back) in
+    let left' : steps_left_in (slice_set cursors i h') ≡ steps_left_in a.front + (input_steps_left h' + steps_left_in a.back) = ap steps_left_in set
+    ∙ left-append a.front (h' ∷ a.back) in
     let reads : reads_of cursors ≡ reads_of a.front + (end_offset h.source + reads_of a.back) = ap reads_of a.splits ∙ reads-append a.front (h ∷ a.back) in
-    let reads' : reads_of (slice_set cursors i h') ≡ reads_of a.front + (end_offset h'.source + reads_of a.back) = ap reads_of set ∙ reads-append a.front (h' ∷ a.back) in
+    let reads' : reads_of (slice_set cursors i h') ≡ reads_of a.front + (end_offset h'.source + reads_of a.back) = ap reads_of set
+    ∙ reads-append a.front (h' ∷ a.back) in
     let owes : owed_in cursors ≡ owed_in a.front + (owed_by h + owed_in a.back) = ap owed_in a.splits ∙ owed-append a.front (h ∷ a.back) in
     let owes' : owed_in (slice_set cursors i h') ≡ owed_in a.front + (owed_by h' + owed_in a.back) = ap owed_in set ∙ owed-append a.front (h' ∷ a.back) in
     let count : length cursors ≡ length a.front + suc (length a.back) = ap length a.splits ∙ length-append a.front (h ∷ a.back) in
@@ -65,7 +74,8 @@ to-read inputs i h tells a = by_order inputs.order tells
     by_order ByTime tells = same-as tells.cursor tells.among tells.waits tells.unended
 
 -- the packet of an input that is to be decided waits
-pub to-decide : (order : PacketOrder) (cursors : List InputView) (i : ℕ) (h : InputView) → IsNextIn order cursors (Next.Decide i) → IsInput cursors i h → h.waiting ≡ true
+pub to-decide : (order : PacketOrder) (cursors : List InputView) (i : ℕ) (h : InputView) → IsNextIn order cursors (Next.Decide i)
+    → IsInput cursors i h → h.waiting ≡ true
 to-decide InTurn cursors i h tells a = ap (λ (v : InputView). v.waiting) (among-same cursors i h tells.cursor a tells.among) ∙ tells.waits
 to-decide ByTime cursors i h tells a = ap (λ (v : InputView). v.waiting) (among-same cursors i h tells.1.cursor a tells.1.among) ∙ tells.1.waits
 
@@ -77,7 +87,8 @@ following-owes (Failed fault) = omega arith
 
 -- ---- a packet is decided
 
-pub decided-on : (inputs inputs' : InputsView) (i : ℕ) → IsNext inputs (Next.Decide i) → MarksDecided inputs i inputs' → (steps_left inputs' < steps_left inputs) × IsPaid inputs inputs'
+pub decided-on : (inputs inputs' : InputsView) (i : ℕ) → IsNext inputs (Next.Decide i) → MarksDecided inputs i inputs'
+    → (steps_left inputs' < steps_left inputs) × IsPaid inputs inputs'
 decided-on inputs inputs' i tells s =
     let cursors' : List InputView = slice_set inputs.cursors i (input_after_decided s.cursor) in
     let one = exchanged inputs.cursors i s.cursor (input_after_decided s.cursor) s.among in
@@ -118,9 +129,11 @@ pub record ReadOn (inputs inputs' : InputsView) (r : Result Bool Fault) : Type 0
   pub less : Goes r → steps_left inputs' < steps_left inputs
   pub paid : Goes r → IsPaid inputs inputs'
 
-pub read-on : (inputs inputs' : InputsView) (i : ℕ) (r : Result Bool Fault) → IsNext inputs (Next.Read i) → ReadSteps inputs i r inputs' → ReadOn inputs inputs' r
+pub read-on : (inputs inputs' : InputsView) (i : ℕ) (r : Result Bool Fault) → IsNext inputs (Next.Read i) → ReadSteps inputs i r inputs'
+    → ReadOn inputs inputs' r
 read-on inputs inputs' i r tells f =
-    by_result r (gave f.cursor.source f.source r f.steps) (exchanged inputs.cursors i f.cursor (input_after f.cursor r f.source) f.among) (ap (steps_owed (is_packet_found r)) f.phase) (ap steps_left f.is) (ap steps_owed_in_all f.is) (ap most_turns f.is)
+    by_result r (gave f.cursor.source f.source r f.steps) (exchanged inputs.cursors i f.cursor (input_after f.cursor r f.source) f.among)
+    (ap (steps_owed (is_packet_found r)) f.phase) (ap steps_left f.is) (ap steps_owed_in_all f.is) (ap most_turns f.is)
   where
     one : owed_by f.cursor ≡ 1
     one = unready-owes f.cursor (to-read inputs i f.cursor tells f.among)
@@ -128,8 +141,11 @@ read-on inputs inputs' i r tells f =
     after : Result Bool Fault → InputsView
     after r = with_cursor inputs i (input_after f.cursor r f.source)
 
-    by_result : (r : Result Bool Fault) → Gave f.cursor.source f.source r → Exchanged inputs.cursors (slice_set inputs.cursors i (input_after f.cursor r f.source)) f.cursor (input_after f.cursor r f.source) → owed_by (input_after f.cursor r f.source) ≡ steps_owed (is_packet_found r) (phase_after r)
-        → steps_left inputs' ≡ steps_left (after r) → steps_owed_in_all inputs' ≡ steps_owed_in_all (after r) → most_turns inputs' ≡ most_turns (after r) → ReadOn inputs inputs' r
+    by_result : (r : Result Bool Fault) → Gave f.cursor.source f.source r → Exchanged inputs.cursors
+        (slice_set inputs.cursors i (input_after f.cursor r f.source)) f.cursor (input_after f.cursor r f.source)
+        → owed_by (input_after f.cursor r f.source) ≡ steps_owed (is_packet_found r) (phase_after r)
+        → steps_left inputs' ≡ steps_left (after r) → steps_owed_in_all inputs' ≡ steps_owed_in_all (after r) → most_turns inputs' ≡ most_turns
+        (after r) → ReadOn inputs inputs' r
     by_result (Ok true) g ex new left owed turns =
         let more = g.more refl in
         let given = more.0 in
@@ -163,14 +179,43 @@ pub counted-turns : (done : Option ℕ) (turns left : ℕ) → IsCounted done tu
 counted-turns None turns left is = omega (arith, is)
 counted-turns (Some status) turns left is = is.0
 
-pub few-kept : (done : Option ℕ) (turns : ℕ) (inputs inputs' : InputsView) → IsPaid inputs inputs' → HasFewTurns done turns inputs → HasFewTurns done turns inputs'
+pub few-kept : (done : Option ℕ) (turns : ℕ) (inputs inputs' : InputsView) → IsPaid inputs inputs' → HasFewTurns done turns inputs
+    → HasFewTurns done turns inputs'
 few-kept None turns inputs inputs' paid upper_bound = omega (arith, paid, upper_bound)
 few-kept (Some status) turns inputs inputs' paid upper_bound = tt
 
 -- a step reads what it read, whatever becomes of its messages and of the count of steps
 pub reads-kept : (tells goes : Bool) (old mid : JobView) (p : Option Preparing) (err : OutputView) (turns : ℕ) (ended : Option ℕ) → StepReads tells goes old mid
     → StepReads tells goes old (record { preparing = p; state = mid.state; programs = mid.programs; err = err; turns = turns; done = ended })
-reads-kept tells goes old mid p err turns ended (reads_on i answer on reads) = reads_on i answer on (record { next = reads.next; fetches = reads.fetches; exact = reads.exact; decided = reads.decided; output = reads.output; programs = reads.programs })
-reads-kept tells goes old mid p err turns ended (decides_one i one settles more) = decides_one i (record { next = one.next; cursor = one.cursor; among = one.among; packet = one.packet; held = one.held; programs = one.programs; cost = one.cost }) settles more
-reads-kept tells goes old mid p err turns ended (leaves_one i ends one inputs same) = leaves_one i ends (record { next = one.next; cursor = one.cursor; among = one.among; packet = one.packet; held = one.held; programs = one.programs; cost = one.cost }) inputs same
-reads-kept tells goes old mid p err turns ended (reads_nothing ends none) = reads_nothing ends (record { inputs = none.inputs; decided = none.decided; programs = none.programs })
+reads-kept tells goes old mid p err turns ended (reads_on i answer on reads) =
+    reads_on i answer on (record {
+      next = reads.next;
+      fetches = reads.fetches;
+      exact = reads.exact;
+      decided = reads.decided;
+      output = reads.output;
+      programs = reads.programs;
+    })
+reads-kept tells goes old mid p err turns ended (decides_one i one settles more) =
+    decides_one i (record {
+      next = one.next;
+      cursor = one.cursor;
+      among = one.among;
+      packet = one.packet;
+      held = one.held;
+      programs = one.programs;
+      cost = one.cost;
+    }) settles more
+reads-kept tells goes old mid p err turns ended (leaves_one i ends one inputs same) =
+    leaves_one i ends (record {
+      next = one.next;
+      cursor = one.cursor;
+      among = one.among;
+      packet = one.packet;
+      held = one.held;
+      programs =
+          one.programs;
+      cost = one.cost;
+    }) inputs same
+reads-kept tells goes old mid p err turns ended (reads_nothing ends none) =
+    reads_nothing ends (record { inputs = none.inputs; decided = none.decided; programs = none.programs })

@@ -1,5 +1,7 @@
 -- The programs of a job stay those for what is asked, whichever of them run.
-use Rattle.cap_tools.proofs.Common.{◌≡◌, ℕ, zero, suc, List, [], ◌∷◌, map, true, false, if◌then◌else◌, Option, None, Some, refl, sym, ◌∙◌, ap, subst, Captured, Insn, Content, empty, truth, all_links, AreMade, ran_at, ran_if, Rule, by_reading, by_answer, AreNew, place_by, spent_on, Policy, Edit, Filter, KeepAll, Count, is_too_many, AreFor, HavePrograms, SelectorView, spent_by, spent_by_verdict, Spends}
+use Rattle.cap_tools.proofs.Common.{◌≡◌, ℕ, zero, suc, List, [], ◌∷◌, map, true, false, if◌then◌else◌, Option, None, Some, refl, sym, ◌∙◌, ap, subst, Captured}
+use Rattle.cap_tools.proofs.Common.{Insn, Content, empty, truth, all_links, AreMade, ran_at, ran_if, Rule, by_reading, by_answer, AreNew, place_by, spent_on}
+use Rattle.cap_tools.proofs.Common.{Policy, Edit, Filter, KeepAll, Count, is_too_many, AreFor, HavePrograms, SelectorView, spent_by, spent_by_verdict, Spends}
 use Rattle.cap_filter.proofs.Filters.{made-ran}
 
 -- a run leaves a program's instructions
@@ -23,13 +25,15 @@ have-ran (Filter rule count) p programs have = for-ran rule p programs have
 have-ran KeepAll p programs have = have
 have-ran Count p programs have = have
 
-have-spent : (policy : Policy) (number : ℕ) (p : Captured) (programs : List Content) → HavePrograms policy programs → HavePrograms policy (spent_by_verdict policy number p programs)
+have-spent : (policy : Policy) (number : ℕ) (p : Captured) (programs : List Content) → HavePrograms policy programs
+    → HavePrograms policy (spent_by_verdict policy number p programs)
 have-spent policy number p programs have =
     elim (is_too_many policy number) as (λ b. HavePrograms policy (if b then programs else spent_by policy p programs))
     [ true ↦ have | false ↦ have-ran policy p programs have ]
 
 -- a packet is decided
-pub have-decided : (packet : Option Captured) (old : SelectorView) (number : ℕ) (new : SelectorView) → Spends packet old number new → new.policy ≡ old.policy → HavePrograms old.policy old.programs → HavePrograms new.policy new.programs
+pub have-decided : (packet : Option Captured) (old : SelectorView) (number : ℕ) (new : SelectorView) → Spends packet old number new
+    → new.policy ≡ old.policy → HavePrograms old.policy old.programs → HavePrograms new.policy new.programs
 have-decided None old number new spends policy have = absurd spends
 have-decided (Some p) old number new spends policy have =
     let A : Policy → Type 0 = λ a. HavePrograms a new.programs in
@@ -37,7 +41,8 @@ have-decided (Some p) old number new spends policy have =
     subst A (sym policy) (subst P (sym spends.0) (have-spent old.policy number p old.programs have))
 
 -- an input is closed
-pub have-kept : (old new : SelectorView) → new.programs ≡ old.programs → new.policy ≡ old.policy → HavePrograms old.policy old.programs → HavePrograms new.policy new.programs
+pub have-kept : (old new : SelectorView) → new.programs ≡ old.programs → new.policy ≡ old.policy → HavePrograms old.policy old.programs
+    → HavePrograms new.policy new.programs
 have-kept old new programs policy have =
     let A : Policy → Type 0 = λ a. HavePrograms a new.programs in
     let P : List Content → Type 0 = λ l. HavePrograms old.policy l in

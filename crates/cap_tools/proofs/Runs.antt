@@ -1,5 +1,18 @@
 -- A run of a job, from its first view on, in terms of its call.
-use Rattle.cap_tools.proofs.Common.{◌≡◌, ℕ, Bool, zero, suc, List, [], ◌∷◌, map, Option, None, Some, IsTrue, refl, sym, ◌∙◌, ap, subst, Placed, InputPast, DeviceLimits, FreshInput, fresh_view, nothing_done, device_limits, Writing, target_at, written_to, failures_to, form_to, room_to, failures_by, finish_at, texts, work_of, JobView, Decided, JobGives, StaysDecided, first_job, Policy, IsPolicy, IsWork, form_asked, Call, Content, Assignment, Preparing, ReadsFilter, Compiles, Filter, DecidedBy, PreparesBy, inl, inr, ◌+◌, ◌-◌, ◌<◌, ◌≤◌, arith, false, ◌++◌, length, Ok, add-zero, append-nil, length-map, length-set, slice_get-map, slice_get, option_map, HasGiven, Stops, Fault, Declared, ReadFailsAt, given_in_all, decisive_length, Link, listing, Refusal, fault_message, refusal_message, write_failed_message, refusal_status, OutputView, IsTold, InputView, InputsView, input_after, limits_of, offset_of, offset_at, InputItems, Event, SequenceEnd, Complete, FaultIn, whole_input, RunResult, NoMemory, EndsJob, end_status, end_message, JobEnd, SourceView, JobState, PacketsDecided, CompletesOutput, EndLeaves, EndsByCut, Meets, StopsWriting, WantsMemory, a_packet, all_ends, an_end, output_form, wholes_of, written_by, Outcome, JobProgress, Work, IsNextAnswer, NeedsMemory, cut_at, message, outcome, status, text_after, text_of_progress, name_at, CommandRuns, HasLeft, HasLostOutput, IsWhyRefused, ends, fault_outcome, listing_answer, listing_outcome, of_cut_input, of_events, of_listing, of_packets, of_refusal, output_failed, packets_answer, refusal_outcome, whole_inputs, ListsSome, RefusesStart, drained-text, Turn, MakesStep}
+use Rattle.cap_tools.proofs.Common.{◌≡◌, ℕ, Bool, zero, suc, List, [], ◌∷◌, map, Option, None, Some, IsTrue, refl, sym, ◌∙◌, ap, subst, Placed, InputPast}
+use Rattle.cap_tools.proofs.Common.{DeviceLimits, FreshInput, fresh_view, nothing_done, device_limits, Writing, target_at, written_to, failures_to, form_to}
+use Rattle.cap_tools.proofs.Common.{room_to, failures_by, finish_at, texts, work_of, JobView, Decided, JobGives, StaysDecided, first_job, Policy, IsPolicy}
+use Rattle.cap_tools.proofs.Common.{IsWork, form_asked, Call, Content, Assignment, Preparing, ReadsFilter, Compiles, Filter, DecidedBy, PreparesBy, inl, inr}
+use Rattle.cap_tools.proofs.Common.{◌+◌, ◌-◌, ◌<◌, ◌≤◌, arith, false, ◌++◌, length, Ok, add-zero, append-nil, length-map, length-set, slice_get-map, slice_get}
+use Rattle.cap_tools.proofs.Common.{option_map, HasGiven, Stops, Fault, Declared, ReadFailsAt, given_in_all, decisive_length, Link, listing, Refusal}
+use Rattle.cap_tools.proofs.Common.{fault_message, refusal_message, write_failed_message, refusal_status, OutputView, IsTold, InputView, InputsView}
+use Rattle.cap_tools.proofs.Common.{input_after, limits_of, offset_of, offset_at, InputItems, Event, SequenceEnd, Complete, FaultIn, whole_input, RunResult}
+use Rattle.cap_tools.proofs.Common.{NoMemory, EndsJob, end_status, end_message, JobEnd, SourceView, JobState, PacketsDecided, CompletesOutput, EndLeaves}
+use Rattle.cap_tools.proofs.Common.{EndsByCut, Meets, StopsWriting, WantsMemory, a_packet, all_ends, an_end, output_form, wholes_of, written_by, Outcome}
+use Rattle.cap_tools.proofs.Common.{JobProgress, Work, IsNextAnswer, NeedsMemory, cut_at, message, outcome, status, text_after, text_of_progress, name_at}
+use Rattle.cap_tools.proofs.Common.{CommandRuns, HasLeft, HasLostOutput, IsWhyRefused, ends, fault_outcome, listing_answer, listing_outcome, of_cut_input}
+use Rattle.cap_tools.proofs.Common.{of_events, of_listing, of_packets, of_refusal, output_failed, packets_answer, refusal_outcome, whole_inputs, ListsSome}
+use Rattle.cap_tools.proofs.Common.{RefusesStart, drained-text, Turn, MakesStep}
 use Rattle.cap_inputs.specs.inside.Fresh.{fresh_limits}
 use Rattle.flt_words.specs.declared.fault.ExprFault.{ExprFault}
 use Rattle.flt_bpf.specs.declared.fault.ListingFault.{ListingFault}
@@ -45,9 +58,27 @@ map-map f g [] = refl
 map-map f g (x ∷ xs) = ap (λ l. f (g x) ∷ l) (map-map f g xs)
 
 -- the job before its first packet, which this policy judges
-pub begins : (asked : Assignment) (call : Call) (policy : Policy) (p : Option Preparing) (programs : List Content) (turns : ℕ) (ended : Option ℕ) → IsPolicy asked.preparing asked.policy policy
-    → Decided (map nothing_done call.inputs) call.output.written (record { preparing = p; state = record (first_job asked call).state { policy = policy }; programs = programs; err = call.messages; turns = turns; done = ended })
-    → IsUnderWay asked call (record { preparing = p; state = record (first_job asked call).state { policy = policy }; programs = programs; err = call.messages; turns = turns; done = ended })
+pub begins : (asked : Assignment) (call : Call) (policy : Policy) (p : Option Preparing) (programs : List Content) (turns : ℕ) (ended : Option ℕ)
+    → IsPolicy asked.preparing asked.policy policy
+    → Decided (map nothing_done call.inputs) call.output.written
+    (record {
+      preparing = p;
+      state = record (first_job asked call).state { policy = policy };
+      programs = programs;
+      err = call.messages;
+      turns =
+          turns;
+      done = ended;
+    })
+    → IsUnderWay asked call (record {
+      preparing = p;
+      state = record (first_job asked call).state { policy = policy };
+      programs = programs;
+      err =
+          call.messages;
+      turns = turns;
+      done = ended;
+    })
 begins asked call policy p programs turns ended is decided =
     let output = first-output call.names asked.writing call.output.written call.output.failures call.room in
     record {
@@ -68,7 +99,8 @@ finish-texts [] i bytes packets = refl
 finish-texts (s ∷ ss) zero bytes packets = refl
 finish-texts (s ∷ ss) (suc i) bytes packets = ap (λ (l : List (List ℕ)). s.text ∷ l) (finish-texts ss i bytes packets)
 
-goes-on : (asked : Assignment) (call : Call) (tells : Bool) (job new : JobView) → IsUnderWay asked call job → JobGives tells job Turn.More new → new.state.policy ≡ job.state.policy → new.state.names ≡ job.state.names → IsUnderWay asked call new
+goes-on : (asked : Assignment) (call : Call) (tells : Bool) (job new : JobView) → IsUnderWay asked call job → JobGives tells job Turn.More new
+    → new.state.policy ≡ job.state.policy → new.state.names ≡ job.state.names → IsUnderWay asked call new
 goes-on asked call tells job new was gives policy names =
     let stays : StaysDecided was.decided new = gives.1 was.past call.output.written was.decided in
     let on = stays.goes in
@@ -85,24 +117,32 @@ goes-on asked call tells job new was gives policy names =
     }
 
 -- the first step goes on: over packets, or since the filter is read
-first-more : (output_tells tells : Bool) (asked : Assignment) (call : Call) (new : JobView) (p : Option Preparing) → asked.preparing ≡ p → IsTrue output_tells → (p ≡ None → JobGives tells (first_job asked call) Turn.More new) → PreparesBy p output_tells tells (first_job asked call) Turn.More new
-    → DecidedBy p (map nothing_done call.inputs) call.output.written (first_job asked call) → (p ≡ None → new.state.policy ≡ asked.policy) → new.state.names ≡ call.names → IsUnderWay asked call new
+first-more : (output_tells tells : Bool) (asked : Assignment) (call : Call) (new : JobView) (p : Option Preparing) → asked.preparing ≡ p
+    → IsTrue output_tells → (p ≡ None → JobGives tells (first_job asked call) Turn.More new) → PreparesBy p output_tells tells (first_job asked call)
+    Turn.More new
+    → DecidedBy p (map nothing_done call.inputs) call.output.written (first_job asked call) → (p ≡ None → new.state.policy ≡ asked.policy)
+    → new.state.names ≡ call.names → IsUnderWay asked call new
 first-more output_tells tells asked call new None is to exact prepares d policy names =
     let P : Option Preparing → Type 0 = λ p. IsPolicy p asked.policy asked.policy in
-    goes-on asked call tells (first_job asked call) new (begins asked call asked.policy asked.preparing [] 0 None (subst P (sym is) refl) d) (exact refl) (policy refl) names
+    goes-on asked call tells (first_job asked call) new (begins asked call asked.policy asked.preparing [] 0 None (subst P (sym is) refl) d)
+    (exact refl) (policy refl) names
 first-more output_tells tells asked call new (Some (ReadsFilter filter)) is to exact read d policy names =
     let P : Option Preparing → Type 0 = λ p. IsPolicy p asked.policy (Filter read.rule filter.count) in
     let J : JobView → Type 0 = λ j. IsUnderWay asked call j in
-    subst J (sym read.new_is) (begins asked call (Filter read.rule filter.count) None read.programs 1 None (subst P (sym is) (read.rule, read.is, refl)) (d read.rule read.is read.programs read.made))
+    subst J (sym read.new_is) (begins asked call (Filter read.rule filter.count) None read.programs 1 None
+    (subst P (sym is) (read.rule, read.is, refl)) (d read.rule read.is read.programs read.made))
 first-more output_tells tells asked call new (Some (Compiles words link)) is to exact prepares d policy names = absurd (prepares to)
 
-pub under-more : (inputs_tell output_tells tells : Bool) (asked : Assignment) (call : Call) (job new : JobView) → IsTrue inputs_tell → IsTrue output_tells → Begun asked call → MakesStep inputs_tell output_tells tells job Turn.More new → Under asked call job → Under asked call new
+pub under-more : (inputs_tell output_tells tells : Bool) (asked : Assignment) (call : Call) (job new : JobView) → IsTrue inputs_tell
+    → IsTrue output_tells → Begun asked call → MakesStep inputs_tell output_tells tells job Turn.More new → Under asked call job → Under asked call new
 under-more inputs_tell output_tells tells asked call job new ti to begun step (fresh is) =
     let P : JobView → Type 0 = λ j. MakesStep inputs_tell output_tells tells j Turn.More new in
     let first = subst P is step in
-    goes first.keeps.prepared first.keeps.done (first-more output_tells tells asked call new asked.preparing refl to (first.exact ti to refl) first.prepares begun first.keeps.policy first.keeps.names)
+    goes first.keeps.prepared first.keeps.done (first-more output_tells tells asked call new asked.preparing refl to (first.exact ti to refl)
+    first.prepares begun first.keeps.policy first.keeps.names)
 under-more inputs_tell output_tells tells asked call job new ti to begun step (goes prepared undone was) =
-    goes step.keeps.prepared step.keeps.done (goes-on asked call tells job new was (step.exact ti to undone prepared) (step.keeps.policy prepared) step.keeps.names)
+    goes step.keeps.prepared step.keeps.done (goes-on asked call tells job new was (step.exact ti to undone prepared) (step.keeps.policy prepared)
+    step.keeps.names)
 
 -- where the output failed, it took as many bytes as it has room for
 abbrev pub IsFilled : Call → RunResult → Type 0
@@ -116,7 +156,8 @@ pub record IsLeft (new : JobView) (r : RunResult) : Type 0 where
 
 -- ---- what is told
 
-told-as : (tells : Bool) (old old' new : OutputView) (message message' : List ℕ) → message ≡ message' → old ≡ old' → IsTold tells old message new → IsTold tells old' message' new
+told-as : (tells : Bool) (old old' new : OutputView) (message message' : List ℕ) → message ≡ message' → old ≡ old' → IsTold tells old message new
+    → IsTold tells old' message' new
 told-as tells old old' new message message' is same exact =
     let M : List ℕ → Type 0 = λ m. IsTold tells old m new in
     let O : OutputView → Type 0 = λ v. IsTold tells v message' new in
@@ -153,24 +194,28 @@ given-more None few many more enough = absurd enough
 given-more (Some n) few many more enough = omega (arith, more, enough)
 
 -- by what the device was sure to give when the call was made
-fails-short : (input : FreshInput) (old new : SourceView) (text done rest : List ℕ) (declared : Declared) → fresh_limits input ≡ limits_of old → input.text ≡ text → ReadFailsAt old new text done rest declared
+fails-short : (input : FreshInput) (old new : SourceView) (text done rest : List ℕ) (declared : Declared) → fresh_limits input ≡ limits_of old
+    → input.text ≡ text → ReadFailsAt old new text done rest declared
     → HasGiven input.sure (input.given + length done + (decisive_length declared rest - 1))
 fails-short input old new text done rest declared limits same failed =
     let in_all : input.given + length input.text ≡ given_in_all old = ap (λ (l : DeviceLimits). l.in_all) limits in
     let G : Option ℕ → Type 0 = λ o. HasGiven o (input.given + length done + (decisive_length declared rest - 1)) in
     subst G (sym (ap (λ (l : DeviceLimits). l.sure) limits))
-    (given-more old.sure new.given (input.given + length done + (decisive_length declared rest - 1)) (omega (arith, failed.few, in_all, ap length same)) failed.enough)
+    (given-more old.sure new.given (input.given + length done + (decisive_length declared rest - 1))
+    (omega (arith, failed.few, in_all, ap length same)) failed.enough)
 
 -- the inputs are as many as before
 same-count : (old new : InputsView) {e : Option Event} → Meets old new e → length new.cursors ≡ length old.cursors
 same-count old new (a_packet i cursor p next among held same) = ap (λ (f : InputsView). length f.cursors) same
-same-count old new (an_end i next read) = ap (λ (f : InputsView). length f.cursors) read.is ∙ length-set old.cursors i (input_after read.cursor (Ok false) read.source)
+same-count old new (an_end i next read) = ap (λ (f : InputsView). length f.cursors) read.is ∙ length-set old.cursors i
+    (input_after read.cursor (Ok false) read.source)
 same-count old new (all_ends next same) = ap (λ (f : InputsView). length f.cursors) same
 
 -- ---- a job with packets
 
 -- what its last step leaves
-packets-run : (asked : Assignment) (call : Call) (job new : JobView) (r : RunResult) → IsFilled call r → IsUnderWay asked call job → EndsJob call.tells job r.status new → IsLeft new r → CommandRuns asked call r
+packets-run : (asked : Assignment) (call : Call) (job new : JobView) (r : RunResult) → IsFilled call r → IsUnderWay asked call job
+    → EndsJob call.tells job r.status new → IsLeft new r → CommandRuns asked call r
 packets-run asked call job new r filled was ended is_left = by_end ended.end refl (ended.leaves was.past before d)
   where
     before : List ℕ
@@ -208,10 +253,12 @@ packets-run asked call job new r filled was ended is_left = by_end ended.end ref
         ∙ ap (λ (v : JobProgress). before ++ text_of_progress (output_form old) v) (sym d.progress)
 
     -- the outcome of inputs with these items is left
-    left : (rs rs' : List InputItems) (close : SequenceEnd) → rs ≡ rs' → CompletesOutput rs d last close → text ≡ message names (Some close) → end_status ended.end ≡ status (Some close)
+    left : (rs rs' : List InputItems) (close : SequenceEnd) → rs ≡ rs' → CompletesOutput rs d last close → text ≡ message names (Some close)
+        → end_status ended.end ≡ status (Some close)
         → HasLeft call (outcome w call.names rs') r
     left rs rs' close same comes says is =
-        let whole : outcome w names rs ≡ outcome w call.names rs' = ap (λ (n : List (List ℕ)). outcome w n rs) was.names ∙ ap (λ (l : List InputItems). outcome w call.names l) same in
+        let whole : outcome w names rs ≡ outcome w call.names rs' = ap (λ (n : List (List ℕ)). outcome w n rs) was.names
+        ∙ ap (λ (l : List InputItems). outcome w call.names l) same in
         record {
           output = is_left.written ∙ comes.written ∙ ap (λ (o : Outcome). before ++ o.output) whole;
           failures = is_left.failures ∙ comes.device ∙ was.output;
@@ -220,13 +267,17 @@ packets-run asked call job new r filled was ended is_left = by_end ended.end ref
           status = ended.status_is ∙ is ∙ ap status (sym comes.ends) ∙ ap (λ (o : Outcome). o.status) whole;
         }
 
-    whole-ends : (close : SequenceEnd) → CompletesOutput (wholes_of was.past) d last close → text ≡ message names (Some close) → end_status ended.end ≡ status (Some close) → CommandRuns asked call r
-    whole-ends close comes says is = ends (outcome w call.names (whole_inputs call)) (of_packets w was.work) (left (wholes_of was.past) (whole_inputs call) close wholes-are comes says is)
+    whole-ends : (close : SequenceEnd) → CompletesOutput (wholes_of was.past) d last close → text ≡ message names (Some close)
+        → end_status ended.end ≡ status (Some close) → CommandRuns asked call r
+    whole-ends close comes says is = ends (outcome w call.names (whole_inputs call)) (of_packets w was.work)
+        (left (wholes_of was.past) (whole_inputs call) close wholes-are comes says is)
 
-    says : (input : ℕ) (fault : Fault) (offset : ℕ) → ended.end ≡ JobEnd.FaultIn input fault → offset_at last.inputs.cursors input ≡ offset → text ≡ fault_message (name_at names input) offset fault
+    says : (input : ℕ) (fault : Fault) (offset : ℕ) → ended.end ≡ JobEnd.FaultIn input fault → offset_at last.inputs.cursors input ≡ offset
+        → text ≡ fault_message (name_at names input) offset fault
     says input fault offset is place = ap (end_message names last.inputs.cursors) is ∙ ap (λ n. fault_message (name_at names input) n fault) place
 
-    cuts : (input : ℕ) (fault : Fault) (after : SourceView) → ended.end ≡ JobEnd.FaultIn input fault → offset_at last.inputs.cursors input ≡ after.offset → EndsByCut d last input fault after → CommandRuns asked call r
+    cuts : (input : ℕ) (fault : Fault) (after : SourceView) → ended.end ≡ JobEnd.FaultIn input fault → offset_at last.inputs.cursors input ≡
+        after.offset → EndsByCut d last input fault after → CommandRuns asked call r
     cuts input fault after is place cut =
         let items = cut.held in
         let text_of : From (λ (o : FreshInput). o.text) (slice_get call.inputs input) cut.past.text =
@@ -246,14 +297,19 @@ packets-run asked call job new r filled was ended is_left = by_end ended.end ref
           fault = fault;
           cut = record { done = cut.cut.done; rest = cut.cut.rest; joined = text_of.same ∙ cut.cut.joined; units = cut.cut.units; ending = cut.cut.ending };
           why = elim cut.why [
-            | inl failed ↦ inl (failed.0, fails-short text_of.from cut.cursor.source after cut.past.text cut.cut.done cut.cut.rest items.declared known text_of.same failed.1)
+            | inl failed ↦ inl (
+              failed.0,
+              fails-short text_of.from cut.cursor.source after cut.past.text cut.cut.done cut.cut.rest items.declared
+                  known text_of.same failed.1,
+            )
             | inr full ↦ inr full
           ];
         }))
         (left (cut_at (wholes_of was.past) input items) (cut_at (whole_inputs call) input items) (FaultIn input fault after.offset)
         (ap (λ (l : List InputItems). cut_at l input items) wholes-are) cut.comes (says input fault after.offset is place) (ap end_status is))
 
-    lacks-memory : (input : ℕ) (fault : Fault) (after : SourceView) → ended.end ≡ JobEnd.FaultIn input fault → offset_at last.inputs.cursors input ≡ after.offset → WantsMemory d last input fault after → CommandRuns asked call r
+    lacks-memory : (input : ℕ) (fault : Fault) (after : SourceView) → ended.end ≡ JobEnd.FaultIn input fault → offset_at last.inputs.cursors input ≡
+        after.offset → WantsMemory d last input fault after → CommandRuns asked call r
     lacks-memory input fault after is place wants =
         let L : List InputItems → Type 0 = λ l. NeedsMemory w l d.events input wants.packet in
         let one : r.status ≡ 1 = ended.status_is ∙ ap end_status is in
@@ -299,7 +355,8 @@ packets-run asked call job new r filled was ended is_left = by_end ended.end ref
     by_end (JobEnd.FaultIn input fault) is breaks =
         let place : offset_at last.inputs.cursors input ≡ breaks.cursor.source.offset = ap offset_of breaks.among in
         elim breaks.why [
-          | inl comes ↦ whole-ends (FaultIn input fault breaks.cursor.source.offset) comes (says input fault breaks.cursor.source.offset is place) (ap end_status is)
+          | inl comes ↦ whole-ends (FaultIn input fault breaks.cursor.source.offset) comes (says input fault breaks.cursor.source.offset is place)
+              (ap end_status is)
           | inr other ↦ elim other [
             | inl cut ↦ cuts input fault breaks.cursor.source is place cut
             | inr wants ↦ lacks-memory input fault breaks.cursor.source is place wants
@@ -309,16 +366,21 @@ packets-run asked call job new r filled was ended is_left = by_end ended.end ref
 
 -- ---- a job that is refused, or lists a program
 
-refused-run : (asked : Assignment) (call : Call) (new : JobView) (r : RunResult) (why : Refusal) → IsWhyRefused asked.preparing why → RefusesStart why call.tells (first_job asked call) r.status new → IsLeft new r → CommandRuns asked call r
+refused-run : (asked : Assignment) (call : Call) (new : JobView) (r : RunResult) (why : Refusal) → IsWhyRefused asked.preparing why
+    → RefusesStart why call.tells (first_job asked call) r.status new → IsLeft new r → CommandRuns asked call r
 refused-run asked call new r why refused refuses left = ends (refusal_outcome why) (of_refusal why refused) (record {
-  output = left.written ∙ ap (λ (j : JobView). written_by j.state) refuses.new_is ∙ (first-output call.names asked.writing call.output.written call.output.failures call.room).written ∙ sym (append-nil call.output.written);
-  failures = left.failures ∙ ap (λ (j : JobView). failures_by j.state) refuses.new_is ∙ (first-output call.names asked.writing call.output.written call.output.failures call.room).failures_are;
+  output = left.written ∙ ap (λ (j : JobView). written_by j.state) refuses.new_is
+      ∙ (first-output call.names asked.writing call.output.written call.output.failures call.room).written ∙ sym (append-nil call.output.written);
+  failures = left.failures ∙ ap (λ (j : JobView). failures_by j.state) refuses.new_is
+      ∙ (first-output call.names asked.writing call.output.written call.output.failures call.room).failures_are;
   message = (let T : OutputView → Type 0 = λ v. IsTold call.tells call.messages (refusal_message why) v in subst T (sym left.messages) refuses.exact);
   quiet = λ none. absurd (never-zero why (sym refuses.status_is ∙ none));
   status = refuses.status_is;
 })
 
-listed-run : (asked : Assignment) (call : Call) (new : JobView) (r : RunResult) (words : List ℕ) (link : Link) → IsFilled call r → asked.preparing ≡ Some (Compiles words link) → ListsSome words link call.tells (first_job asked call) r.status new → IsLeft new r → CommandRuns asked call r
+listed-run : (asked : Assignment) (call : Call) (new : JobView) (r : RunResult) (words : List ℕ) (link : Link) → IsFilled call r
+    → asked.preparing ≡ Some (Compiles words link) → ListsSome words link call.tells (first_job asked call) r.status new → IsLeft new r
+    → CommandRuns asked call r
 listed-run asked call new r words link filled is lists left =
     let bytes : List ℕ = listing lists.prog in
     let written = (first-output call.names asked.writing call.output.written call.output.failures call.room).written in
@@ -330,7 +392,12 @@ listed-run asked call new r words link filled is lists left =
           ends (listing_outcome lists.prog) (of_listing words link lists.prog is lists.compiled) (record {
             output = left.written ∙ whole.written ∙ ap (λ (l : List ℕ). l ++ bytes) written;
             failures = left.failures ∙ whole.failures ∙ failures;
-            message = subst T (sym quiet) (record { answer = Ok tt; exact = λ te. sym (append-nil call.messages.written); counted = sym (add-zero call.messages.failures) });
+            message = subst T (sym quiet) (record {
+              answer = Ok tt;
+              exact = λ te. sym (append-nil call.messages.written);
+              counted =
+                  sym (add-zero call.messages.failures);
+            });
             quiet = λ none. quiet;
             status = whole.status_is;
           })
@@ -339,7 +406,8 @@ listed-run asked call new r words link filled is lists left =
           let S : List ℕ → Type 0 = λ l. Stops l bytes (written_by new.state) in
           let R : List ℕ → Type 0 = λ l. Stops (call.output.written ++ []) bytes l in
           let T : OutputView → Type 0 = λ v. IsTold call.tells call.messages (write_failed_message (name_at call.names (length call.inputs))) v in
-          let name : name_at call.names (length (map fresh_view call.inputs)) ≡ name_at call.names (length call.inputs) = ap (name_at call.names) (length-map call.inputs fresh_view) in
+          let name : name_at call.names (length (map fresh_view call.inputs)) ≡ name_at call.names (length call.inputs) =
+          ap (name_at call.names) (length-map call.inputs fresh_view) in
           output_failed (record {
             written = [];
             bytes = bytes;
@@ -355,11 +423,14 @@ listed-run asked call new r words link filled is lists left =
 -- ---- all of it
 
 -- the first step ends the job: over packets, or it is refused, or it lists a program
-first-done : (output_tells : Bool) (asked : Assignment) (call : Call) (new : JobView) (r : RunResult) (p : Option Preparing) → asked.preparing ≡ p → IsTrue output_tells → IsFilled call r → (p ≡ None → JobGives call.tells (first_job asked call) (Turn.Done r.status) new)
-    → PreparesBy p output_tells call.tells (first_job asked call) (Turn.Done r.status) new → DecidedBy p (map nothing_done call.inputs) call.output.written (first_job asked call) → IsLeft new r → CommandRuns asked call r
+first-done : (output_tells : Bool) (asked : Assignment) (call : Call) (new : JobView) (r : RunResult) (p : Option Preparing) → asked.preparing ≡ p
+    → IsTrue output_tells → IsFilled call r → (p ≡ None → JobGives call.tells (first_job asked call) (Turn.Done r.status) new)
+    → PreparesBy p output_tells call.tells (first_job asked call) (Turn.Done r.status) new → DecidedBy p (map nothing_done call.inputs)
+    call.output.written (first_job asked call) → IsLeft new r → CommandRuns asked call r
 first-done output_tells asked call new r None is to filled exact prepares d left =
     let P : Option Preparing → Type 0 = λ p. IsPolicy p asked.policy asked.policy in
-    packets-run asked call (first_job asked call) new r filled (begins asked call asked.policy asked.preparing [] 0 None (subst P (sym is) refl) d) (exact refl) left
+    packets-run asked call (first_job asked call) new r filled (begins asked call asked.policy asked.preparing [] 0 None (subst P (sym is) refl) d)
+    (exact refl) left
 first-done output_tells asked call new r (Some (ReadsFilter filter)) is to filled exact refuses d left =
     let P : Option Preparing → Type 0 = λ p. IsWhyRefused p refuses.refusal in
     refused-run asked call new r refuses.refusal (subst P (sym is) refuses.why) refuses.refuses left
@@ -372,7 +443,9 @@ first-done output_tells asked call new r (Some (Compiles words link)) is to fill
     ]
 
 -- the last step of a run
-pub under-done : (inputs_tell output_tells : Bool) (asked : Assignment) (call : Call) (job new : JobView) (r : RunResult) → IsTrue inputs_tell → IsTrue output_tells → Begun asked call → IsFilled call r → MakesStep inputs_tell output_tells call.tells job (Turn.Done r.status) new → IsLeft new r → Under asked call job → CommandRuns asked call r
+pub under-done : (inputs_tell output_tells : Bool) (asked : Assignment) (call : Call) (job new : JobView) (r : RunResult) → IsTrue inputs_tell
+    → IsTrue output_tells → Begun asked call → IsFilled call r → MakesStep inputs_tell output_tells call.tells job (Turn.Done r.status) new
+    → IsLeft new r → Under asked call job → CommandRuns asked call r
 under-done inputs_tell output_tells asked call job new r ti to begun filled step left (fresh is) =
     let P : JobView → Type 0 = λ j. MakesStep inputs_tell output_tells call.tells j (Turn.Done r.status) new in
     let first = subst P is step in

@@ -1,13 +1,15 @@
 -- The names that most proofs here cite, passed on from one place. Declares nothing.
 pub use Rattle.std.proofs.Common.{◌≡◌, ℕ, Bool, List, [], ◌∷◌, refl, ap, ◌+◌, ◌^◌, ◌<◌, true, false, Ok, Err, w64, Bor}
 pub use Rattle.std.proofs.raw_atomic.Walks.{proved}
-pub use Rattle.std.proofs.alloc.Calls.{Al, α, seen, token, Answer, answer_val, Answer-typed, Answer-Ok, Answer-err, takes_key, Takes, at_takes, Answered, Takes-goes, Takes-gives, answers, gives_key, Gives, at_gives, Gives-goes, Gives-Gives}
+pub use Rattle.std.proofs.alloc.Calls.{Al, α, seen, token, Answer, answer_val, Answer-typed, Answer-Ok, Answer-err, takes_key, Takes, at_takes, Answered}
+pub use Rattle.std.proofs.alloc.Calls.{Takes-goes, Takes-gives, answers, gives_key, Gives, at_gives, Gives-goes, Gives-Gives}
 pub use contract.BorrowLft.{◌⊑◌, ⊑_trans}
 pub use denote.Builtin.{bool, usize, RefOf, RawPtr}
 pub use types.ByLocal.{alloc_all, pass_all, free_all, look_at, get, through, sets, lands_as, env}
 pub use denote.Exit.{yes}
 pub use base.Fml.{Lft, Share, ftrue, fsep, flft, froom, ffalse}
-pub use types.Kit.{‵, raw, ◌⊛◌, some, later, given, learn, ◌$◌, ◌∵◌, !, Sq, qed, move, keep, use0, use1, use2, split, join, pick, fsplit, fjoin, suffices, await, prop, at_ret, done, Item, by, split3, feq_i}
+pub use types.Kit.{‵, raw, ◌⊛◌, some, later, given, learn, ◌$◌, ◌∵◌, !, Sq, qed, move, keep, use0, use1, use2, split, join, pick, fsplit, fjoin, suffices}
+pub use types.Kit.{await, prop, at_ret, done, Item, by, split3, feq_i}
 pub use base.Logic.{SProp, ent, sep, ex, guard, id⊢, never_e}
 pub use types.Logic.{Logic, sem}
 pub use mir.MapTy.{inst_fn}

@@ -1,6 +1,8 @@
 -- `admits` at a call: what it is handed, and what its caller has of it. Assumes `Logic`.
-use Rattle.cap_trial.proofs.Common.{◌≡◌, ℕ, Bool, List, [], ◌∷◌, refl, ap, Ura, Val, vbool, vptr, SProp, ent, sep, ex, guard, id⊢, Lft, Share, ftrue, fsep, flft, Memory, Routine, Logic, sem, Fun, hidden_shr, bool, nothing, only, Contract}
-use types.Kit.{raw, ‵, ◌⊛◌, some, later, ◌$◌, ◌∵◌, !, qed, move, keep, use1, split, join, pick, fjoin, feq_i, feq_l, check, show, await, updating, now as at_once, done}
+use Rattle.cap_trial.proofs.Common.{◌≡◌, ℕ, Bool, List, [], ◌∷◌, refl, ap, Ura, Val, vbool, vptr, SProp, ent, sep, ex, guard, id⊢, Lft, Share, ftrue, fsep}
+use Rattle.cap_trial.proofs.Common.{flft, Memory, Routine, Logic, sem, Fun, hidden_shr, bool, nothing, only, Contract}
+use types.Kit.{raw, ‵, ◌⊛◌, some, later, ◌$◌, ◌∵◌, !, qed, move, keep, use1, split, join, pick, fjoin, feq_i, feq_l, check, show, await, updating}
+use types.Kit.{now as at_once, done}
 use denote.Triple.Spec.{triple_of}
 use Rattle.cap_trial.specs.declared.allocator.Plan.{Plan}
 use Rattle.cap_trial.specs.contracts.allocator.Plan as P
@@ -17,7 +19,8 @@ module _ {M : Type 1} {𝓤 : Ura M} (𝓛 : Logic 𝓤) (at_mem : Memory → SP
 module _ {M : Type 1} {𝓤 : Ura M} (𝓛 : Logic 𝓤) (at_mem : Memory → SProp 𝓤) (run : Routine → Fun 𝓤) (κ : Lft) (q : Share) (place : ℕ × ℕ) (plan : Plan) where
   open 𝓛 use {H, A}
 
-  pub Admits-goes : ent 𝓤 (sep 𝓤 (sem 𝓛 (hidden_shr P.the_row κ plan place.0 place.1)) (A.lft κ q)) ((Admits 𝓛 at_mem run).pre (at_plan 𝓛 at_mem run κ q place plan))
+  pub Admits-goes : ent 𝓤 (sep 𝓤 (sem 𝓛 (hidden_shr P.the_row κ plan place.0 place.1)) (A.lft κ q))
+      ((Admits 𝓛 at_mem run).pre (at_plan 𝓛 at_mem run κ q place plan))
   Admits-goes =
       let address : List Val = vptr place.0 place.1 ∷ [] in
       qed 𝓛 (‵ (hidden_shr P.the_row κ plan place.0 place.1) ∷ ‵ (flft κ q) ∷ []) ∵
@@ -35,5 +38,7 @@ module _ {M : Type 1} {𝓤 : Ura M} (𝓛 : Logic 𝓤) (at_mem : Memory → SP
   pub Admits-gives : (v : Val) → ent 𝓤 ((Admits 𝓛 at_mem run).post (at_plan 𝓛 at_mem run κ q place plan) v) (H.⇛ (Said v))
   Admits-gives v =
       qed 𝓛 (raw ((Admits 𝓛 at_mem run).post (at_plan 𝓛 at_mem run κ q place plan) v) ∷ []) ∵ updating ! $
-      use1 𝓛 (later (some (λ (yes : Bool). ((‵ (flft κ q) ⊛ ‵ ftrue) ⊛ ‵ (bool.own_val yes (v ∷ []))) ⊛ some (λ (ws : Unit {0} × Unit {0}). ‵ (fsep ftrue ftrue) ⊛ ‵ ftrue)))) (id⊢ 𝓤 _) $ await ! tt $ pick ! (λ yes.
-      split ! $ split ! $ move ! (1 ∷ []) $ feq_l ! (λ is. split ! $ at_once ! $ show ! (λ (y : Bool). guard 𝓤 (v ≡ vbool y) (A.lft κ q)) yes $ check ! (ap only is) $ keep ! (0 ∷ []) $ done !))
+      use1 𝓛 (later (some (λ (yes : Bool). ((‵ (flft κ q) ⊛ ‵ ftrue) ⊛ ‵ (bool.own_val yes (v ∷ []))) ⊛ some
+      (λ (ws : Unit {0} × Unit {0}). ‵ (fsep ftrue ftrue) ⊛ ‵ ftrue)))) (id⊢ 𝓤 _) $ await ! tt $ pick ! (λ yes.
+      split ! $ split ! $ move ! (1 ∷ []) $ feq_l ! (λ is. split ! $ at_once ! $ show ! (λ (y : Bool). guard 𝓤 (v ≡ vbool y) (A.lft κ q)) yes $ check
+      ! (ap only is) $ keep ! (0 ∷ []) $ done !))

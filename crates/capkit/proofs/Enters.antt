@@ -1,5 +1,6 @@
 -- Words that clap takes enter a subcommand, since the line requires one.
-use Rattle.capkit.proofs.Common.{◌≡◌, ◌∙◌, ap, sym, refl, subst, Bool, true, false, List, [], ◌∷◌, Option, Some, None, ◌&&◌, is_some, not, find, if◌then◌else◌, option_map, Box, list_any, ArgMatches, subcommand_name_of, subcommand_rows_of, TakesWords, line_app, name_of, Asks, Subcommand}
+use Rattle.capkit.proofs.Common.{◌≡◌, ◌∙◌, ap, sym, refl, subst, Bool, true, false, List, [], ◌∷◌, Option, Some, None, ◌&&◌, is_some, not, find, if◌then◌else◌}
+use Rattle.capkit.proofs.Common.{option_map, Box, list_any, ArgMatches, subcommand_name_of, subcommand_rows_of, TakesWords, line_app, name_of, Asks, Subcommand}
 use Rattle.std.specs.Box.{box_value}
 use Rattle.clap.specs.Facts.{explicit_source}
 use Rattle.clap.specs.Faults.{built_fault, check_fault, defaults_fault, entered_fault, level_fault, settle_fault, walk_fault}
@@ -46,7 +47,8 @@ abbrev IsEntered : Option (Text × List Row) → Type 0
 IsEntered into = (asked : Subcommand) × (matches : List Row) × (into ≡ Some (name_of asked, matches))
 
 -- the first that a word names is one of them
-named_among : (words : List Text) (test : Shape → Bool) (subs : List Shape) → AreNamed subs → is_some (option_map (λ s. rows_at s words) (find test subs)) ≡ true
+named_among : (words : List Text) (test : Shape → Bool) (subs : List Shape) → AreNamed subs
+    → is_some (option_map (λ s. rows_at s words) (find test subs)) ≡ true
     → IsEntered (option_map (λ s. rows_at s words) (find test subs))
 named_among words test [] named some = cc
 named_among words test (s ∷ rest) named some = first (test s) (named_among words test rest named.1) some

@@ -18,9 +18,11 @@ both true b is = refl
 both false b is = (cc)
 
 -- a proper command without words is proper with a listing too
-pub listed : (c : Command Global) (bytes : Vec ℕ) (inputs : ℕ) → (is_proper c inputs && not (has_expression c)) ≡ true → is_proper (with_code c bytes) inputs ≡ true
+pub listed : (c : Command Global) (bytes : Vec ℕ) (inputs : ℕ) → (is_proper c inputs && not (has_expression c)) ≡ true → is_proper (with_code c bytes)
+    inputs ≡ true
 listed (Command.Print print) bytes inputs is =
-    no-words (nat_eq inputs 1) (has_at_most_one_filter (string_bytes print.expr) print.code) (has_at_most_one_output print.link print.bytes print.write && option_map_or is_at_least_one print.count true) (length (string_bytes print.expr)) is
+    no-words (nat_eq inputs 1) (has_at_most_one_filter (string_bytes print.expr) print.code)
+    (has_at_most_one_output print.link print.bytes print.write && option_map_or is_at_least_one print.count true) (length (string_bytes print.expr)) is
 listed (Command.Edit edit) bytes inputs is = both _ _ is
 listed (Command.Merge merge) bytes inputs is = both _ _ is
 listed Command.Infos bytes inputs is = both _ _ is

@@ -1,5 +1,8 @@
 -- What the options of an edit and of a print mean.
-use Rattle.capkit.proofs.Common.{◌≡◌, ◌≤◌, ◌^◌, ◌+◌, ◌-◌, ◌*◌, ◌∙◌, ◌==◌, ap, refl, ℕ, Bool, true, false, length, take, drop, Option, Some, None, Result, Ok, Err, arith, ◌&&◌, IfSome, nat_le, nat_lt, if◌then◌else◌, position, option_and_then, option_map_or, ParsesUnsigned, digits_value, without_leading_plus, and_from, and_parts, le-leb, is_at_least_one, is_time, is_window, least_window, most_window, ReadsOne, Text, number_between}
+use Rattle.capkit.proofs.Common.{◌≡◌, ◌≤◌, ◌^◌, ◌+◌, ◌-◌, ◌*◌, ◌∙◌, ◌==◌, ap, refl, ℕ, Bool, true, false, length, take, drop, Option, Some, None, Result, Ok}
+use Rattle.capkit.proofs.Common.{Err, arith, ◌&&◌, IfSome, nat_le, nat_lt, if◌then◌else◌, position, option_and_then, option_map_or, ParsesUnsigned}
+use Rattle.capkit.proofs.Common.{digits_value, without_leading_plus, and_from, and_parts, le-leb, is_at_least_one, is_time, is_window, least_window}
+use Rattle.capkit.proofs.Common.{most_window, ReadsOne, Text, number_between}
 use Rattle.cap_octet.specs.{Date.NANOS_PER_SECOND, Digits.decimal_value}
 use Rattle.cap_octet.specs.Seconds.{fraction_nanoseconds, duration_at, duration_value, duration_of_parts, time_below_end}
 use Rattle.cap_octet.specs.Timestamp.{clock_of_parts, date_time_value, day_of_parts, number_at, optional_fraction, is_date_time, time_value, time_of_parts}
@@ -72,7 +75,8 @@ unfolding duration_value
 proper_span text = at_within text (position (λ b. b == 46) text)
 
 moment_within : (day clock fraction : Option ℕ) → option_map_or is_time (time_of_parts day clock fraction) true ≡ true
-moment_within day clock fraction = then_within _ day (λ d. then_within _ clock (λ c. then_within _ fraction (λ f. within ((d * 86400 + c) * NANOS_PER_SECOND + f))))
+moment_within day clock fraction =
+    then_within _ day (λ d. then_within _ clock (λ c. then_within _ fraction (λ f. within ((d * 86400 + c) * NANOS_PER_SECOND + f))))
 
 date_within : (text : Text) → option_map_or is_time (date_time_value text) true ≡ true
 unfolding date_time_value

@@ -1,5 +1,7 @@
 -- What a parse of the command line gives and refuses.
-use Rattle.capkit.proofs.Common.{◌≡◌, ◌∙◌, ap, sym, subst, true, List, Result, Ok, Err, IfOk, IfErr, map, refl, inl, App, FailsBy, HasKind, HasMatchesOf, Text, fault_of, is_simple, is_simple_and_free, kind_of, subcommand_of, subcommand_rows_of, takes, AreChoices, RefusesWords, TakesWords, format_names, line_app, link_names}
+use Rattle.capkit.proofs.Common.{◌≡◌, ◌∙◌, ap, sym, subst, true, List, Result, Ok, Err, IfOk, IfErr, map, refl, inl, App, FailsBy, HasKind, HasMatchesOf, Text}
+use Rattle.capkit.proofs.Common.{fault_of, is_simple, is_simple_and_free, kind_of, subcommand_of, subcommand_rows_of, takes, AreChoices, RefusesWords}
+use Rattle.capkit.proofs.Common.{TakesWords, format_names, line_app, link_names}
 use Rattle.clap.specs.declared.{builder.value_parser.ValueParser.ValueParser, error.Error.Error}
 use Rattle.clap.specs.declared.{error.kind.ErrorKind.TheVariants.OutOfMemory, parser.matches.ArgMatches.ArgMatches}
 use Rattle.cap_octet.specs.{Format.all_formats, Link.all_links}
@@ -10,7 +12,8 @@ simple_line formats links = refl
 free_line : (formats links : ValueParser) → is_simple_and_free (line_app formats links) ≡ true
 free_line formats links = refl
 
-pub takes_words : (app : App) (formats links : ValueParser) (words : List Text) (r : Result ArgMatches Error) → app ≡ line_app formats links → AreChoices format_names formats → AreChoices link_names links
+pub takes_words : (app : App) (formats links : ValueParser) (words : List Text) (r : Result ArgMatches Error) → app ≡ line_app formats links
+    → AreChoices format_names formats → AreChoices link_names links
     → IfOk r (HasMatchesOf app words) → (is_simple_and_free app ≡ true → FailsBy (fault_of app words) r)
     → IfOk r (λ matches. TakesWords words (subcommand_rows_of matches))
 takes_words app formats links words (Err error) is are named matches kinds = tt
@@ -23,7 +26,8 @@ takes_words app formats links words (Ok found) is are named matches kinds = reco
   enters = ap (λ a. subcommand_of a words) (sym is) ∙ sym (matches (ap is_simple is ∙ simple_line formats links)).1;
 }
 
-pub refuses_words : (app : App) (formats links : ValueParser) (words : List Text) (r : Result ArgMatches Error) → app ≡ line_app formats links → AreChoices format_names formats → AreChoices link_names links
+pub refuses_words : (app : App) (formats links : ValueParser) (words : List Text) (r : Result ArgMatches Error) → app ≡ line_app formats links
+    → AreChoices format_names formats → AreChoices link_names links
     → IfErr r (λ error. takes app words ≡ true → kind_of error ≡ OutOfMemory) → (is_simple_and_free app ≡ true → FailsBy (fault_of app words) r)
     → IfErr r (RefusesWords words)
 refuses_words app formats links words (Ok found) is are named memory kinds = tt

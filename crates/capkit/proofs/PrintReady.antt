@@ -1,5 +1,9 @@
 -- The line of a print without a fault may be run.
-use Rattle.capkit.proofs.Common.{◌≡◌, ◌∙◌, ap, arith, refl, codes, Bool, true, false, List, [], ◌∷◌, length, Option, Some, None, String, string_bytes, vec_len, ◌&&◌, ◌||◌, is_none, is_some, nat_eq, nat_lt, not, option_map, if◌then◌else◌, Global, join_by, option_map_or, and_from, eq-eqb, lt-ltb, has_at_most_one_filter, has_at_most_one_output, is_at_least_one, is_proper, Row, Text, first_of, IsPrintOf, flag_in, format_in, has_exclusion, has_expression, has_two_filters, has_two_outputs, is_ready, or_else, print_fault, texts_in, Line, Usage, OptionsExclude, ◌++◌, ℕ, map}
+use Rattle.capkit.proofs.Common.{◌≡◌, ◌∙◌, ap, arith, refl, codes, Bool, true, false, List, [], ◌∷◌, length, Option, Some, None, String, string_bytes, vec_len}
+use Rattle.capkit.proofs.Common.{◌&&◌, ◌||◌, is_none, is_some, nat_eq, nat_lt, not, option_map, if◌then◌else◌, Global, join_by, option_map_or, and_from, eq-eqb}
+use Rattle.capkit.proofs.Common.{lt-ltb, has_at_most_one_filter, has_at_most_one_output, is_at_least_one, is_proper, Row, Text, first_of, IsPrintOf, flag_in}
+use Rattle.capkit.proofs.Common.{format_in, has_exclusion, has_expression, has_two_filters, has_two_outputs, is_ready, or_else, print_fault, texts_in, Line}
+use Rattle.capkit.proofs.Common.{Usage, OptionsExclude, ◌++◌, ℕ, map}
 use Rattle.std.proofs.{Common.flat_map, Math.Bool.or-true, lemmas.Bool.or_parts}
 use Rattle.cap_octet.specs.declared.format.Format.{Format}
 use Rattle.capkit.specs.declared.ids.TheConstants as ids

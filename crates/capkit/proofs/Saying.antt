@@ -1,10 +1,14 @@
 -- What a line says of the words.
-use Rattle.capkit.proofs.Common.{◌≡◌, inl, inr, refl, List, Some, None, Result, Ok, Err, IfOk, IfErr, OnOk, Bool, true, false, length, [], ◌∷◌, if◌then◌else◌, is_none, nat_lt, list_any, Row, Text, first_of, most_inputs, most_ranges, Asks, IsUsageOf, IsLineOf, SaysFault, SaysLine, fault_in, files_in, has_bad_time, has_exclusion, has_two_shifts, or_else, read_names, text_in, texts_in, uses_name_twice, range_of, Subcommand, Line, Usage, BadRange, BadTime, Memory, NameUsedTwice, OptionsExclude, Refused, TooManyValues}
+use Rattle.capkit.proofs.Common.{◌≡◌, inl, inr, refl, List, Some, None, Result, Ok, Err, IfOk, IfErr, OnOk, Bool, true, false, length, [], ◌∷◌, if◌then◌else◌}
+use Rattle.capkit.proofs.Common.{is_none, nat_lt, list_any, Row, Text, first_of, most_inputs, most_ranges, Asks, IsUsageOf, IsLineOf, SaysFault, SaysLine}
+use Rattle.capkit.proofs.Common.{fault_in, files_in, has_bad_time, has_exclusion, has_two_shifts, or_else, read_names, text_in, texts_in, uses_name_twice}
+use Rattle.capkit.proofs.Common.{range_of, Subcommand, Line, Usage, BadRange, BadTime, Memory, NameUsedTwice, OptionsExclude, Refused, TooManyValues}
 use Rattle.clap.specs.declared.error.Error.{Error}
 use Rattle.capkit.specs.declared.ids.TheConstants as ids
 use Rattle.capkit.specs.declared.arguments.Subcommand.TheVariants as sub
 
-pub says_line : (words : List Text) (asked : Subcommand) (matches : List Row) (r : Result Line Usage) → Asks words asked matches → IfOk r (IsLineOf asked matches)
+pub says_line : (words : List Text) (asked : Subcommand) (matches : List Row) (r : Result Line Usage) → Asks words asked matches
+    → IfOk r (IsLineOf asked matches)
     → OnOk r (fault_in asked matches ≡ None) → IfOk r (SaysLine words)
 says_line words asked matches (Ok line) asks is none = (asked, matches, asks, none, is)
 says_line words asked matches (Err usage) asks is none = tt
@@ -28,7 +32,8 @@ not_refused sub.Edit matches e same =
     edit_or_name (nat_lt most_ranges (length words)) (list_any (λ word. is_none (range_of word)) words) (has_bad_time matches) (has_two_shifts matches)
     (uses_name_twice (text_in ids.IN.now matches ∷ []) (Some (text_in ids.OUT.now matches))) e same
 not_refused sub.Merge matches e same =
-    other_or_name TooManyValues (nat_lt most_inputs (length (files_in matches))) (uses_name_twice (files_in matches) (Some (text_in ids.OUT.now matches))) e (λ is. cc) same
+    other_or_name TooManyValues (nat_lt most_inputs (length (files_in matches)))
+    (uses_name_twice (files_in matches) (Some (text_in ids.OUT.now matches))) e (λ is. cc) same
 not_refused sub.Infos matches e same =
     other_or_name TooManyValues (nat_lt most_inputs (length (files_in matches))) (uses_name_twice (files_in matches) None) e (λ is. cc) same
 not_refused sub.Print matches e same =

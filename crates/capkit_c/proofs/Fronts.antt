@@ -1,5 +1,10 @@
 -- The unit that a text begins with, from the record or the block that it is.
-use Rattle.capkit_c.proofs.Common.{◌≡◌, ℕ, ◌+◌, ◌-◌, ◌<◌, ◌≤◌, List, [], ◌∷◌, ◌++◌, length, take, drop, Option, Some, None, Ok, refl, sym, ap, ◌∙◌, subst, arith, slice_get, option_map, drop-take, length-take-le, take-append-drop, take-take, checked, Captured, Order, checked_ok, Head, RecordHead, record_fault, record_header_in, record_size, record_packet, record_header_in-append, is_section, Described, Section, packet_of, packets_in, parts_after, LieAsSaid, section_of, Declared, Nothing, PcapFile, PcapngFile, IsUnit, Whole, a_block, a_first_block, file_after, first_link_after, front_of, is_pcapng, Following, BlockStands, IsNoBlock, IsOfIfAny, spans_of, declared_by, ArePlaced, Begins, IsNoUnit, BeginsWithUnit, UnitPacket, Refusal, FileState, Interface}
+use Rattle.capkit_c.proofs.Common.{◌≡◌, ℕ, ◌+◌, ◌-◌, ◌<◌, ◌≤◌, List, [], ◌∷◌, ◌++◌, length, take, drop, Option, Some, None, Ok, refl, sym, ap, ◌∙◌, subst}
+use Rattle.capkit_c.proofs.Common.{arith, slice_get, option_map, drop-take, length-take-le, take-append-drop, take-take, checked, Captured, Order, checked_ok}
+use Rattle.capkit_c.proofs.Common.{Head, RecordHead, record_fault, record_header_in, record_size, record_packet, record_header_in-append, is_section, Described}
+use Rattle.capkit_c.proofs.Common.{Section, packet_of, packets_in, parts_after, LieAsSaid, section_of, Declared, Nothing, PcapFile, PcapngFile, IsUnit, Whole}
+use Rattle.capkit_c.proofs.Common.{a_block, a_first_block, file_after, first_link_after, front_of, is_pcapng, Following, BlockStands, IsNoBlock, IsOfIfAny}
+use Rattle.capkit_c.proofs.Common.{spans_of, declared_by, ArePlaced, Begins, IsNoUnit, BeginsWithUnit, UnitPacket, Refusal, FileState, Interface}
 use Rattle.cap_pcap.proofs.Records.{passes}
 use Rattle.cap_pcapng.specs.Comment.{comment_in}
 use Rattle.cap_io.proofs.CapturesCame.{first-packets, section-kept}
@@ -21,7 +26,8 @@ pcapng_by text first enough same =
 pub part_within : (text : List ℕ) (size start count : ℕ) → start + count ≤ size → take count (drop start (take size text)) ≡ take count (drop start text)
 part_within text size start count fits =
     let whole : size ≡ start + (size - start) = omega arith in
-    ap (λ n. take count (drop start (take n text))) whole ∙ ap (take count) (drop-take start (size - start) text) ∙ take-take count (size - start) (drop start text) (omega (arith, fits))
+    ap (λ n. take count (drop start (take n text))) whole ∙ ap (take count) (drop-take start (size - start) text) ∙ take-take count (size - start)
+    (drop start text) (omega (arith, fits))
 
 -- ---- a record
 
@@ -40,7 +46,8 @@ record_placed head found = record {
 
 pub record_stands : (head : Head) (text : List ℕ) (found : RecordHead) (known : List Described) (table : List Interface) (count : ℕ)
     → Ok found ≡ checked (record_fault head text) (record_header_in head text) → count ≤ length table → count ≤ 256
-    → BeginsWithUnit (form.Pcap head) known text table (record { size = 16 + found.captured; form = form.Pcap head; interfaces = count; packet = Some (record_placed head found) })
+    → BeginsWithUnit (form.Pcap head) known text table
+    (record { size = 16 + found.captured; form = form.Pcap head; interfaces = count; packet = Some (record_placed head found) })
 record_stands head text found known table count is fits upper_bound =
     let e = checked_ok (record_fault head text) (record_header_in head text) found (sym is) in
     let size : record_size head text ≡ 16 + found.captured = ap (λ (r : RecordHead). 16 + r.captured) e.1 in
@@ -77,7 +84,8 @@ record_stands head text found known table count is fits upper_bound =
 -- ---- a block
 
 -- the interface of a packet
-lent : (found : Option Described) (time orig : ℕ) (bytes comment : List ℕ) (q : Captured) → option_map (λ (i : Described). packet_of i time orig bytes comment) found ≡ Some q
+lent : (found : Option Described) (time orig : ℕ) (bytes comment : List ℕ) (q : Captured)
+    → option_map (λ (i : Described). packet_of i time orig bytes comment) found ≡ Some q
     → (i : Described) × (found ≡ Some i) × (packet_of i time orig bytes comment ≡ q)
 lent None time orig bytes comment q e = absurd (cc)
 lent (Some i) time orig bytes comment q e = (i, refl, (cc))
@@ -85,9 +93,12 @@ lent (Some i) time orig bytes comment q e = (i, refl, (cc))
 exact : {X : Type 0} (f : Described → X) (found : Option Described) (i : Described) (x : X) → found ≡ Some i → option_map f found ≡ Some x → f i ≡ x
 exact f found i x is e = let same : option_map f found ≡ Some (f i) = ap (option_map f) is in (cc)
 
-pub block_front : (declared : Declared) (first : Option ℕ) (before : Option Section) (text : List ℕ) (order : Order) (size : ℕ) (interfaces' : List Described) (packet : Option UnitPacket)
-    → BlockStands before text order size interfaces' packet → IsUnit declared (take size text) (packets_in before (take size text)) (file_after first before (take size text))
-    → front_of declared text ≡ Whole size (packets_in before (take size text)) (PcapngFile (first_link_after first (section_of order interfaces')) (section_of order interfaces'))
+pub block_front : (declared : Declared) (first : Option ℕ) (before : Option Section) (text : List ℕ) (order : Order) (size : ℕ)
+    (interfaces' : List Described) (packet : Option UnitPacket)
+    → BlockStands before text order size interfaces' packet → IsUnit declared (take size text) (packets_in before (take size text))
+    (file_after first before (take size text))
+    → front_of declared text ≡ Whole size (packets_in before (take size text)) (PcapngFile (first_link_after first (section_of order interfaces'))
+    (section_of order interfaces'))
 block_front declared first before text order size interfaces' packet b unit =
     ap (front_of declared) (sym (take-append-drop size text)) ∙ front_of-unit unit (drop size text)
     ∙ ap (λ n. Whole n (packets_in before (take size text)) (file_after first before (take size text))) (length-take-le size text b.there)
@@ -102,7 +113,8 @@ placed_after section link text order size interfaces' (Some p) b of =
     let kept : section_of order interfaces' ≡ section = sym b.section ∙ section-kept section (take size text) c.packet c.stands in
     let same : interfaces' ≡ section.interfaces = ap (λ (s : Section). s.interfaces) kept in
     let l = lent (slice_get section.interfaces p.interface) p.time p.orig _ _ c.packet c.lies in
-    let named : option_map (λ (i : Described). i.name) (slice_get section.interfaces p.interface) ≡ Some l.0.name = ap (option_map (λ (i : Described). i.name)) l.1 in
+    let named : option_map (λ (i : Described). i.name) (slice_get section.interfaces p.interface) ≡ Some l.0.name =
+    ap (option_map (λ (i : Described). i.name)) l.1 in
     let is = l.2 in (
       c.packet,
       c.stands,
@@ -120,22 +132,26 @@ placed_after section link text order size interfaces' (Some p) b of =
       },
     )
 
-placed_first : (link : Option ℕ) (text : List ℕ) (order : Order) (size : ℕ) (interfaces' : List Described) (packet : Option UnitPacket) → BlockStands None text order size interfaces' packet
+placed_first : (link : Option ℕ) (text : List ℕ) (order : Order) (size : ℕ) (interfaces' : List Described) (packet : Option UnitPacket)
+    → BlockStands None text order size interfaces' packet
     → ArePlaced (PcapngFile link (section_of order interfaces')) text size packet (packets_in None (take size text))
 placed_first link text order size interfaces' None b = b.carries
 placed_first link text order size interfaces' (Some p) b =
     let none : [] ≡ b.carries.packet ∷ [] = sym (first-packets (take size text) b.is_block) ∙ b.carries.stands in absurd (cc)
 
 -- what a text begins with, after what is declared
-pub record BlockUnit (declared : Declared) (first : Option ℕ) (text : List ℕ) (order : Order) (size : ℕ) (interfaces' : List Described) (packet : Option UnitPacket) : Type 0 where
+pub record BlockUnit (declared : Declared) (first : Option ℕ) (text : List ℕ) (order : Order) (size : ℕ) (interfaces' : List Described)
+    (packet : Option UnitPacket) : Type 0 where
   pub packets : List Captured
   pub front : front_of declared text ≡ Whole size packets (PcapngFile (first_link_after first (section_of order interfaces')) (section_of order interfaces'))
   pub placed : ArePlaced (PcapngFile (first_link_after first (section_of order interfaces')) (section_of order interfaces')) text size packet packets
   pub there : size ≤ length text
   pub some : 0 < size
 
-pub block_unit : (f : FileState) (section : Option Order) (first : Option ℕ) (interfaces : List Described) (text : List ℕ) (order : Order) (size : ℕ) (interfaces' : List Described) (packet : Option UnitPacket)
-    → Begins f section first interfaces text → Following section interfaces (λ before. BlockStands before text order size interfaces' packet) → IsOfIfAny interfaces packet
+pub block_unit : (f : FileState) (section : Option Order) (first : Option ℕ) (interfaces : List Described) (text : List ℕ) (order : Order) (size : ℕ)
+    (interfaces' : List Described) (packet : Option UnitPacket)
+    → Begins f section first interfaces text → Following section interfaces (λ before. BlockStands before text order size interfaces' packet)
+    → IsOfIfAny interfaces packet
     → BlockUnit (declared_by f interfaces) first text order size interfaces' packet
 block_unit form.Unknown section first interfaces text order size interfaces' packet begins stands of =
     let b = stands None (sym begins.0) (sym begins.2) in
@@ -153,20 +169,23 @@ block_unit (form.Pcapng own link) section first interfaces text order size inter
     let P : Option ℕ → Type 0 = λ l. BlockUnit (PcapngFile link (section_of own interfaces)) l text order size interfaces' packet in
     subst P (sym begins.1) (record {
       packets = packets_in (Some (section_of own interfaces)) (take size text);
-      front = block_front (PcapngFile link (section_of own interfaces)) link (Some (section_of own interfaces)) text order size interfaces' packet b (a_block link (section_of own interfaces) (take size text) b.is_block);
+      front = block_front (PcapngFile link (section_of own interfaces)) link (Some (section_of own interfaces)) text order size interfaces' packet b
+          (a_block link (section_of own interfaces) (take size text) b.is_block);
       placed = placed_after (section_of own interfaces) _ text order size interfaces' packet b of;
       there = b.there;
       some = b.some;
     })
 
 -- why there is none
-pub no_unit : (f : FileState) (section : Option Order) (first : Option ℕ) (interfaces : List Described) (text : List ℕ) (room : ℕ) (why : Refusal) → Begins f section first interfaces text
+pub no_unit : (f : FileState) (section : Option Order) (first : Option ℕ) (interfaces : List Described) (text : List ℕ) (room : ℕ) (why : Refusal)
+    → Begins f section first interfaces text
     → IsNoBlock section interfaces text room why → IsNoUnit f interfaces text room why
 no_unit form.Unknown section first interfaces text room (refusal.Fault fault) begins r =
     front_of-pcapng text begins.3 ∙ front_of_block-none None None text fault (r None (sym begins.0) (sym begins.2))
 no_unit (form.Pcap head) section first interfaces text room (refusal.Fault fault) begins r = absurd begins
 no_unit (form.Pcapng own link) section first interfaces text room (refusal.Fault fault) begins r =
-    front_of-following link (section_of own interfaces) text begins.2 ∙ front_of_block-none link (Some (section_of own interfaces)) text fault (r (Some (section_of own interfaces)) (sym begins.0) refl)
+    front_of-following link (section_of own interfaces) text begins.2 ∙ front_of_block-none link (Some (section_of own interfaces)) text fault
+    (r (Some (section_of own interfaces)) (sym begins.0) refl)
 no_unit form.Unknown section first interfaces text room refusal.NoRoom begins r =
     let d = r.1 None (sym begins.0) (sym begins.2) in
     let b = d.stands in (
@@ -177,7 +196,8 @@ no_unit form.Unknown section first interfaces text room refusal.NoRoom begins r 
         section = section_of d.order (interfaces ++ d.interface ∷ []);
         interface = d.interface;
         front = block_front Nothing None None text d.order d.size (interfaces ++ d.interface ∷ []) None b (a_first_block (take d.size text) b.is_block)
-            ∙ ap (λ qs. Whole d.size qs (PcapngFile (first_link_after None (section_of d.order (interfaces ++ d.interface ∷ []))) (section_of d.order (interfaces ++ d.interface ∷ [])))) b.carries;
+            ∙ ap (λ qs. Whole d.size qs (PcapngFile (first_link_after None (section_of d.order (interfaces ++ d.interface ∷ [])))
+            (section_of d.order (interfaces ++ d.interface ∷ [])))) b.carries;
         more = refl;
       },
     )
@@ -191,8 +211,10 @@ no_unit (form.Pcapng own link) section first interfaces text room refusal.NoRoom
         first = first_link_after link (section_of d.order (interfaces ++ d.interface ∷ []));
         section = section_of d.order (interfaces ++ d.interface ∷ []);
         interface = d.interface;
-        front = block_front (PcapngFile link (section_of own interfaces)) link (Some (section_of own interfaces)) text d.order d.size (interfaces ++ d.interface ∷ []) None b (a_block link (section_of own interfaces) (take d.size text) b.is_block)
-            ∙ ap (λ qs. Whole d.size qs (PcapngFile (first_link_after link (section_of d.order (interfaces ++ d.interface ∷ []))) (section_of d.order (interfaces ++ d.interface ∷ [])))) b.carries;
+        front = block_front (PcapngFile link (section_of own interfaces)) link (Some (section_of own interfaces)) text d.order d.size
+            (interfaces ++ d.interface ∷ []) None b (a_block link (section_of own interfaces) (take d.size text) b.is_block)
+            ∙ ap (λ qs. Whole d.size qs (PcapngFile (first_link_after link (section_of d.order (interfaces ++ d.interface ∷ [])))
+            (section_of d.order (interfaces ++ d.interface ∷ [])))) b.carries;
         more = refl;
       },
     )

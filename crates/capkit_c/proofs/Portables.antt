@@ -1,18 +1,26 @@
 -- A portable program reads no word that it didn't write, and does nothing that libpcap or Linux
 -- does otherwise.
-use Rattle.capkit_c.proofs.Common.{◌≡◌, ◌↔◌, ◌⊎◌, inl, inr, ℕ, zero, suc, ◌+◌, ◌-◌, ◌%◌, ◌^◌, ◌<◌, ◌≤◌, List, [], ◌∷◌, length, drop, get_or, Bool, true, false, Option, Some, None, refl, sym, ap, ◌∙◌, subst, arith, ◌==◌, nat_lt, nat_le, ◌&&◌, ◌||◌, not, if◌then◌else◌, slice_set, bit_and, list_all, option_map, get_or-drop, Insn, Next, Goes, Ends, Lost, step_if_there, does, does_if_known, into, word_into, into_word, with_register, held, field, compute, operand_value, test_holds, header_length, run_from, progress_after, machine, start, parts, sign_bit, half_sign_bit, operation_keeps, keeps_x_small, operation_alike, runs_alike, operation_alike_on_libpcap, runs_alike_on_libpcap, is_live_at, operation_wants, is_live_before, live_places, none_read_unwritten, most_attached, is_portable, portability}
+use Rattle.capkit_c.proofs.Common.{◌≡◌, ◌↔◌, ◌⊎◌, inl, inr, ℕ, zero, suc, ◌+◌, ◌-◌, ◌%◌, ◌^◌, ◌<◌, ◌≤◌, List, [], ◌∷◌, length, drop, get_or, Bool, true, false}
+use Rattle.capkit_c.proofs.Common.{Option, Some, None, refl, sym, ap, ◌∙◌, subst, arith, ◌==◌, nat_lt, nat_le, ◌&&◌, ◌||◌, not, if◌then◌else◌, slice_set}
+use Rattle.capkit_c.proofs.Common.{bit_and, list_all, option_map, get_or-drop, Insn, Next, Goes, Ends, Lost, step_if_there, does, does_if_known, into}
+use Rattle.capkit_c.proofs.Common.{word_into, into_word, with_register, held, field, compute, operand_value, test_holds, header_length, run_from}
+use Rattle.capkit_c.proofs.Common.{progress_after, machine, start, parts, sign_bit, half_sign_bit, operation_keeps, keeps_x_small, operation_alike, runs_alike}
+use Rattle.capkit_c.proofs.Common.{operation_alike_on_libpcap, runs_alike_on_libpcap, is_live_at, operation_wants, is_live_before, live_places}
+use Rattle.capkit_c.proofs.Common.{none_read_unwritten, most_attached, is_portable, portability}
 use Rattle.std.specs.Prelude.{slice_get}
 use Rattle.std.proofs.lemmas.Bool.{and_parts, and_from, or_right, or_left, cases_lt, eq-eqb, ne_eqb, ltb-true, lt-ltb, not-true}
 use Rattle.std.proofs.lemmas.{Nat.and_le_r, Option.slice_get_past, Option.slice_get-get_or}
 use Rattle.flt_bpf.specs.{Instructions.operation_of, Machine.step, Valid.IsValid, Valid.WORDS, declared.machine.State.State}
 use Rattle.flt_bpf.specs.declared.operation.AluOperation.TheVariants.{ShiftLeft, ShiftRight}
 use Rattle.flt_bpf.specs.declared.operation.{Operand.TheVariants.Constant, Operand.TheVariants.IndexRegister, Operation.Operation}
-use Rattle.flt_bpf.specs.declared.operation.Operation.TheVariants.{LoadAbsolute, LoadIndirect, Load, LoadHeaderLength, Store, Compute, Negate, Jump, JumpIf, ReturnConstant, ReturnAccumulator, CopyToIndex, CopyToAccumulator}
+use Rattle.flt_bpf.specs.declared.operation.Operation.TheVariants.{LoadAbsolute, LoadIndirect, Load, LoadHeaderLength, Store, Compute, Negate, Jump, JumpIf}
+use Rattle.flt_bpf.specs.declared.operation.Operation.TheVariants.{ReturnConstant, ReturnAccumulator, CopyToIndex, CopyToAccumulator}
 use Rattle.flt_bpf.specs.declared.operation.Register.{Register, TheVariants.Accumulator, TheVariants.Index}
 use Rattle.flt_bpf.specs.declared.operation.Source.TheVariants.{Immediate, Memory, Length}
 use Rattle.flt_bpf.specs.declared.operation.Width.TheVariants.{Byte}
 use Rattle.flt_bpf.proofs.Steps.{goes_inside}
-use Rattle.capkit_c.specs.Elsewhere.{Machine, does_on, step_on, run_on, outcome_on, on_libpcap, load_on_linux, on_linux, HereFromZeros, SameFromAnyWords, SameOnLibpcap, SameOnLinux}
+use Rattle.capkit_c.specs.Elsewhere.{Machine, does_on, step_on, run_on, outcome_on, on_libpcap, load_on_linux, on_linux, HereFromZeros, SameFromAnyWords}
+use Rattle.capkit_c.specs.Elsewhere.{SameOnLibpcap, SameOnLinux}
 
 -- ---- words
 
@@ -25,13 +33,15 @@ record SameWords (live : ℕ → Bool) (m : List ℕ) (s : State) : Type 0 where
   sizes : length m ≡ length s.memory
   words : (w : ℕ) → live w ≡ true → slice_get m w ≡ slice_get s.memory w
 
-weaker : {live less : ℕ → Bool} {m : List ℕ} {s t : State} → t.memory ≡ s.memory → ((w : ℕ) → less w ≡ true → live w ≡ true) → SameWords live m s → SameWords less m t
+weaker : {live less : ℕ → Bool} {m : List ℕ} {s t : State} → t.memory ≡ s.memory → ((w : ℕ) → less w ≡ true → live w ≡ true) → SameWords live m s
+    → SameWords less m t
 weaker {live} {less} {m} {s} {t} e f h = record {
   sizes = h.sizes ∙ ap length (sym e);
   words = λ w l. h.words w (f w l) ∙ ap (λ x. slice_get x w) (sym e);
 }
 
-set_both : (a b : List ℕ) (k v w : ℕ) → length a ≡ length b → ((k ≡ w → ⊥) → slice_get a w ≡ slice_get b w) → slice_get (slice_set a k v) w ≡ slice_get (slice_set b k v) w
+set_both : (a b : List ℕ) (k v w : ℕ) → length a ≡ length b → ((k ≡ w → ⊥) → slice_get a w ≡ slice_get b w) → slice_get (slice_set a k v) w ≡
+    slice_get (slice_set b k v) w
 set_both [] [] k v w e h = refl
 set_both [] (y ∷ b) k v w e h = absurd (omega arith)
 set_both (x ∷ a) [] k v w e h = absurd (omega arith)
@@ -72,11 +82,13 @@ module _ (i : Insn) (p : List ℕ) (n : ℕ) (f : ℕ → List Bool) (s : State)
       there None = lost
       there (Some v) = set r v h
 
-  branch : (b : Bool) (j k : ℕ) → SameWords (λ w. is_live_at (f w) j || is_live_at (f w) k) m s → After f (Goes (if b then j else k) (on s m)) (Goes (if b then j else k) s)
+  branch : (b : Bool) (j k : ℕ) → SameWords (λ w. is_live_at (f w) j || is_live_at (f w) k) m s → After f (Goes (if b then j else k) (on s m))
+      (Goes (if b then j else k) s)
   branch true j k h = goes j s m (weaker refl (λ w l. or_left (is_live_at (f w) j) (is_live_at (f w) k) l) h)
   branch false j k h = goes k s m (weaker refl (λ w l. or_right (is_live_at (f w) j) (is_live_at (f w) k) l) h)
 
-  put : (b : Bool) (v : ℕ) → SameWords (λ w. not (i.k == w) && is_live_at (f w) 0) m s → After f (if b then Goes 0 (on s (slice_set m i.k v)) else Lost) (if b then Goes 0 (on s (slice_set s.memory i.k v)) else Lost)
+  put : (b : Bool) (v : ℕ) → SameWords (λ w. not (i.k == w) && is_live_at (f w) 0) m s
+      → After f (if b then Goes 0 (on s (slice_set m i.k v)) else Lost) (if b then Goes 0 (on s (slice_set s.memory i.k v)) else Lost)
   put false v h = lost
   put true v h = goes 0 (on s (slice_set s.memory i.k v)) (slice_set m i.k v) (record {
     sizes = set_length m i.k v ∙ h.sizes ∙ sym (set_length s.memory i.k v);
@@ -84,7 +96,8 @@ module _ (i : Insn) (p : List ℕ) (n : ℕ) (f : ℕ → List Bool) (s : State)
   })
 
   store_after : (v : ℕ) → SameWords (λ w. not (i.k == w) && is_live_at (f w) 0) m s → After f (into_word i.k v (on s m)) (into_word i.k v s)
-  store_after v h = subst (λ x. After f (if nat_lt i.k x then Goes 0 (on s (slice_set m i.k v)) else Lost) (into_word i.k v s)) (sym h.sizes) (put (nat_lt i.k (length s.memory)) v h)
+  store_after v h = subst (λ x. After f (if nat_lt i.k x then Goes 0 (on s (slice_set m i.k v)) else Lost) (into_word i.k v s)) (sym h.sizes)
+      (put (nat_lt i.k (length s.memory)) v h)
 
   after_known : (o : Option Operation) → SameWords (λ w. operation_wants o w i (f w)) m s → After f (does_if_known o i p n (on s m)) (does_if_known o i p n s)
   after_known None h = lost
@@ -135,7 +148,8 @@ header_index : (o : Option ℕ) (s : State) → index_after (into Index (option_
 header_index None s = omega arith
 header_index (Some b) s = let low = and_le_r b 15 in omega arith
 
-index_kept : (o : Option Operation) (i : Insn) (p : List ℕ) (n : ℕ) (s : State) → operation_keeps o i.k ≡ true → s.index < half_sign_bit → index_after (does_if_known o i p n s) < half_sign_bit
+index_kept : (o : Option Operation) (i : Insn) (p : List ℕ) (n : ℕ) (s : State) → operation_keeps o i.k ≡ true → s.index < half_sign_bit
+    → index_after (does_if_known o i p n s) < half_sign_bit
 index_kept None i p n s e h = omega arith
 index_kept (Some (LoadAbsolute width)) i p n s e h = into_index (field p i.k width) s half_sign_bit h
 index_kept (Some (LoadIndirect width)) i p n s e h = into_index (field p ((s.index + i.k) % 2 ^ 32) width) s half_sign_bit h
@@ -161,7 +175,8 @@ all_at q [] k i h e = cc
 all_at q (j ∷ is) zero i h e = let same : j ≡ i = cc in subst (λ x. q x ≡ true) same (and_parts (q j) (list_all q is) h).0
 all_at q (j ∷ is) (suc k) i h e = all_at q is k i (and_parts (q j) (list_all q is) h).1 e
 
-live_there : (w : ℕ) (is : List Insn) (k : ℕ) (i : Insn) → slice_get is k ≡ Some i → is_live_at (live_places w is) k ≡ is_live_before w i (drop (suc k) (live_places w is))
+live_there : (w : ℕ) (is : List Insn) (k : ℕ) (i : Insn) → slice_get is k ≡ Some i → is_live_at (live_places w is) k ≡ is_live_before w i
+    (drop (suc k) (live_places w is))
 live_there w [] k i e = cc
 live_there w (j ∷ is) zero i e = let same : j ≡ i = cc in ap (λ x. is_live_before w x (live_places w is)) same
 live_there w (j ∷ is) (suc k) i e = live_there w is k i e
@@ -173,7 +188,8 @@ live_later w is place k =
 
 module _ (there : Machine) (prog : List Insn) (p : List ℕ) (n : ℕ) (small : Bool) (valid : IsValid prog)
     (keeps : (k : ℕ) (i : Insn) → slice_get prog k ≡ Some i → small ≡ true → keeps_x_small i ≡ true)
-    (agrees : (k : ℕ) (i : Insn) (s : State) → slice_get prog k ≡ Some i → Small small s → does_on there (operation_of i.code) i p n s ≡ does_if_known (operation_of i.code) i p n s) where
+    (agrees : (k : ℕ) (i : Insn) (s : State) → slice_get prog k ≡ Some i → Small small s → does_on there (operation_of i.code) i p n s ≡ does_if_known
+    (operation_of i.code) i p n s) where
   -- the words before a place
   abbrev Before : ℕ → List ℕ → State → Type 0
   Before place m s = SameWords (λ w. is_live_at (live_places w prog) place) m s
@@ -184,7 +200,10 @@ module _ (there : Machine) (prog : List Insn) (p : List ℕ) (n : ℕ) (small : 
       (s : State) (m : List ℕ) → place < length prog → length prog ≤ t + place → Before place m s → Small small s
       → run_on there prog p n t place (on s m) count ≡ run_from prog p n t place s count
 
-  next : (t place count : ℕ) (i : Insn) (s : State) (u v : Next) → ((k : ℕ) → SameFrom t (place + 1 + k) (count + 1)) → length prog ≤ suc t + place → slice_get prog place ≡ Some i → After (λ w. drop (suc place) (live_places w prog)) u v → step i p n s ≡ v → (small ≡ true → index_after v < half_sign_bit) → progress_after (run_on there prog p n t) place count u ≡ progress_after (run_from prog p n t) place count v
+  next : (t place count : ℕ) (i : Insn) (s : State) (u v : Next) → ((k : ℕ) → SameFrom t (place + 1 + k) (count + 1)) → length prog ≤ suc t + place
+      → slice_get prog place ≡ Some i → After (λ w. drop (suc place) (live_places w prog)) u v → step i p n s ≡ v
+      → (small ≡ true → index_after v < half_sign_bit) → progress_after (run_on there prog p n t) place count u ≡ progress_after (run_from prog p n t)
+      place count v
   next t place count i s u v later left g (goes k s1 m1 h1) e x1 =
       later k s1 m1 (goes_inside prog place i p n s s1 k valid g e) (omega arith)
       (weaker refl (λ w l. sym (live_later w prog place k) ∙ l) h1) x1
@@ -205,7 +224,8 @@ module _ (there : Machine) (prog : List Insn) (p : List ℕ) (n : ℕ) (small : 
   same_run : (t place count : ℕ) → SameFrom t place count
   same_run zero place count s m inside left h x = absurd (omega arith)
   same_run (suc t) place count s m inside left h x =
-      one t place count (get_or prog place (record { code = 0; jt = 0; jf = 0; k = 0 })) (λ k. same_run t (place + 1 + k) (count + 1)) (slice_get-get_or prog place _ inside) s m inside left h x
+      one t place count (get_or prog place (record { code = 0; jt = 0; jf = 0; k = 0 })) (λ k. same_run t (place + 1 + k) (count + 1))
+      (slice_get-get_or prog place _ inside) s m inside left h x
 
 -- ---- the words at the start
 
@@ -218,18 +238,25 @@ none_below (suc n) is h w l = earlier (λ less. none_below n is both.0 w less) (
 
     earlier : (w < n → is_live_at (live_places w is) 0 ≡ false) → (w < n) ⊎ (n ≤ w) → is_live_at (live_places w is) 0 ≡ false
     earlier below (inl less) = below less
-    earlier below (inr more) = let same : n ≡ w = omega arith in subst (λ x. is_live_at (live_places x is) 0 ≡ false) same (not-true (is_live_at (live_places n is) 0) both.1)
+    earlier below (inr more) = let same : n ≡ w = omega arith in subst (λ x. is_live_at (live_places x is) 0 ≡ false) same
+        (not-true (is_live_at (live_places n is) 0) both.1)
 
-none_live : (words : List ℕ) (is : List Insn) → length words ≡ WORDS → none_read_unwritten WORDS is ≡ true → SameWords (λ w. is_live_at (live_places w is) 0) words start
+none_live : (words : List ℕ) (is : List Insn) → length words ≡ WORDS → none_read_unwritten WORDS is ≡ true
+    → SameWords (λ w. is_live_at (live_places w is) 0) words start
 none_live words is long none = record { sizes = long; words = λ w l. either w l (cases_lt w WORDS) }
   where
     either : (w : ℕ) → is_live_at (live_places w is) 0 ≡ true → (w < WORDS) ⊎ (WORDS ≤ w) → slice_get words w ≡ slice_get start.memory w
     either w l (inl less) = let dead = none_below WORDS is none w less in cc
     either w l (inr more) = slice_get_past words w (omega arith) ∙ sym (slice_get_past start.memory w more)
 
-from_start : (there : Machine) (prog : List Insn) (p words : List ℕ) (n : ℕ) (small : Bool) → IsValid prog → ((k : ℕ) (i : Insn) → slice_get prog k ≡ Some i → small ≡ true → keeps_x_small i ≡ true) → ((k : ℕ) (i : Insn) (s : State) → slice_get prog k ≡ Some i → Small small s → does_on there (operation_of i.code) i p n s ≡ does_if_known (operation_of i.code) i p n s) → none_read_unwritten WORDS prog ≡ true → length words ≡ WORDS → outcome_on there words prog p n (length prog) ≡ machine prog p n (length prog)
+from_start : (there : Machine) (prog : List Insn) (p words : List ℕ) (n : ℕ) (small : Bool) → IsValid prog
+    → ((k : ℕ) (i : Insn) → slice_get prog k ≡ Some i → small ≡ true → keeps_x_small i ≡ true)
+    → ((k : ℕ) (i : Insn) (s : State) → slice_get prog k ≡ Some i → Small small s → does_on there (operation_of i.code) i p n s ≡ does_if_known
+    (operation_of i.code) i p n s) → none_read_unwritten WORDS prog ≡ true → length words ≡ WORDS → outcome_on there words prog p n (length prog) ≡
+    machine prog p n (length prog)
 from_start there prog p words n small valid keeps agrees none long =
-    same_run there prog p n small valid keeps agrees (length prog) 0 0 start words (parts prog valid).some (omega arith) (none_live words prog long none) (λ y. omega arith)
+    same_run there prog p n small valid keeps agrees (length prog) 0 0 start words (parts prog valid).some (omega arith)
+    (none_live words prog long none) (λ y. omega arith)
 
 -- ---- the machine here
 
@@ -242,7 +269,9 @@ unfolding step
 here_step None p n s = refl
 here_step (Some i) p n s = here_known (operation_of i.code) i p n s
 
-here_next : (prog : List Insn) (p : List ℕ) (n t place count : ℕ) (v : Next) → ((j : ℕ) (s : State) (c : ℕ) → run_on does prog p n t j s c ≡ run_from prog p n t j s c) → progress_after (run_on does prog p n t) place count v ≡ progress_after (run_from prog p n t) place count v
+here_next : (prog : List Insn) (p : List ℕ) (n t place count : ℕ) (v : Next)
+    → ((j : ℕ) (s : State) (c : ℕ) → run_on does prog p n t j s c ≡ run_from prog p n t j s c) → progress_after (run_on does prog p n t) place count
+    v ≡ progress_after (run_from prog p n t) place count v
 here_next prog p n t place count (Goes k s) later = later (place + 1 + k) s (count + 1)
 here_next prog p n t place count (Ends a) later = refl
 here_next prog p n t place count Lost later = refl
@@ -320,7 +349,8 @@ same_from_any_words insns valid bit words p n long =
 sum_stays : (a b : ℕ) → a < half_sign_bit → b < sign_bit → (a + b) % 2 ^ 32 ≡ a + b
 sum_stays a b x y = omega arith
 
-libpcap_known : (o : Option Operation) (i : Insn) (p : List ℕ) (n : ℕ) (s : State) (small : Bool) → operation_alike_on_libpcap o i.k small ≡ true → Small small s → does_on on_libpcap o i p n s ≡ does_if_known o i p n s
+libpcap_known : (o : Option Operation) (i : Insn) (p : List ℕ) (n : ℕ) (s : State) (small : Bool) → operation_alike_on_libpcap o i.k small ≡ true
+    → Small small s → does_on on_libpcap o i p n s ≡ does_if_known o i p n s
 libpcap_known None i p n s small e x = refl
 libpcap_known (Some (LoadIndirect width)) i p n s small e x =
     let both = and_parts small (nat_lt i.k sign_bit) e in
@@ -335,10 +365,12 @@ same_on_libpcap insns valid bit words p n long =
 
 -- ---- Linux
 
-load_below : (other : Machine) (offset : ℕ) (operation : Operation) (i : Insn) (p : List ℕ) (n : ℕ) (s : State) → nat_lt offset sign_bit ≡ true → load_on_linux other offset operation i p n s ≡ does operation i p n s
+load_below : (other : Machine) (offset : ℕ) (operation : Operation) (i : Insn) (p : List ℕ) (n : ℕ) (s : State) → nat_lt offset sign_bit ≡ true
+    → load_on_linux other offset operation i p n s ≡ does operation i p n s
 load_below other offset operation i p n s e = ap (λ b. if b then does operation i p n s else other operation i p n s) e
 
-linux_known : (other : Machine) (o : Option Operation) (i : Insn) (p : List ℕ) (n : ℕ) (s : State) (small : Bool) → operation_alike o i.k small ≡ true → Small small s → does_on (on_linux other) o i p n s ≡ does_if_known o i p n s
+linux_known : (other : Machine) (o : Option Operation) (i : Insn) (p : List ℕ) (n : ℕ) (s : State) (small : Bool) → operation_alike o i.k small ≡ true
+    → Small small s → does_on (on_linux other) o i p n s ≡ does_if_known o i p n s
 linux_known other None i p n s small e x = refl
 linux_known other (Some (LoadAbsolute width)) i p n s small e x = load_below other i.k (LoadAbsolute width) i p n s e
 linux_known other (Some LoadHeaderLength) i p n s small e x = load_below other i.k LoadHeaderLength i p n s e

@@ -1,10 +1,13 @@
 -- What a put finds, and what it keeps.
-use Rattle.capkit_c.proofs.Common.{◌≡◌, ℕ, ◌+◌, ◌<◌, ◌≤◌, List, [], ◌∷◌, ◌++◌, length, take, length-take-le, Option, None, Some, refl, sym, ap, ◌∙◌, subst, arith, min, zero, suc, Bool, true, false, ◌==◌, nat_lt, ◌&&◌, ◌||◌, not, if◌then◌else◌, slice_set, Captured, Fault, WriteLeaves, Interface, first_failing, append-nil, ap₂}
+use Rattle.capkit_c.proofs.Common.{◌≡◌, ℕ, ◌+◌, ◌<◌, ◌≤◌, List, [], ◌∷◌, ◌++◌, length, take, length-take-le, Option, None, Some, refl, sym, ap, ◌∙◌, subst}
+use Rattle.capkit_c.proofs.Common.{arith, min, zero, suc, Bool, true, false, ◌==◌, nat_lt, ◌&&◌, ◌||◌, not, if◌then◌else◌, slice_set, Captured, Fault}
+use Rattle.capkit_c.proofs.Common.{WriteLeaves, Interface, first_failing, append-nil, ap₂}
 use Rattle.std.specs.{List.list_any, List.position_or_len, Prelude.map, Prelude.cond}
 use Rattle.std.proofs.lemmas.{Bool.Decides.nat_tests, Cmp.nat_eq_equiv, Cmp.nat_list_eq_equiv, List.take_more_set, List.length-map, List.length-set}
 use Rattle.cap_io.specs.Text as text
 use Rattle.cap_pcapng.specs.Encoding.{interface_text, packet_block, section_text}
-use Rattle.capkit_c.specs.Writer.{output_interface, interfaces_in, most_written, room_for, put_checks, put_refusal, has_all, next_text, HasWritten, KeepsWritten, IsWhole}
+use Rattle.capkit_c.specs.Writer.{output_interface, interfaces_in, most_written, room_for, put_checks, put_refusal, has_all, next_text, HasWritten}
+use Rattle.capkit_c.specs.Writer.{KeepsWritten, IsWhole}
 use Rattle.capkit_c.specs.{declared.memory.layout.Writer.Writer, declared.memory.writing.Written.Written, inside.Writer.HasAdded}
 
 -- whether an element passes, by the first place of one
@@ -34,9 +37,11 @@ pub all_counted : (w : Writer) (table : List Interface) → w.interfaces ≤ roo
 all_counted w table fits =
     let most : most_written w (length table) ≡ w.interfaces = omega (arith, fits) in
     let there : w.interfaces ≤ length table = omega (arith, fits) in
-    sym (length-map (take (most_written w (length table)) table) output_interface ∙ ap (λ n. length (take n table)) most ∙ length-take-le w.interfaces table there)
+    sym (length-map (take (most_written w (length table)) table) output_interface ∙ ap (λ n. length (take n table)) most ∙ length-take-le w.interfaces
+    table there)
 
-module _ (w : Writer) (table : List Interface) (p : Captured) (known number room : ℕ) (at_known : known ≡ length (interfaces_in w table)) (at_number : number ≡ text.number_among (interfaces_in w table) (text.interface_of p)) (at_room : room ≡ room_for (length table)) where
+module _ (w : Writer) (table : List Interface) (p : Captured) (known number room : ℕ) (at_known : known ≡ length (interfaces_in w table))
+    (at_number : number ≡ text.number_among (interfaces_in w table) (text.interface_of p)) (at_room : room ≡ room_for (length table)) where
   abbrev ks : List text.Interface
   ks = interfaces_in w table
 
@@ -53,10 +58,12 @@ module _ (w : Writer) (table : List Interface) (p : Captured) (known number room
   refusal r e = e ∙ ap₂ (λ m k. first_failing (put_checks (nat_lt m k) p)) at_number at_room
 
   -- the unit and what is added, by both tests
-  unit_is : (b : Bool) → (w.has_section == 0) ≡ false → text.is_among ks i ≡ b → next_text w table p ≡ (if b then packet_block (text.number_among ks i) p else interface_text p.link p.snap p.name)
+  unit_is : (b : Bool) → (w.has_section == 0) ≡ false → text.is_among ks i ≡ b
+      → next_text w table p ≡ (if b then packet_block (text.number_among ks i) p else interface_text p.link p.snap p.name)
   unit_is b s e = ap₂ (λ x y. if x then section_text else (if y then packet_block (text.number_among ks i) p else interface_text p.link p.snap p.name)) s e
 
-  added_is : (b : Bool) → (w.has_section == 0) ≡ false → text.is_among ks i ≡ b → (if w.has_section == 0 then [] else text.new_among ks i) ≡ (if b then [] else i ∷ [])
+  added_is : (b : Bool) → (w.has_section == 0) ≡ false → text.is_among ks i ≡ b → (if w.has_section == 0 then [] else text.new_among ks i) ≡
+      (if b then [] else i ∷ [])
   added_is b s e = ap₂ (λ x y. if x then [] else (if y then [] else i ∷ [])) s e
 
   pub block_is : (w.has_section == 0) ≡ false → nat_lt number known ≡ true → packet_block number p ≡ next_text w table p
@@ -76,7 +83,8 @@ module _ (w : Writer) (table : List Interface) (p : Captured) (known number room
   same_kept _ s l = (refl, refl)
 
   -- a description adds its interface
-  one_more : (w' : Writer) (table' : List Interface) → known ≡ most_written w (length table) → (w.has_section == 0) ≡ false → nat_lt number known ≡ false → HasAdded known p w table w' table' → HasWritten w table p w' table'
+  one_more : (w' : Writer) (table' : List Interface) → known ≡ most_written w (length table) → (w.has_section == 0) ≡ false
+      → nat_lt number known ≡ false → HasAdded known p w table w' table' → HasWritten w table p w' table'
   one_more w' table' is s l h = record {
     section = ap (λ (v : Writer). v.has_section == 0) h.counted ∙ s;
     interfaces =
@@ -99,20 +107,25 @@ module _ (w : Writer) (table : List Interface) (p : Captured) (known number room
       count = ap₂ (λ (v : Writer) n. min v.interfaces (room_for n)) h.counted long ∙ (let fits = h.fits in grind (arith, nat_tests))
 
   -- a section adds nothing
-  pub section_kept : (r : Written) (w' : Writer) → known ≡ most_written w (length table) → (w.has_section == 0) ≡ true → (IsWhole r → w' ≡ record { interfaces = known; has_section = 1 }) → ((IsWhole r → ⊥) → w' ≡ w) → KeepsWritten r w table p w' table
+  pub section_kept : (r : Written) (w' : Writer) → known ≡ most_written w (length table) → (w.has_section == 0) ≡ true
+      → (IsWhole r → w' ≡ record { interfaces = known; has_section = 1 }) → ((IsWhole r → ⊥) → w' ≡ w) → KeepsWritten r w table p w' table
   section_kept (Written.Whole n) w' is s f g =
       let same : w' ≡ record { interfaces = known; has_section = 1 } = f tt in
       let upper_bound : known ≤ room_for (length table) = omega (arith, is) in
-      let most : most_written w' (length table) ≡ most_written w (length table) = ap (λ (v : Writer). most_written v (length table)) same ∙ omega (arith, is, upper_bound) in
+      let most : most_written w' (length table) ≡ most_written w (length table) = ap (λ (v : Writer). most_written v (length table)) same
+      ∙ omega (arith, is, upper_bound) in
       record {
         section = ap (λ (v : Writer). v.has_section == 0) same;
-        interfaces = ap (λ m. map output_interface (take m table)) most ∙ sym (append-nil ks) ∙ ap (λ (b : Bool). ks ++ (if b then [] else text.new_among ks i)) (sym s);
+        interfaces = ap (λ m. map output_interface (take m table)) most ∙ sym (append-nil ks)
+            ∙ ap (λ (b : Bool). ks ++ (if b then [] else text.new_among ks i)) (sym s);
         room = refl;
         counted = λ _. all_counted w' table (subst (λ (v : Writer). v.interfaces ≤ room_for (length table)) (sym same) upper_bound);
       }
   section_kept _ w' is s f g = (g (λ x. x), refl)
 
-  pub more_kept : (r : Written) (w' : Writer) (table' : List Interface) → known ≡ most_written w (length table) → (w.has_section == 0) ≡ false → nat_lt number known ≡ false → (IsWhole r → HasAdded known p w table w' table') → ((IsWhole r → ⊥) → (w' ≡ w) × (table' ≡ table)) → KeepsWritten r w table p w' table'
+  pub more_kept : (r : Written) (w' : Writer) (table' : List Interface) → known ≡ most_written w (length table) → (w.has_section == 0) ≡ false
+      → nat_lt number known ≡ false → (IsWhole r → HasAdded known p w table w' table') → ((IsWhole r → ⊥) → (w' ≡ w) × (table' ≡ table))
+      → KeepsWritten r w table p w' table'
   more_kept (Written.Whole n) w' table' is s l f g = one_more w' table' is s l (f tt)
   more_kept _ w' table' is s l f g = g (λ x. x)
 

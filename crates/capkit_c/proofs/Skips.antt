@@ -1,5 +1,10 @@
 -- What going past a refused unit leaves.
-use Rattle.capkit_c.proofs.Common.{inl, inr, ap₂, block_size, parts_after, section_of, IsFramed, NextLeaves, Packet, ends, fails, finds, is_full, passes, ◌≡◌, ℕ, ◌+◌, ◌<◌, ◌≤◌, ◌%◌, List, [], ◌∷◌, ◌++◌, length, take, drop, Option, Some, None, Err, refl, sym, ap, ◌∙◌, subst, arith, Bool, true, false, nat_lt, ◌==◌, nat_le, ◌&&◌, ◌||◌, not, if◌then◌else◌, length-take-le, take-take, checked, first_failing, Captured, Fault, Truncated, Order, checked_err, Head, is_section, frame_fault, frame_in, Described, Section, order_before, unit_fault, Declared, Nothing, PcapFile, PcapngFile, NoUnit, Whole, front_of, declared_by, FileState, declared_in, first_interfaces, reader_form, most_known, ArePlaced, BeginsWithUnit, Counts, DeclaresOne, UnitPacket, Interface, Reader}
+use Rattle.capkit_c.proofs.Common.{inl, inr, ap₂, block_size, parts_after, section_of, IsFramed, NextLeaves, Packet, ends, fails, finds, is_full, passes, ◌≡◌}
+use Rattle.capkit_c.proofs.Common.{ℕ, ◌+◌, ◌<◌, ◌≤◌, ◌%◌, List, [], ◌∷◌, ◌++◌, length, take, drop, Option, Some, None, Err, refl, sym, ap, ◌∙◌, subst, arith}
+use Rattle.capkit_c.proofs.Common.{Bool, true, false, nat_lt, ◌==◌, nat_le, ◌&&◌, ◌||◌, not, if◌then◌else◌, length-take-le, take-take, checked, first_failing}
+use Rattle.capkit_c.proofs.Common.{Captured, Fault, Truncated, Order, checked_err, Head, is_section, frame_fault, frame_in, Described, Section, order_before}
+use Rattle.capkit_c.proofs.Common.{unit_fault, Declared, Nothing, PcapFile, PcapngFile, NoUnit, Whole, front_of, declared_by, FileState, declared_in}
+use Rattle.capkit_c.proofs.Common.{first_interfaces, reader_form, most_known, ArePlaced, BeginsWithUnit, Counts, DeclaresOne, UnitPacket, Interface, Reader}
 use Rattle.std.specs.Prelude.{is_some, map, pos, ◌*◌, ◌/◌, ◌^◌}
 use Rattle.cap_octet.specs.Date.{NANOS_PER_SECOND}
 use Rattle.cap_pcapng.specs.Time.{microseconds, representable_time}
@@ -13,7 +18,8 @@ use Rattle.cap_pcapng.proofs.Units.{unit_fault-few}
 use Rattle.cap_io.specs.Capture.{Front, unit_unless}
 use Rattle.capkit_c.proofs.{Leaves.declared_after, Leaves.declared_as, Leaves.is_after, Stands.frame_fails}
 use Rattle.capkit_c.specs.Layout.{described_of}
-use Rattle.capkit_c.specs.Skipping.{PastUnit, SkipLeaves, found_at, found_in_front, found_with, goes_past, interface_count, is_cut, offset_of_no_time, past_at, past_by, past_front, past_interface, refused_part, stays, unread_interface, with_interface}
+use Rattle.capkit_c.specs.Skipping.{PastUnit, SkipLeaves, found_at, found_in_front, found_with, goes_past, interface_count, is_cut, offset_of_no_time, past_at}
+use Rattle.capkit_c.specs.Skipping.{past_by, past_front, past_interface, refused_part, stays, unread_interface, with_interface}
 use Rattle.capkit_c.specs.declared.memory.{reader.Found.Found, reader.ReadUnit.ReadUnit, skip.RefusedPart.RefusedPart, skip.Skip.Skip}
 use Rattle.capkit_c.specs.inside.{Skipping.Describes, Skipping.IsUnread, Skipping.Moves, Skipping.RefusesForm, Units.found_by}
 use Rattle.cap_io.specs.declared.file_state.FileState.TheVariants as form
@@ -23,47 +29,56 @@ use Rattle.cap_io.specs.declared.file_state.FileState.TheVariants as form
 is_form : (f g : Fault) → Some f ≡ Some g → refused_part f ≡ RefusedPart.Form → refused_part g ≡ RefusedPart.Form
 is_form f g e part = let same : f ≡ g = (cc) in subst (λ x. refused_part x ≡ RefusedPart.Form) same part
 
-pub refuses : (before : Option Section) (text : List ℕ) (fault : Fault) → unit_fault before text ≡ Some fault → refused_part fault ≡ RefusedPart.Form → RefusesForm before text
+pub refuses : (before : Option Section) (text : List ℕ) (fault : Fault) → unit_fault before text ≡ Some fault → refused_part fault ≡ RefusedPart.Form
+    → RefusesForm before text
 refuses before text fault e part = λ other same. is_form fault other (sym e ∙ same) part
 
 pub few : (before : Option Section) (text : List ℕ) → length text < 12 → RefusesForm before text
 few before text short = refuses before text Truncated (unit_fault-few before text short) refl
 
-by_frame : (a b c d : Bool) (fault : Fault) → first_failing ((a, NotACaptureFile) ∷ (b, BadByteOrderMagic) ∷ (c, BadBlockLength) ∷ (d, TooLong) ∷ []) ≡ Some fault → refused_part fault ≡ RefusedPart.Form
+by_frame : (a b c d : Bool) (fault : Fault) → first_failing ((a, NotACaptureFile) ∷ (b, BadByteOrderMagic) ∷ (c, BadBlockLength) ∷ (d, TooLong) ∷
+    []) ≡ Some fault → refused_part fault ≡ RefusedPart.Form
 by_frame false b c d fault e = is_form NotACaptureFile fault e refl
 by_frame true false c d fault e = is_form BadByteOrderMagic fault e refl
 by_frame true true false d fault e = is_form BadBlockLength fault e refl
 by_frame true true true false fault e = is_form TooLong fault e refl
 by_frame true true true true fault e = absurd (cc)
 
-pub frame_refused : (before : Option Section) (section : Option Order) (text front : List ℕ) (fault : Fault) → order_before before ≡ section → 12 ≤ length text → front ≡ take 12 text
+pub frame_refused : (before : Option Section) (section : Option Order) (text front : List ℕ) (fault : Fault) → order_before before ≡ section
+    → 12 ≤ length text → front ≡ take 12 text
     → Err fault ≡ checked (frame_fault section front) (frame_in section front) → RefusesForm before text
 frame_refused before section text front fault is enough same exact =
     let e : frame_fault section front ≡ Some fault = checked_err (frame_fault section front) (frame_in section front) fault (sym exact) in
     refuses before text fault (frame_fails before section text front fault is enough same exact)
-    (by_frame (is_section front || is_some section) (not (is_section front) || is_some (magic_order front)) (nat_le 12 (length_in section front) && (length_in section front % 4 == 0)) (nat_le (length_in section front) most_block) fault e)
+    (by_frame (is_section front || is_some section) (not (is_section front) || is_some (magic_order front))
+    (nat_le 12 (length_in section front) && (length_in section front % 4 == 0)) (nat_le (length_in section front) most_block) fault e)
 
 -- ---- a unit that isn't gone past, and one that is
 
 -- what is declared, by the state of the file
-pub by_state : (r : Reader) (t : List Interface) (f : FileState) → reader_form r ≡ f → declared_in r t ≡ declared_by f (first_interfaces (most_known r (length t)) t)
+pub by_state : (r : Reader) (t : List Interface) (f : FileState) → reader_form r ≡ f → declared_in r t ≡ declared_by f
+    (first_interfaces (most_known r (length t)) t)
 by_state r t f is = ap (λ g. declared_by g (first_interfaces (most_known r (length t)) t)) is
 
 -- the unit that is gone past, by the part that is refused
-pub past_is : (capture : List ℕ) (r : Reader) (t : List Interface) (f : FileState) (fault : Fault) (part : RefusedPart) → reader_form r ≡ f → front_of (declared_in r t) (drop r.offset capture) ≡ NoUnit (Some fault) → part ≡ refused_part fault
+pub past_is : (capture : List ℕ) (r : Reader) (t : List Interface) (f : FileState) (fault : Fault) (part : RefusedPart) → reader_form r ≡ f
+    → front_of (declared_in r t) (drop r.offset capture) ≡ NoUnit (Some fault) → part ≡ refused_part fault
     → past_at capture r t ≡ past_by (declared_by f (first_interfaces (most_known r (length t)) t)) (drop r.offset capture) part
 past_is capture r t f fault part is refused same =
     ap (past_front (declared_in r t) (drop r.offset capture)) refused ∙ ap (λ d. past_by d (drop r.offset capture) (refused_part fault)) (by_state r t f is)
     ∙ ap (past_by (declared_by f (first_interfaces (most_known r (length t)) t)) (drop r.offset capture)) (sym same)
 
-pub kept : (capture : List ℕ) (r : Reader) (t : List Interface) (fault : Fault) → front_of (declared_in r t) (drop r.offset capture) ≡ NoUnit (Some fault) → past_at capture r t ≡ None
+pub kept : (capture : List ℕ) (r : Reader) (t : List Interface) (fault : Fault) → front_of (declared_in r t) (drop r.offset capture) ≡ NoUnit
+    (Some fault) → past_at capture r t ≡ None
     → SkipLeaves capture r r t t (Skip.Not (Found.Fault fault))
 kept capture r t fault refused none = stays (Found.Fault fault) none (sym (ap (found_in_front (length t)) refused)) refl refl
 
-pub moved : (capture : List ℕ) (r r' : Reader) (t : List Interface) (f' : FileState) (count : ℕ) (unit : PastUnit) (result : Skip) → past_at capture r t ≡ Some unit → unit.declared ≡ declared_by f' (first_interfaces count t) → 0 < unit.size
+pub moved : (capture : List ℕ) (r r' : Reader) (t : List Interface) (f' : FileState) (count : ℕ) (unit : PastUnit) (result : Skip)
+    → past_at capture r t ≡ Some unit → unit.declared ≡ declared_by f' (first_interfaces count t) → 0 < unit.size
     → count ≤ length t → count ≤ 256 → Moves capture unit.size f' count r r' result → SkipLeaves capture r r' t t result
 moved capture r r' t f' count unit Skip.Past past declares some fits upper_bound m =
-    goes_past unit past (declares ∙ declared_after f' r' t count m.state m.interfaces fits upper_bound) (is_after capture unit.size r r' t f' count m.offset m.there some m.state m.link m.interfaces fits upper_bound) refl
+    goes_past unit past (declares ∙ declared_after f' r' t count m.state m.interfaces fits upper_bound)
+    (is_after capture unit.size r r' t f' count m.offset m.there some m.state m.link m.interfaces fits upper_bound) refl
 moved capture r r' t f' count unit (Skip.Not found) past declares some fits upper_bound m =
     subst (λ w. SkipLeaves capture r r' t t (Skip.Not w)) (sym m.1) (is_cut unit past m.0 m.2 refl)
 
@@ -89,12 +104,14 @@ one_more n t i fits = length-append (first_interfaces n t) (i ∷ []) ∙ ap (λ
 
 -- a description block is gone past, while its section has room, or it isn't
 pub past_description : (first : Option ℕ) (section : Section) (size link snap : ℕ) (order : Order) (options : List ℕ) → length section.interfaces < 256
-    → past_interface first section size (InterfaceParts link snap order options) ≡ Some (record { size = size; declared = with_interface first section (unread_interface link snap) })
+    → past_interface first section size (InterfaceParts link snap order options) ≡ Some
+    (record { size = size; declared = with_interface first section (unread_interface link snap) })
 past_description first section size link snap order options fits =
     let e : nat_lt (length section.interfaces) 256 ≡ true = grind (arith, nat_tests) in
     ap (λ b. if b then Some (record { size = size; declared = with_interface first section (unread_interface link snap) }) else None) e
 
-pub no_description : (first : Option ℕ) (section : Section) (size : ℕ) (parts : Parts) → 256 ≤ length section.interfaces → past_interface first section size parts ≡ None
+pub no_description : (first : Option ℕ) (section : Section) (size : ℕ) (parts : Parts) → 256 ≤ length section.interfaces
+    → past_interface first section size parts ≡ None
 no_description first section size SectionParts full = refl
 no_description first section size (InterfaceParts link snap order options) full =
     let e : nat_lt (length section.interfaces) 256 ≡ false = grind (arith, nat_tests) in
@@ -105,21 +122,26 @@ no_description first section size SkippedParts full = refl
 
 -- ---- a block that is refused
 
-without_fault : (why : Option Fault) (size : ℕ) (packets : List Captured) (d : Declared) (fault : Fault) → unit_unless why (Whole size packets d) ≡ NoUnit (Some fault) → why ≡ Some fault
+without_fault : (why : Option Fault) (size : ℕ) (packets : List Captured) (d : Declared) (fault : Fault) → unit_unless why (Whole size packets d) ≡
+    NoUnit (Some fault) → why ≡ Some fault
 without_fault None size packets d fault e = absurd (cc)
 without_fault (Some f) size packets d fault e = (cc)
 
-unit_of_front : (first : Option ℕ) (section : Section) (text : List ℕ) (fault : Fault) → front_of (PcapngFile first section) text ≡ NoUnit (Some fault) → unit_fault (Some section) text ≡ Some fault
+unit_of_front : (first : Option ℕ) (section : Section) (text : List ℕ) (fault : Fault) → front_of (PcapngFile first section) text ≡ NoUnit
+    (Some fault) → unit_fault (Some section) text ≡ Some fault
 unit_of_front first section [] fault e = absurd (cc)
 unit_of_front first section (b ∷ bytes) fault e = without_fault (unit_fault (Some section) (b ∷ bytes)) _ _ _ fault e
 
-not_block : (first : Option ℕ) (section : Section) (bytes : List ℕ) (part : RefusedPart) → ¬ part ≡ RefusedPart.Time → ¬ part ≡ RefusedPart.Options → past_by (PcapngFile first section) bytes part ≡ None
+not_block : (first : Option ℕ) (section : Section) (bytes : List ℕ) (part : RefusedPart) → ¬ part ≡ RefusedPart.Time → ¬ part ≡ RefusedPart.Options
+    → past_by (PcapngFile first section) bytes part ≡ None
 not_block first section bytes RefusedPart.Time time options = absurd (time refl)
 not_block first section bytes RefusedPart.LinkType time options = refl
 not_block first section bytes RefusedPart.Options time options = absurd (options refl)
 not_block first section bytes RefusedPart.Form time options = refl
 
-module _ (capture : List ℕ) (r : Reader) (t : List Interface) (order : Order) (first : Option ℕ) (fault : Fault) (state : reader_form r ≡ form.Pcapng order first) (refused : front_of (declared_in r t) (drop r.offset capture) ≡ NoUnit (Some fault)) (text : List ℕ) (same : text ≡ drop r.offset capture) where
+module _ (capture : List ℕ) (r : Reader) (t : List Interface) (order : Order) (first : Option ℕ) (fault : Fault)
+    (state : reader_form r ≡ form.Pcapng order first) (refused : front_of (declared_in r t) (drop r.offset capture) ≡ NoUnit (Some fault))
+    (text : List ℕ) (same : text ≡ drop r.offset capture) where
   abbrev bytes : List ℕ
   bytes = drop r.offset capture
 
@@ -133,7 +155,8 @@ module _ (capture : List ℕ) (r : Reader) (t : List Interface) (order : Order) 
   fault_is = unit_of_front first section bytes fault (ap (λ d. front_of d bytes) (sym (by_state r t (form.Pcapng order first) state)) ∙ refused)
 
   pub past_form : RefusesForm (Some section) text → past_at capture r t ≡ None
-  past_form refuses = let part : refused_part fault ≡ RefusedPart.Form = subst (λ b. RefusesForm (Some section) b) same refuses fault fault_is in past RefusedPart.Form (sym part)
+  past_form refuses = let part : refused_part fault ≡ RefusedPart.Form = subst (λ b. RefusesForm (Some section) b) same refuses fault fault_is in
+      past RefusedPart.Form (sym part)
 
   pub past_other : (part : RefusedPart) → part ≡ refused_part fault → ¬ part ≡ RefusedPart.Time → ¬ part ≡ RefusedPart.Options → past_at capture r t ≡ None
   past_other part is time options = past part is ∙ not_block first section bytes part time options
@@ -141,7 +164,8 @@ module _ (capture : List ℕ) (r : Reader) (t : List Interface) (order : Order) 
   pub past_full : RefusedPart.Options ≡ refused_part fault → 256 ≤ most_known r (length t) → past_at capture r t ≡ None
   past_full is full =
       let count : length (first_interfaces (most_known r (length t)) t) ≡ most_known r (length t) = described_count (most_known r (length t)) t (omega arith) in
-      past RefusedPart.Options is ∙ no_description first section (block_size (Some section) bytes) (parts_after (Some section) bytes) (omega (arith, count, full))
+      past RefusedPart.Options is ∙ no_description first section (block_size (Some section) bytes) (parts_after (Some section) bytes)
+      (omega (arith, count, full))
 
   module _ (frame : Frame) (framed : IsFramed (Some section) text frame) where
     here : IsFramed (Some section) bytes frame
@@ -163,7 +187,8 @@ module _ (capture : List ℕ) (r : Reader) (t : List Interface) (order : Order) 
         → past_at capture r t ≡ Some (record { size = frame.length; declared = with_interface first section (description_of i) })
     past_unread i is unread fits =
         let d = subst (λ b. Describes frame b i) same unread in
-        let count : length (first_interfaces (most_known r (length t)) t) ≡ most_known r (length t) = described_count (most_known r (length t)) t (omega arith) in
+        let count : length (first_interfaces (most_known r (length t)) t) ≡ most_known r (length t) = described_count (most_known r (length t)) t
+        (omega arith) in
         by_parts is ∙ ap (past_interface first section frame.length) d.parts
         ∙ past_description first section frame.length i.link i.snap d.order d.options (omega (arith, count, fits))
         ∙ ap (λ e. Some (record { size = frame.length; declared = with_interface first section e })) (sym d.described)
@@ -176,7 +201,8 @@ module _ (capture : List ℕ) (r : Reader) (t : List Interface) (order : Order) 
 
 -- ---- a sound unit, and the end
 
-placed_found : (d : Declared) (bytes : List ℕ) (size : ℕ) (packet : Option UnitPacket) (packets : List Captured) → ArePlaced d bytes size packet packets → found_by packet ≡ found_with packets
+placed_found : (d : Declared) (bytes : List ℕ) (size : ℕ) (packet : Option UnitPacket) (packets : List Captured) → ArePlaced d bytes size packet
+    packets → found_by packet ≡ found_with packets
 placed_found d bytes size None packets placed = sym (ap found_with placed)
 placed_found d bytes size (Some p) packets placed = sym (ap found_with placed.1)
 
@@ -192,35 +218,43 @@ most_count (form.Pcap head) interfaces = omega arith
 most_count (form.Pcapng order first) interfaces = omega arith
 
 -- nothing is gone past where a text begins with a sound unit or nothing
-pub found : (capture : List ℕ) (r : Reader) (t t' : List Interface) (front : Front) (what : Found) → front_of (declared_in r t) (drop r.offset capture) ≡ front → past_front (declared_in r t) (drop r.offset capture) front ≡ None
+pub found : (capture : List ℕ) (r : Reader) (t t' : List Interface) (front : Front) (what : Found) → front_of (declared_in r t)
+    (drop r.offset capture) ≡ front → past_front (declared_in r t) (drop r.offset capture) front ≡ None
     → what ≡ found_in_front (length t) front → t' ≡ t → SkipLeaves capture r r t t' (Skip.Not what)
 found capture r t t' front what is none says same =
     stays what (ap (past_front (declared_in r t) (drop r.offset capture)) is ∙ none) (says ∙ sym (ap (found_in_front (length t)) is)) refl same
 
 -- what the text begins with, in a table of just the interfaces that are known
-pub begins : (capture text : List ℕ) (r : Reader) (t : List Interface) (f : FileState) (count : ℕ) → f ≡ reader_form r → Counts f r (length t) count → text ≡ drop r.offset capture
+pub begins : (capture text : List ℕ) (r : Reader) (t : List Interface) (f : FileState) (count : ℕ) → f ≡ reader_form r → Counts f r (length t) count
+    → text ≡ drop r.offset capture
     → front_of (declared_in r t) (drop r.offset capture) ≡ front_of (declared_by f (first_interfaces count (take count t))) text
 begins capture text r t f count is counts same =
     let all : take count (take count t) ≡ take count t = take-take count count t (omega arith) in
-    ap (front_of (declared_in r t)) (sym same) ∙ ap (λ d. front_of d text) (sym (declared_as f r t count is counts)) ∙ ap (λ (l : List Interface). front_of (declared_by f (map described_of l)) text) (sym all)
+    ap (front_of (declared_in r t)) (sym same) ∙ ap (λ d. front_of d text) (sym (declared_as f r t count is counts))
+    ∙ ap (λ (l : List Interface). front_of (declared_by f (map described_of l)) text) (sym all)
 
-pub sound : (text : List ℕ) (t s' : List Interface) (f : FileState) (interfaces : List Described) (step : ReadUnit) (b : BeginsWithUnit f interfaces text s' step) → length s' ≤ length t
+pub sound : (text : List ℕ) (t s' : List Interface) (f : FileState) (interfaces : List Described) (step : ReadUnit)
+    (b : BeginsWithUnit f interfaces text s' step) → length s' ≤ length t
     → found_by step.packet ≡ found_in_front (length t) (Whole step.size b.packets (declared_by step.form (first_interfaces step.interfaces s')))
 sound text t s' f interfaces step b shorter =
     let is : List Described = first_interfaces step.interfaces s' in
-    let fits : interface_count (declared_by step.form is) ≤ length t = omega (arith, most_count step.form is, described_count step.interfaces s' b.known, b.known, shorter) in
+    let fits : interface_count (declared_by step.form is) ≤ length t =
+    omega (arith, most_count step.form is, described_count step.interfaces s' b.known, b.known, shorter) in
     placed_found _ _ _ step.packet b.packets b.placed ∙ sym (with_room (length t) (interface_count (declared_by step.form is)) (found_with b.packets) fits)
 
 -- an interface, in a table of just those that are known
-pub one_declared : (d : Declared) (text : List ℕ) (t : List Interface) (count : ℕ) → count ≤ length t → (one : DeclaresOne d text (first_interfaces count (take count t))) → interface_count (PcapngFile one.first one.section) ≡ count + 1
+pub one_declared : (d : Declared) (text : List ℕ) (t : List Interface) (count : ℕ) → count ≤ length t
+    → (one : DeclaresOne d text (first_interfaces count (take count t))) → interface_count (PcapngFile one.first one.section) ≡ count + 1
 one_declared d text t count fits one =
     let all : take count (take count t) ≡ take count t = take-take count count t (omega arith) in
     ap length one.more ∙ ap (λ (l : List Interface). length (map described_of l ++ one.interface ∷ [])) all ∙ one_more count t one.interface fits
 
-pub room_left : (t : List Interface) (size : ℕ) (first : Option ℕ) (section : Section) → length section.interfaces ≤ length t → Found.Unit ≡ found_in_front (length t) (Whole size [] (PcapngFile first section))
+pub room_left : (t : List Interface) (size : ℕ) (first : Option ℕ) (section : Section) → length section.interfaces ≤ length t
+    → Found.Unit ≡ found_in_front (length t) (Whole size [] (PcapngFile first section))
 room_left t size first section fits = sym (with_room (length t) (length section.interfaces) Found.Unit fits)
 
-pub no_room : (t : List Interface) (size : ℕ) (first : Option ℕ) (section : Section) → length t < length section.interfaces → Found.NoRoom ≡ found_in_front (length t) (Whole size [] (PcapngFile first section))
+pub no_room : (t : List Interface) (size : ℕ) (first : Option ℕ) (section : Section) → length t < length section.interfaces
+    → Found.NoRoom ≡ found_in_front (length t) (Whole size [] (PcapngFile first section))
 no_room t size first section short = sym (without_room (length t) (length section.interfaces) Found.Unit short)
 
 -- ---- laws
@@ -232,7 +266,8 @@ known_fit r t =
     let count : length (first_interfaces known t) ≡ known = described_count known t (omega arith) in
     omega (arith, most, count)
 
-pub found_is : (capture : List ℕ) (r r' : Reader) (t t' : List Interface) (p p' : Packet) (what : Found) → length t' ≡ length t → NextLeaves capture r r' t t' p p' what → what ≡ found_at capture r t
+pub found_is : (capture : List ℕ) (r r' : Reader) (t t' : List Interface) (p p' : Packet) (what : Found) → length t' ≡ length t
+    → NextLeaves capture r r' t t' p p' what → what ≡ found_at capture r t
 found_is capture r r' t t' p p' what same (passes size front after kept) =
     sym (ap (found_in_front (length t)) front ∙ with_room (length t) (interface_count (declared_in r' t')) Found.Unit (omega (arith, known_fit r' t', same)))
 found_is capture r r' t t' p p' what same (finds size q front after is) =
@@ -248,5 +283,6 @@ too_late n m least = grind (arith, nat_tests)
 
 pub no_time : (ticks : ℕ) → representable_time ticks microseconds (pos offset_of_no_time) ≡ None
 no_time ticks =
-    let late : nat_lt (ticks * NANOS_PER_SECOND / microseconds + offset_of_no_time * NANOS_PER_SECOND) (2 ^ 63) ≡ false = too_late (ticks * NANOS_PER_SECOND / microseconds) (offset_of_no_time * NANOS_PER_SECOND) (omega arith) in
+    let late : nat_lt (ticks * NANOS_PER_SECOND / microseconds + offset_of_no_time * NANOS_PER_SECOND) (2 ^ 63) ≡ false =
+    too_late (ticks * NANOS_PER_SECOND / microseconds) (offset_of_no_time * NANOS_PER_SECOND) (omega arith) in
     ap (λ b. if b then Some (ticks * NANOS_PER_SECOND / microseconds + offset_of_no_time * NANOS_PER_SECOND) else None) late

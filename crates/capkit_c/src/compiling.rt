@@ -35,8 +35,8 @@ pub enum Failure {
     Invalid(CheckFault),
 }
 
-/// The link type as files have it, of one that may be as libpcap's pcap_datalink() gives it: raw IP
-/// is 12 there, and 101 in files.
+/// Converts libpcap's number for raw IP (12, from pcap_datalink()) to that of files (101), and keeps
+/// all others.
 pub(crate) fn file_link_type(number: u16) -> u16
     ensures { result ≡ file_link_type number }
 {

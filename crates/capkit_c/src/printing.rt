@@ -45,7 +45,7 @@ pub extern "C" fn capkit_line(
     if time >= TIME_END {
         return put_text(&[], buffer);
     }
-    // A line shows nothing of snapshot length, name and comment.
+    // A line shows nothing of snap length, name and comment.
     let packet = Packet {
         link: file_link_type(link_type),
         snap: 0,

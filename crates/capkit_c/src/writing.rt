@@ -41,7 +41,7 @@ fn tell_written(written: Written, length: &mut usize) -> u32
     }
 }
 
-/// Writes the file header of a pcap file, with the greatest snapshot length, to the start of the
+/// Writes the file header of a pcap file, with the greatest snap length, to the start of the
 /// buffer. Times are in microseconds if `nanoseconds` is 0, else in nanoseconds.
 ///
 /// The result is 0, or 225 if the buffer is too small, which is then unchanged. In both cases
@@ -171,7 +171,7 @@ fn tell_put(put: Put, length: &mut usize) -> u32
 ///
 /// `writer` and the table are what is written so far: `writer` is all zeros at first, and the table
 /// may have anything. They are unchanged if nothing is written. Interfaces of equal link type,
-/// snapshot length and name are one. A packet whose interface the table has no room for, or that
+/// snap length and name are one. A packet whose interface the table has no room for, or that
 /// would be the 4,097th, is refused (221).
 #[unsafe(no_mangle)]
 pub extern "C" fn capkit_writer_put(

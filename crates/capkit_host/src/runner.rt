@@ -44,8 +44,8 @@ fn run_over_devices<I: Input + Drop, O: Output, E: Output>(
     ended
 }
 
-/// Opens the inputs in order, creates the output, runs the command, and returns its status. Where
-/// something can't be opened or created, or memory runs out for that, it reports so, runs nothing,
+/// Opens the inputs in order, creates the output, runs the command, and returns its status. If
+/// something can't be opened or created, or memory for that runs out, it reports this, runs nothing
 /// and returns 1. A failed write that the command has reported is not reported again.
 pub fn run_command<'a>(
     rt: &'a HostRuntime,

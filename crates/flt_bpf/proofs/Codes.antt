@@ -1,5 +1,6 @@
 -- The code of an operation that a code gives is that code, and gives it; and the number in four bytes.
-use Rattle.flt_bpf.proofs.Common.{◌≡◌, ℕ, List, [], ◌∷◌, Some, refl, arith, nat_tests, Operation, LoadAbsolute, LoadIndirect, Load, Store, Compute, JumpIf, Immediate, Constant, Equal, code_of, found, operations, ◌+◌, ◌*◌, ◌<◌, zero, suc, All}
+use Rattle.flt_bpf.proofs.Common.{◌≡◌, ℕ, List, [], ◌∷◌, Some, refl, arith, nat_tests, Operation, LoadAbsolute, LoadIndirect, Load, Store, Compute, JumpIf}
+use Rattle.flt_bpf.proofs.Common.{Immediate, Constant, Equal, code_of, found, operations, ◌+◌, ◌*◌, ◌<◌, zero, suc, All}
 use Rattle.flt_bpf.specs.Instructions.{operation_of}
 use Rattle.flt_bpf.specs.{Machine.big_endian_at, declared.operation.AluOperation.TheVariants.Add}
 use Rattle.flt_bpf.specs.declared.operation.Register.TheVariants.{Accumulator, Index}
@@ -35,7 +36,8 @@ byte_at [] at h = omega arith
 byte_at (b ∷ p) zero h = All-head (λ x. x < 256) b p h
 byte_at (b ∷ p) (suc at) h = byte_at p at (All-tail (λ x. x < 256) b p h)
 
-pub word_is : (p : List ℕ) (at : ℕ) → All (λ b. b < 256) p → big_endian_at p at Word ≡ slice_index p at * 0x100_0000 + slice_index p (at + 1) * 0x1_0000 + slice_index p (at + 2) * 0x100 + slice_index p (at + 3)
+pub word_is : (p : List ℕ) (at : ℕ) → All (λ b. b < 256) p → big_endian_at p at Word ≡ slice_index p at * 0x100_0000 + slice_index p (at + 1) *
+    0x1_0000 + slice_index p (at + 2) * 0x100 + slice_index p (at + 3)
 word_is p at h =
     let a = byte_at p at h in
     let b = byte_at p (at + 1) h in

@@ -7,7 +7,8 @@ pub jump_later : (c : List Insn) (i : Insn) (place : ℕ) (jump : Insn) → IsNe
 jump_later c i place jump h =
     record { from = suc h.from; branch = h.branch; there = h.there; branches = h.branches; leads = later h.leads; far = omega (arith, h.far) }
   where
-    later : (h.from + 1 + h.branch.jt ≡ place) ⊎ (h.from + 1 + h.branch.jf ≡ place) → (suc h.from + 1 + h.branch.jt ≡ suc place) ⊎ (suc h.from + 1 + h.branch.jf ≡ suc place)
+    later : (h.from + 1 + h.branch.jt ≡ place) ⊎ (h.from + 1 + h.branch.jf ≡ place) → (suc h.from + 1 + h.branch.jt ≡ suc place) ⊎
+        (suc h.from + 1 + h.branch.jf ≡ suc place)
     later (inl e) = inl (omega arith)
     later (inr e) = inr (omega arith)
 

@@ -1,10 +1,13 @@
 -- A listing, read line by line.
-use Rattle.flt_bpf.proofs.Common.{◌≡◌, ℕ, zero, suc, ◌+◌, ◌-◌, ◌<◌, ◌≤◌, List, [], ◌∷◌, ◌++◌, length, length-append, Some, None, refl, sym, ap, ◌∙◌, subst, arith, ◌==◌, ◌⊎◌, Bool, cond, inl, inr, onto_first, slice_get, slice_split, length-slice_split, AllZip, Insn, LINE_FEED, lines_from, lines_of, IsInsnLine, line_numbers, insn_of, AreInsns, HasInsn, WrongAfter}
+use Rattle.flt_bpf.proofs.Common.{◌≡◌, ℕ, zero, suc, ◌+◌, ◌-◌, ◌<◌, ◌≤◌, List, [], ◌∷◌, ◌++◌, length, length-append, Some, None, refl, sym, ap, ◌∙◌, subst}
+use Rattle.flt_bpf.proofs.Common.{arith, ◌==◌, ◌⊎◌, Bool, cond, inl, inr, onto_first, slice_get, slice_split, length-slice_split, AllZip, Insn, LINE_FEED}
+use Rattle.flt_bpf.proofs.Common.{lines_from, lines_of, IsInsnLine, line_numbers, insn_of, AreInsns, HasInsn, WrongAfter}
 use Rattle.flt_bpf.proofs.Readings.{insn_is, insn_read}
 use Rattle.std.proofs.{Math.Seq.append_snoc, lemmas.List.append-nil}
 
 -- a line with others after it
-pub line_more : (text piece rest : List ℕ) → slice_split (λ b. b == LINE_FEED) text ≡ piece ∷ slice_split (λ b. b == LINE_FEED) rest → lines_of text ≡ piece ∷ lines_of rest
+pub line_more : (text piece rest : List ℕ) → slice_split (λ b. b == LINE_FEED) text ≡ piece ∷ slice_split (λ b. b == LINE_FEED) rest
+    → lines_of text ≡ piece ∷ lines_of rest
 line_more text piece rest s =
     let some : 0 < length (slice_split (λ b. b == LINE_FEED) rest) = omega (arith, length-slice_split (λ b. b == LINE_FEED) rest) in
     ap lines_from s ∙ more piece (slice_split (λ b. b == LINE_FEED) rest) some
@@ -31,51 +34,67 @@ pub record ReadTo (lines others : List (List ℕ)) (n at : ℕ) (is : List Insn)
   pub wrong : (k : ℕ) → WrongAfter (n - at) others k → WrongAfter n lines (at + k)
 
 pub read_none : (lines : List (List ℕ)) (n : ℕ) → ReadTo lines lines n 0 []
-read_none lines n = record { counted = refl; insns = λ js h. h; wrong = λ k h. let m : n - 0 ≡ n = omega arith in let z : k ≡ 0 + k = omega arith in subst (WrongAfter n lines) z (subst (λ x. WrongAfter x lines k) m h) }
+read_none lines n = record {
+  counted = refl;
+  insns = λ js h. h;
+  wrong = λ k h. let m : n - 0 ≡ n = omega arith in let z : k ≡ 0 + k = omega arith in
+      subst (WrongAfter n lines) z (subst (λ x. WrongAfter x lines k) m h);
+}
 
 -- one more line
-wrong_later : {n : ℕ} {lines : List (List ℕ)} {k : ℕ} (line : List ℕ) (i : Insn) → IsInsnLine line i → WrongAfter n lines k → WrongAfter (suc n) (line ∷ lines) (suc k)
+wrong_later : {n : ℕ} {lines : List (List ℕ)} {k : ℕ} (line : List ℕ) (i : Insn) → IsInsnLine line i → WrongAfter n lines k
+    → WrongAfter (suc n) (line ∷ lines) (suc k)
 wrong_later {n} {lines} {k} line i h r = record { wrong = later r.wrong; upper_bound = omega (arith, r.upper_bound); insns = earlier }
   where
-    later : ((k < n) × ((i : Insn) → ¬ HasInsn (slice_get lines k) i)) ⊎ ((n ≤ k) × (k < length lines)) → ((suc k < suc n) × ((i : Insn) → ¬ HasInsn (slice_get (line ∷ lines) (suc k)) i)) ⊎ ((suc n ≤ suc k) × (suc k < length (line ∷ lines)))
+    later : ((k < n) × ((i : Insn) → ¬ HasInsn (slice_get lines k) i)) ⊎ ((n ≤ k) × (k < length lines))
+        → ((suc k < suc n) × ((i : Insn) → ¬ HasInsn (slice_get (line ∷ lines) (suc k)) i)) ⊎ ((suc n ≤ suc k) × (suc k < length (line ∷ lines)))
     later h = grind arith
 
     earlier : (j : ℕ) → j < suc k → (i : Insn) × HasInsn (slice_get (line ∷ lines) j) i
     earlier zero less = (i, h)
     earlier (suc j) less = r.insns j (omega arith)
 
-pub read_more : {lines others next : List (List ℕ)} {n at : ℕ} {is js : List Insn} {line : List ℕ} (i : Insn) → ReadTo lines others n at is → at < n → others ≡ line ∷ next → insn_of (line_numbers line) ≡ Some i → js ≡ is ++ i ∷ [] → ReadTo lines next n (at + 1) js
+pub read_more : {lines others next : List (List ℕ)} {n at : ℕ} {is js : List Insn} {line : List ℕ} (i : Insn) → ReadTo lines others n at is → at < n
+    → others ≡ line ∷ next → insn_of (line_numbers line) ≡ Some i → js ≡ is ++ i ∷ [] → ReadTo lines next n (at + 1) js
 read_more {lines} {others} {next} {n} {at} {is} {js} {line} i r l e f push = subst (ReadTo lines next n (at + 1)) (sym push) (record {
   counted = omega (arith, r.counted, length-append is (i ∷ []));
-  insns = λ ks h. subst (AllZip IsInsnLine lines) (sym (append_snoc is i ks)) (r.insns (i ∷ ks) (subst (λ (ls : List (List ℕ)). AllZip IsInsnLine ls (i ∷ ks)) (sym e) (here, h)));
+  insns = λ ks h. subst (AllZip IsInsnLine lines) (sym (append_snoc is i ks))
+      (r.insns (i ∷ ks) (subst (λ (ls : List (List ℕ)). AllZip IsInsnLine ls (i ∷ ks)) (sym e) (here, h)));
   wrong = λ k h.
       let m : suc (n - (at + 1)) ≡ n - at = omega arith in
       let place : at + suc k ≡ at + 1 + k = omega arith in
-      subst (WrongAfter n lines) place (r.wrong (suc k) (subst (λ (ls : List (List ℕ)). WrongAfter (n - at) ls (suc k)) (sym e) (subst (λ x. WrongAfter x (line ∷ next) (suc k)) m (wrong_later line i here h))));
+      subst (WrongAfter n lines) place
+      (r.wrong (suc k) (subst (λ (ls : List (List ℕ)). WrongAfter (n - at) ls (suc k)) (sym e)
+      (subst (λ x. WrongAfter x (line ∷ next) (suc k)) m (wrong_later line i here h))));
 })
   where
     here : IsInsnLine line i
     here = insn_is line i f
 
 -- all lines are read
-pub read_all : {lines : List (List ℕ)} (rest : List ℕ) {n at : ℕ} {is : List Insn} → ReadTo lines (lines_of rest) n at is → n ≡ at → length rest ≡ 0 → AreInsns n lines is
+pub read_all : {lines : List (List ℕ)} (rest : List ℕ) {n at : ℕ} {is : List Insn} → ReadTo lines (lines_of rest) n at is → n ≡ at → length rest ≡ 0
+    → AreInsns n lines is
 read_all {lines} rest {n} {at} {is} r last e = record {
   count = r.counted ∙ sym last;
   each = subst (AllZip IsInsnLine lines) (append-nil is) (r.insns [] (subst (λ (ls : List (List ℕ)). AllZip IsInsnLine ls []) (sym (lines_none rest e)) tt));
 }
 
 -- the next line is no instruction, is missing, or is one too many
-no_insn : {lines others : List (List ℕ)} {n at : ℕ} {is : List Insn} → ReadTo lines others n at is → at < n → ((i : Insn) → ¬ HasInsn (slice_get others 0) i) → WrongAfter n lines (at + 0)
+no_insn : {lines others : List (List ℕ)} {n at : ℕ} {is : List Insn} → ReadTo lines others n at is → at < n
+    → ((i : Insn) → ¬ HasInsn (slice_get others 0) i) → WrongAfter n lines (at + 0)
 no_insn r l h = r.wrong 0 (record { wrong = inl (omega arith, h); upper_bound = omega arith; insns = λ j less. absurd (omega arith) })
 
-pub read_wrong : {lines others next : List (List ℕ)} {n at : ℕ} {is : List Insn} {line : List ℕ} → ReadTo lines others n at is → at < n → others ≡ line ∷ next → insn_of (line_numbers line) ≡ None → WrongAfter n lines (at + 0)
+pub read_wrong : {lines others next : List (List ℕ)} {n at : ℕ} {is : List Insn} {line : List ℕ} → ReadTo lines others n at is → at < n
+    → others ≡ line ∷ next → insn_of (line_numbers line) ≡ None → WrongAfter n lines (at + 0)
 read_wrong {line} r l e f = no_insn r l (λ i h. not_there i (subst (λ (ls : List (List ℕ)). HasInsn (slice_get ls 0) i) e h))
   where
     not_there : (i : Insn) → IsInsnLine line i → ⊥
     not_there i h = let t = insn_read line i h in cc
 
-pub read_missing : {lines : List (List ℕ)} (rest : List ℕ) {n at : ℕ} {is : List Insn} → ReadTo lines (lines_of rest) n at is → at < n → length rest ≡ 0 → WrongAfter n lines (at + 0)
+pub read_missing : {lines : List (List ℕ)} (rest : List ℕ) {n at : ℕ} {is : List Insn} → ReadTo lines (lines_of rest) n at is → at < n
+    → length rest ≡ 0 → WrongAfter n lines (at + 0)
 read_missing rest r l e = no_insn r l (λ i h. subst (λ (ls : List (List ℕ)). HasInsn (slice_get ls 0) i) (lines_none rest e) h)
 
-pub read_beyond : {lines : List (List ℕ)} (rest : List ℕ) {n at : ℕ} {is : List Insn} → ReadTo lines (lines_of rest) n at is → n ≡ at → 0 < length rest → WrongAfter n lines (at + 0)
+pub read_beyond : {lines : List (List ℕ)} (rest : List ℕ) {n at : ℕ} {is : List Insn} → ReadTo lines (lines_of rest) n at is
+    → n ≡ at → 0 < length rest → WrongAfter n lines (at + 0)
 read_beyond rest r e l = r.wrong 0 (record { wrong = inr (omega arith, lines_some rest l); upper_bound = omega arith; insns = λ j less. absurd (omega arith) })

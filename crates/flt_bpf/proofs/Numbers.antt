@@ -1,5 +1,7 @@
 -- The numbers that the reader finds on a line are the line's.
-use Rattle.flt_bpf.proofs.Common.{◌≡◌, ℕ, zero, suc, ◌<◌, List, [], ◌∷◌, ◌++◌, length, append_assoc, Bool, Option, Some, refl, sym, ap, ◌∙◌, subst, arith, ◌==◌, replicate, slice_split, join_with_byte, slice_split_at, slice_split_none, length-slice_split, slice_split-cons_yes, join_with_byte-slice_split, BLANK, AreNumbers, numeral, after, later_numbers, numbers_of, line_numbers}
+use Rattle.flt_bpf.proofs.Common.{◌≡◌, ℕ, zero, suc, ◌<◌, List, [], ◌∷◌, ◌++◌, length, append_assoc, Bool, Option, Some, refl, sym, ap, ◌∙◌, subst, arith, ◌==◌}
+use Rattle.flt_bpf.proofs.Common.{replicate, slice_split, join_with_byte, slice_split_at, slice_split_none, length-slice_split, slice_split-cons_yes}
+use Rattle.flt_bpf.proofs.Common.{join_with_byte-slice_split, BLANK, AreNumbers, numeral, after, later_numbers, numbers_of, line_numbers}
 use Rattle.flt_bpf.proofs.{Digits.numeral_is, Digits.numeral_read, Digits.number_lacks, Lines.numbers_more}
 
 -- blanks and then numbers
@@ -10,7 +12,8 @@ record Indented (line : List ℕ) (ns : List ℕ) : Type 0 where
   numbers : AreNumbers rest ns
 
 -- a number read before others
-before : (o : Option ℕ) (others : Option (List ℕ)) (ns : List ℕ) → after o others ≡ Some ns → (n : ℕ) × (ms : List ℕ) × (o ≡ Some n) × (others ≡ Some ms) × (ns ≡ n ∷ ms)
+before : (o : Option ℕ) (others : Option (List ℕ)) (ns : List ℕ) → after o others ≡ Some ns → (n : ℕ) × (ms : List ℕ) × (o ≡ Some n)
+    × (others ≡ Some ms) × (ns ≡ n ∷ ms)
 before o others ns e = grind arith
 
 -- one number
@@ -42,7 +45,13 @@ later_are ([] ∷ v ∷ ws) ns e =
     record { blanks = suc r.blanks; rest = r.rest; line_is = ap (λ (x : List ℕ). BLANK ∷ x) r.line_is; numbers = r.numbers }
 later_are ((b ∷ bs) ∷ v ∷ ws) ns e =
     let r = before (numeral (b ∷ bs)) (later_numbers (v ∷ ws)) ns e in
-    record { blanks = 0; rest = (b ∷ bs) ++ BLANK ∷ join_with_byte BLANK (v ∷ ws); line_is = refl; numbers = rw r.4 (more_numbers (b ∷ bs) _ r.0 r.1 r.2 (later_are (v ∷ ws) r.1 r.3)) }
+    record {
+      blanks = 0;
+      rest = (b ∷ bs) ++ BLANK ∷ join_with_byte BLANK (v ∷ ws);
+      line_is = refl;
+      numbers =
+          rw r.4 (more_numbers (b ∷ bs) _ r.0 r.1 r.2 (later_are (v ∷ ws) r.1 r.3));
+    }
 
 numbers_are : (ws : List (List ℕ)) (ns : List ℕ) → numbers_of ws ≡ Some ns → AreNumbers (join_with_byte BLANK ws) ns
 numbers_are [] ns e = cc
@@ -62,11 +71,13 @@ later_skip : (ws : List (List ℕ)) → 0 < length ws → later_numbers ([] ∷ 
 later_skip ws l = grind arith
 
 -- blanks before later numbers are passed over
-later_blanks : (k : ℕ) (rest : List ℕ) → later_numbers (slice_split (λ b. b == BLANK) (replicate k BLANK ++ rest)) ≡ later_numbers (slice_split (λ b. b == BLANK) rest)
+later_blanks : (k : ℕ) (rest : List ℕ) → later_numbers (slice_split (λ b. b == BLANK) (replicate k BLANK ++ rest)) ≡ later_numbers
+    (slice_split (λ b. b == BLANK) rest)
 later_blanks zero rest = refl
 later_blanks (suc k) rest =
     let p : ℕ → Bool = λ b. b == BLANK in
-    ap later_numbers (slice_split-cons_yes p BLANK (replicate k BLANK ++ rest) refl) ∙ later_skip (slice_split p (replicate k BLANK ++ rest)) (omega (arith, length-slice_split p (replicate k BLANK ++ rest))) ∙ later_blanks k rest
+    ap later_numbers (slice_split-cons_yes p BLANK (replicate k BLANK ++ rest) refl) ∙ later_skip (slice_split p (replicate k BLANK ++ rest))
+    (omega (arith, length-slice_split p (replicate k BLANK ++ rest))) ∙ later_blanks k rest
 
 -- the numbers that are on a line are read from it, as those of a line and as later ones
 both_read : (line : List ℕ) (ns : List ℕ) → AreNumbers line ns → (line_numbers line ≡ Some ns) × (later_numbers (slice_split (λ b. b == BLANK) line) ≡ Some ns)

@@ -1,5 +1,7 @@
 -- The instruction that the reader finds on a line is the line's, and so a text is read in one way.
-use Rattle.flt_bpf.proofs.Common.{◌≡◌, ℕ, ◌≤◌, List, [], ◌∷◌, length, Option, Some, refl, sym, ap, ◌∙◌, subst, AllZip, Insn, MOST_INSTRUCTIONS, MOST_BYTES, IsWrittenNumber, IsInsnLine, lines_of, AreListingLines, IsListing, line_numbers, only_of, AreInsns, arith, nat_tests, HasFieldsInRange, insn_from, insn_of}
+use Rattle.flt_bpf.proofs.Common.{◌≡◌, ℕ, ◌≤◌, List, [], ◌∷◌, length, Option, Some, refl, sym, ap, ◌∙◌, subst, AllZip, Insn, MOST_INSTRUCTIONS, MOST_BYTES}
+use Rattle.flt_bpf.proofs.Common.{IsWrittenNumber, IsInsnLine, lines_of, AreListingLines, IsListing, line_numbers, only_of, AreInsns, arith, nat_tests}
+use Rattle.flt_bpf.proofs.Common.{HasFieldsInRange, insn_from, insn_of}
 use Rattle.flt_bpf.proofs.Numbers.{line_numbers_are, line_numbers_read}
 
 -- four numbers that are an instruction are its fields, and in range
@@ -27,7 +29,8 @@ only_number_is line n e = line_numbers_are line (n ∷ []) (one (line_numbers li
     one (Some (m ∷ [])) e = let same : m ≡ n = cc in ap (λ k. Some (k ∷ [])) same
     one _ e = cc
 
-pub insns_listing : (text first : List ℕ) (others : List (List ℕ)) (n : ℕ) (is : List Insn) → length text ≤ MOST_BYTES → lines_of text ≡ first ∷ others → IsWrittenNumber first n → n ≤ MOST_INSTRUCTIONS → AreInsns n others is → IsListing text is
+pub insns_listing : (text first : List ℕ) (others : List (List ℕ)) (n : ℕ) (is : List Insn) → length text ≤ MOST_BYTES → lines_of text ≡ first ∷
+    others → IsWrittenNumber first n → n ≤ MOST_INSTRUCTIONS → AreInsns n others is → IsListing text is
 insns_listing text first others n is short e number upper_bound h = record {
   short = short;
   upper_bound = rw (← h.count) at upper_bound;

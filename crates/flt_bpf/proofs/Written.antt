@@ -1,11 +1,21 @@
 -- The listing that is written of instructions is a listing of them.
-use Rattle.flt_bpf.proofs.Common.{◌≡◌, ℕ, suc, ◌*◌, ◌^◌, ◌<◌, ◌≤◌, List, [], ◌∷◌, ◌++◌, length, length-append, append_assoc, false, refl, sym, subst, arith, common_steps, ◌==◌, All, decimal, AllZip, length-decimal-le, All-append, All-cons, slice_split_at, Insn, BLANK, LINE_FEED, insn_line, insn_lines, listing, AreNumbers, HasFieldsInRange, IsInsnLine, lines_of, AreListingLines, IsListing}
+use Rattle.flt_bpf.proofs.Common.{◌≡◌, ℕ, suc, ◌*◌, ◌^◌, ◌<◌, ◌≤◌, List, [], ◌∷◌, ◌++◌, length, length-append, append_assoc, false, refl, sym, subst, arith}
+use Rattle.flt_bpf.proofs.Common.{common_steps, ◌==◌, All, decimal, AllZip, length-decimal-le, All-append, All-cons, slice_split_at, Insn, BLANK, LINE_FEED}
+use Rattle.flt_bpf.proofs.Common.{insn_line, insn_lines, listing, AreNumbers, HasFieldsInRange, IsInsnLine, lines_of, AreListingLines, IsListing}
 use Rattle.flt_bpf.proofs.{Digits.decimal_number, Digits.field_lengths, Digits.number_lacks, LineByLine.line_more}
 
 -- a number, one blank, and a rest
 number_before : (n m : ℕ) (ns rest : List ℕ) → n < 2 ^ 32 → AreNumbers rest (m ∷ ns) → AreNumbers (decimal n ++ BLANK ∷ rest) (n ∷ m ∷ ns)
 number_before n m ns rest l h =
-    record { digits = decimal n; more_blanks = 0; rest = rest; line_is = sym (append_assoc (decimal n) (BLANK ∷ []) rest); number = decimal_number n l; rest_is = h }
+    record {
+      digits = decimal n;
+      more_blanks = 0;
+      rest = rest;
+      line_is = sym (append_assoc (decimal n) (BLANK ∷ []) rest);
+      number =
+          decimal_number n l;
+      rest_is = h;
+    }
 
 -- the line that is written of an instruction is one of it
 insn_written : (i : Insn) → HasFieldsInRange i → IsInsnLine (insn_line i) i
@@ -25,7 +35,8 @@ line_lacks i r =
     let jt = decimal_lacks i.jt (omega (arith, r.jt)) in
     let jf = decimal_lacks i.jf (omega (arith, r.jf)) in
     let k = decimal_lacks i.k r.k in
-    All-append P (decimal i.code) _ code (All-cons P BLANK _ refl (All-append P (decimal i.jt) _ jt (All-cons P BLANK _ refl (All-append P (decimal i.jf) _ jf (All-cons P BLANK _ refl k)))))
+    All-append P (decimal i.code) _ code
+    (All-cons P BLANK _ refl (All-append P (decimal i.jt) _ jt (All-cons P BLANK _ refl (All-append P (decimal i.jf) _ jf (All-cons P BLANK _ refl k)))))
 
 -- a line of an instruction has at most 24 bytes before its line feed
 pub line_short : (i : Insn) → HasFieldsInRange i → length (insn_line i) ≤ 24
@@ -46,7 +57,8 @@ insns_written : (is : List Insn) → All HasFieldsInRange is → AllZip IsInsnLi
 insns_written [] r = tt
 insns_written (i ∷ is) r =
     let here = r 0 i (omega arith) in
-    let lines : AllZip IsInsnLine (insn_line i ∷ lines_of (insn_lines is)) (i ∷ is) = (insn_written i here, insns_written is (λ k d l. r (suc k) d (omega arith))) in
+    let lines : AllZip IsInsnLine (insn_line i ∷ lines_of (insn_lines is)) (i ∷ is) =
+    (insn_written i here, insns_written is (λ k d l. r (suc k) d (omega arith))) in
     subst (λ (ls : List (List ℕ)). AllZip IsInsnLine ls (i ∷ is)) (sym (line_off (insn_line i) (insn_lines is) (line_lacks i here))) lines
 
 -- what is written is a listing
@@ -57,5 +69,6 @@ listing_written is upper_bound r =
     record {
       short = omega (arith, count, lines_short is r, length-append (decimal (length is)) (LINE_FEED ∷ insn_lines is));
       upper_bound = upper_bound;
-      lines = subst (λ (ls : List (List ℕ)). AreListingLines ls is) (sym (line_off (decimal (length is)) (insn_lines is) (decimal_lacks (length is) (omega arith)))) lines;
+      lines = subst (λ (ls : List (List ℕ)). AreListingLines ls is)
+          (sym (line_off (decimal (length is)) (insn_lines is) (decimal_lacks (length is) (omega arith)))) lines;
     }

@@ -1,5 +1,7 @@
 -- The line at which the reader refuses a text is the first wrong one, and a listing has none.
-use Rattle.flt_bpf.proofs.Common.{◌≡◌, ℕ, zero, suc, ◌<◌, ◌≤◌, List, [], ◌∷◌, length, Some, refl, sym, ap, ◌∙◌, arith, ◌⊎◌, inl, inr, slice_get, AllZip, Insn, MOST_INSTRUCTIONS, MOST_BYTES, IsWrittenNumber, IsInsnLine, lines_of, AreListingLines, IsListing, HasCount, IsWrong, FirstWrong, IsRefusedAt, HasInsn, WrongAfter, IsFaultAfter, line_numbers, only_of}
+use Rattle.flt_bpf.proofs.Common.{◌≡◌, ℕ, zero, suc, ◌<◌, ◌≤◌, List, [], ◌∷◌, length, Some, refl, sym, ap, ◌∙◌, arith, ◌⊎◌, inl, inr, slice_get, AllZip, Insn}
+use Rattle.flt_bpf.proofs.Common.{MOST_INSTRUCTIONS, MOST_BYTES, IsWrittenNumber, IsInsnLine, lines_of, AreListingLines, IsListing, HasCount, IsWrong}
+use Rattle.flt_bpf.proofs.Common.{FirstWrong, IsRefusedAt, HasInsn, WrongAfter, IsFaultAfter, line_numbers, only_of}
 use Rattle.flt_bpf.proofs.Numbers.{line_numbers_read}
 use Rattle.std.proofs.lemmas.Slice.Zip.{AllZip-long}
 use Rattle.flt_bpf.specs.Refusal.{IsReasonFor}
@@ -10,11 +12,13 @@ same_number : (digits : List ℕ) (m n : ℕ) → IsWrittenNumber digits m → I
 same_number digits m n a b = sym a.value ∙ b.value
 
 -- a wrong line among those after the first is the first wrong one of all
-first_wrong : (first : List ℕ) (others : List (List ℕ)) (n k : ℕ) → IsWrittenNumber first n → n ≤ MOST_INSTRUCTIONS → WrongAfter n others k → FirstWrong (first ∷ others) (suc k)
+first_wrong : (first : List ℕ) (others : List (List ℕ)) (n k : ℕ) → IsWrittenNumber first n → n ≤ MOST_INSTRUCTIONS → WrongAfter n others k
+    → FirstWrong (first ∷ others) (suc k)
 first_wrong first others n k number upper_bound w =
     record { wrong = (n, record { number = number; upper_bound = upper_bound }, here w.wrong); first = λ j less h. earlier j less h }
   where
-    here : ((k < n) × ((i : Insn) → ¬ HasInsn (slice_get others k) i)) ⊎ ((n ≤ k) × (k < length others)) → ((k < n) × ((i : Insn) → ¬ HasInsn (slice_get others k) i)) ⊎ ((n ≤ k) × (suc k < length (first ∷ others)))
+    here : ((k < n) × ((i : Insn) → ¬ HasInsn (slice_get others k) i)) ⊎ ((n ≤ k) × (k < length others))
+        → ((k < n) × ((i : Insn) → ¬ HasInsn (slice_get others k) i)) ⊎ ((n ≤ k) × (suc k < length (first ∷ others)))
     here h = grind arith
 
     earlier : (j : ℕ) → j < suc k → IsWrong (first ∷ others) j → ⊥
@@ -26,14 +30,16 @@ first_wrong first others n k number upper_bound w =
 refused_first : (text : List ℕ) → length text ≤ MOST_BYTES → ((count : ℕ) → ¬ HasCount (lines_of text) count) → IsRefusedAt text 1
 refused_first text short h = inr (short, (0, record { wrong = h; first = λ j less w. omega arith }, refl))
 
-pub no_count : (text first : List ℕ) (others : List (List ℕ)) → length text ≤ MOST_BYTES → lines_of text ≡ first ∷ others → ((count : ℕ) → only_of (line_numbers first) ≡ Some count → ¬ (count ≤ MOST_INSTRUCTIONS)) → IsRefusedAt text 1
+pub no_count : (text first : List ℕ) (others : List (List ℕ)) → length text ≤ MOST_BYTES → lines_of text ≡ first ∷ others
+    → ((count : ℕ) → only_of (line_numbers first) ≡ Some count → ¬ (count ≤ MOST_INSTRUCTIONS)) → IsRefusedAt text 1
 no_count text first others short e none = refused_first text short (λ count h. not_counted count (rw e at h))
   where
     not_counted : (count : ℕ) → HasCount (first ∷ others) count → ⊥
     not_counted count h = none count (ap only_of (line_numbers_read first (count ∷ []) h.number)) h.upper_bound
 
 -- the fault that lines after the count have is the text's
-pub fault_reason : (text first : List ℕ) (others : List (List ℕ)) (n : ℕ) (fault : ListingFault) → length text ≤ MOST_BYTES → lines_of text ≡ first ∷ others → IsWrittenNumber first n → n ≤ MOST_INSTRUCTIONS → IsFaultAfter n others fault → IsReasonFor text fault
+pub fault_reason : (text first : List ℕ) (others : List (List ℕ)) (n : ℕ) (fault : ListingFault) → length text ≤ MOST_BYTES → lines_of text ≡ first ∷
+    others → IsWrittenNumber first n → n ≤ MOST_INSTRUCTIONS → IsFaultAfter n others fault → IsReasonFor text fault
 fault_reason text first others n (NotListing line) short e number upper_bound (k, w, l) =
     inr (short, (suc k, rw (← e) at (first_wrong first others n k number upper_bound w), omega (arith, l)))
 fault_reason text first others n Memory short e number upper_bound h = tt

@@ -1,5 +1,9 @@
 -- Addresses mean their tokens: each is a few numbers, which are written one by one and joined.
-use Rattle.flt_explain.proofs.Common.{◌≡◌, ℕ, suc, zero, ◌+◌, ◌*◌, ◌/◌, ◌%◌, ◌^◌, ◌<◌, ◌≤◌, List, [], ◌∷◌, ◌++◌, length, map, refl, sym, ap, ◌∙◌, subst, arith, Bool, true, false, ◌==◌, cond, lit<, lit≤, append_assoc, pow-suc, nat_tests, AllByRecursion, digits_is_IsNumeral, decimal_is_IsNumeral, decimal, digit_value, digit_glyph, digits_onto, IsNumeral, digits_value, IsDotted, within_word, WritesDecimal, whole, mac, ip6, octet, hex_byte, group_at, half_bytes, half_groups, octets, IsDottedAddress, replicate, or-true}
+use Rattle.flt_explain.proofs.Common.{◌≡◌, ℕ, suc, zero, ◌+◌, ◌*◌, ◌/◌, ◌%◌, ◌^◌, ◌<◌, ◌≤◌, List, [], ◌∷◌, ◌++◌, length, map, refl, sym, ap, ◌∙◌, subst, arith}
+use Rattle.flt_explain.proofs.Common.{Bool, true, false, ◌==◌, cond, lit<, lit≤, append_assoc, pow-suc, nat_tests, AllByRecursion, digits_is_IsNumeral}
+use Rattle.flt_explain.proofs.Common.{decimal_is_IsNumeral, decimal, digit_value, digit_glyph, digits_onto, IsNumeral, digits_value, IsDotted, within_word}
+use Rattle.flt_explain.proofs.Common.{WritesDecimal, whole, mac, ip6, octet, hex_byte, group_at, half_bytes, half_groups, octets, IsDottedAddress, replicate}
+use Rattle.flt_explain.proofs.Common.{or-true}
 use Rattle.flt_explain.specs.Texts.{bytes_text, mac_word, groups_text, ip6_word, dotted_word}
 use Rattle.flt_explain.proofs.WordTokens.{IsPart, part_of_digits, part_join}
 use Rattle.flt_explain.proofs.WordTokens.{IsWordFor, part_of_decimal, writes_decimal}
@@ -51,7 +55,8 @@ three_parts a small missing = omega arith
 four_parts : (a : ℕ) → a < 2 ^ 32 → a ≡ (((0 * 256 + octet (2 ^ 24) a) * 256 + octet (2 ^ 16) a) * 256 + octet (2 ^ 8) a) * 256 + octet 1 a
 four_parts a small = omega arith
 
-dotted_of : (inside : Bool) (a p : ℕ) → 0 < length (octets a p) → AllBelowBase 256 (octets a p) → IsDotted (dotted_word a p) a p → IsWordFor inside (dotted_word a p) (TokenKind.Dotted a p)
+dotted_of : (inside : Bool) (a p : ℕ) → 0 < length (octets a p) → AllBelowBase 256 (octets a p) → IsDotted (dotted_word a p) a p
+    → IsWordFor inside (dotted_word a p) (TokenKind.Dotted a p)
 unfolding dotted_word
 dotted_of inside a p some below is = record { part = part (in_decimal inside) (octets a p) some below; stands = dotted is; fit = refl }
 
@@ -61,13 +66,40 @@ dotted_for inside a zero w = absurd (omega (arith, w.at_least_two))
 dotted_for inside a (suc zero) w = absurd (omega (arith, w.at_least_two))
 dotted_for inside a (suc (suc zero)) w =
     let below : AllBelowBase 256 (octets a 2) = (below_256 (2 ^ 24) a, (below_256 (2 ^ 16) a, tt)) in
-    dotted_of inside a 2 (lit< tt) below (record { groups = map decimal (octets a 2); are = record { joined = refl; each = each (in_decimal inside) (octets a 2) below }; at_least_two = lit≤ tt; at_most_four = lit≤ tt; count = refl; value = two_parts a w.small w.missing ∙ ap (λ ns. number_from_digits 256 (ns ++ replicate 2 0)) (sym (values (in_decimal inside) (octets a 2) below)) })
+    dotted_of inside a 2 (lit< tt) below
+    (record {
+      groups = map decimal (octets a 2);
+      are = record { joined = refl; each = each (in_decimal inside) (octets a 2) below };
+      at_least_two = lit≤ tt;
+      at_most_four = lit≤ tt;
+      count = refl;
+      value = two_parts a w.small w.missing
+          ∙ ap (λ ns. number_from_digits 256 (ns ++ replicate 2 0)) (sym (values (in_decimal inside) (octets a 2) below));
+    })
 dotted_for inside a (suc (suc (suc zero))) w =
     let below : AllBelowBase 256 (octets a 3) = (below_256 (2 ^ 24) a, (below_256 (2 ^ 16) a, (below_256 (2 ^ 8) a, tt))) in
-    dotted_of inside a 3 (lit< tt) below (record { groups = map decimal (octets a 3); are = record { joined = refl; each = each (in_decimal inside) (octets a 3) below }; at_least_two = lit≤ tt; at_most_four = lit≤ tt; count = refl; value = three_parts a w.small w.missing ∙ ap (λ ns. number_from_digits 256 (ns ++ replicate 1 0)) (sym (values (in_decimal inside) (octets a 3) below)) })
+    dotted_of inside a 3 (lit< tt) below
+    (record {
+      groups = map decimal (octets a 3);
+      are = record { joined = refl; each = each (in_decimal inside) (octets a 3) below };
+      at_least_two = lit≤ tt;
+      at_most_four = lit≤ tt;
+      count = refl;
+      value = three_parts a w.small w.missing
+          ∙ ap (λ ns. number_from_digits 256 (ns ++ replicate 1 0)) (sym (values (in_decimal inside) (octets a 3) below));
+    })
 dotted_for inside a (suc (suc (suc (suc zero)))) w =
     let below : AllBelowBase 256 (octets a 4) = (below_256 (2 ^ 24) a, (below_256 (2 ^ 16) a, (below_256 (2 ^ 8) a, (below_256 1 a, tt)))) in
-    dotted_of inside a 4 (lit< tt) below (record { groups = map decimal (octets a 4); are = record { joined = refl; each = each (in_decimal inside) (octets a 4) below }; at_least_two = lit≤ tt; at_most_four = lit≤ tt; count = refl; value = four_parts a w.small ∙ ap (λ ns. number_from_digits 256 (ns ++ replicate 0 0)) (sym (values (in_decimal inside) (octets a 4) below)) })
+    dotted_of inside a 4 (lit< tt) below
+    (record {
+      groups = map decimal (octets a 4);
+      are = record { joined = refl; each = each (in_decimal inside) (octets a 4) below };
+      at_least_two = lit≤ tt;
+      at_most_four = lit≤ tt;
+      count = refl;
+      value = four_parts a w.small
+          ∙ ap (λ ns. number_from_digits 256 (ns ++ replicate 0 0)) (sym (values (in_decimal inside) (octets a 4) below));
+    })
 dotted_for inside a (suc (suc (suc (suc (suc p))))) w = absurd (omega (arith, w.at_most_four))
 
 -- two hexadecimal digits
@@ -92,7 +124,8 @@ in_bytes = record {
 three_bytes : (h : ℕ) → h < 2 ^ 24 → h ≡ (octet (2 ^ 16) h * 256 + octet (2 ^ 8) h) * 256 + octet 1 h
 three_bytes h small = omega arith
 
-six_bytes : (a q r b c d e f g : ℕ) → q ≡ a / 2 ^ 24 → r ≡ a % 2 ^ 24 → q ≡ (b * 256 + c) * 256 + d → r ≡ (e * 256 + f) * 256 + g → a ≡ (((((0 * 256 + b) * 256 + c) * 256 + d) * 256 + e) * 256 + f) * 256 + g
+six_bytes : (a q r b c d e f g : ℕ) → q ≡ a / 2 ^ 24 → r ≡ a % 2 ^ 24 → q ≡ (b * 256 + c) * 256 + d → r ≡ (e * 256 + f) * 256 + g
+    → a ≡ (((((0 * 256 + b) * 256 + c) * 256 + d) * 256 + e) * 256 + f) * 256 + g
 six_bytes a q r b c d e f g is also high low = omega arith
 
 pub mac_for : (a : ℕ) → a < 2 ^ 48 → IsWordFor false (mac_word a) (TokenKind.Mac a)
@@ -100,14 +133,16 @@ unfolding mac_word bytes_text
 mac_for a small =
     let q : ℕ = a / 2 ^ 24 in
     let r : ℕ = a % 2 ^ 24 in
-    let below : AllBelowBase 256 (half_bytes q ++ half_bytes r) = (below_256 (2 ^ 16) q, (below_256 (2 ^ 8) q, (below_256 1 q, (below_256 (2 ^ 16) r, (below_256 (2 ^ 8) r, (below_256 1 r, tt)))))) in
+    let below : AllBelowBase 256 (half_bytes q ++ half_bytes r) =
+    (below_256 (2 ^ 16) q, (below_256 (2 ^ 8) q, (below_256 1 q, (below_256 (2 ^ 16) r, (below_256 (2 ^ 8) r, (below_256 1 r, tt)))))) in
     record {
       part = part in_bytes (half_bytes q ++ half_bytes r) (lit< tt) below;
       stands = mac {address = a} (record {
         groups = map hex_byte (half_bytes q ++ half_bytes r);
         are = record { joined = refl; each = each in_bytes (half_bytes q ++ half_bytes r) below };
         all = refl;
-        value = six_bytes a q r _ _ _ _ _ _ refl refl (three_bytes q (omega arith)) (three_bytes r (omega arith)) ∙ ap (number_from_digits 256) (sym (values in_bytes (half_bytes q ++ half_bytes r) below));
+        value = six_bytes a q r _ _ _ _ _ _ refl refl (three_bytes q (omega arith)) (three_bytes r (omega arith)) ∙ ap (number_from_digits 256)
+            (sym (values in_bytes (half_bytes q ++ half_bytes r) below));
       });
       fit = refl;
     }
@@ -117,10 +152,15 @@ some_front : (n : ℕ) → (n / 16 == 0) ≡ false → 16 ≤ n
 some_front n e = grind (arith, nat_tests)
 
 few_step : (k j n : ℕ) (onto : List ℕ) → n < 16 ^ suc j → ((i m : ℕ) (o : List ℕ) → 0 < i → m < 16 ^ i → length (digits_onto k 16 false m o) ≤ i + length o)
-    → (b : Bool) → (n / 16 == 0) ≡ b → length (cond b (digit_glyph false (n % 16) ∷ onto) (digits_onto k 16 false (n / 16) (digit_glyph false (n % 16) ∷ onto))) ≤ suc j + length onto
+    → (b : Bool) → (n / 16 == 0) ≡ b
+    → length (cond b (digit_glyph false (n % 16) ∷ onto) (digits_onto k 16 false (n / 16) (digit_glyph false (n % 16) ∷ onto))) ≤ suc j + length onto
 few_step k j n onto small more true e = omega arith
 few_step k zero n onto small more false e = absurd (omega (arith, some_front n e))
-few_step k (suc j) n onto small more false e = omega (arith, more (suc j) (n / 16) (digit_glyph false (n % 16) ∷ onto) (omega arith) (omega (arith, pow-suc 16 (suc j))))
+few_step k (suc j) n onto small more false e = omega (
+  arith,
+  more (suc j) (n / 16) (digit_glyph false (n % 16) ∷ onto) (omega arith)
+      (omega (arith, pow-suc 16 (suc j))),
+)
 
 few_onto : (k j n : ℕ) (onto : List ℕ) → 0 < j → n < 16 ^ j → length (digits_onto k 16 false n onto) ≤ j + length onto
 few_onto zero j n onto some small = omega arith
@@ -147,7 +187,8 @@ in_quads = record {
 four_groups : (h : ℕ) → h < 2 ^ 64 → h ≡ ((group_at (2 ^ 48) h * 65536 + group_at (2 ^ 32) h) * 65536 + group_at (2 ^ 16) h) * 65536 + group_at 1 h
 four_groups h small = omega arith
 
-eight_groups : (a q r b c d e f g h i : ℕ) → q ≡ a / 2 ^ 64 → r ≡ a % 2 ^ 64 → q ≡ ((b * 65536 + c) * 65536 + d) * 65536 + e → r ≡ ((f * 65536 + g) * 65536 + h) * 65536 + i
+eight_groups : (a q r b c d e f g h i : ℕ) → q ≡ a / 2 ^ 64 → r ≡ a % 2 ^ 64 → q ≡ ((b * 65536 + c) * 65536 + d) * 65536 + e
+    → r ≡ ((f * 65536 + g) * 65536 + h) * 65536 + i
     → a ≡ (((((((0 * 65536 + b) * 65536 + c) * 65536 + d) * 65536 + e) * 65536 + f) * 65536 + g) * 65536 + h) * 65536 + i
 eight_groups a q r b c d e f g h i is also high low = omega arith
 
@@ -159,14 +200,21 @@ pub ip6_for : (a : ℕ) → a < 2 ^ 128 → IsWordFor false (ip6_word a) (TokenK
 ip6_for a small =
     let q : ℕ = a / 2 ^ 64 in
     let r : ℕ = a % 2 ^ 64 in
-    let below : AllBelowBase 65536 (half_groups q ++ half_groups r) = (below_65536 (2 ^ 48) q, (below_65536 (2 ^ 32) q, (below_65536 (2 ^ 16) q, (below_65536 1 q, (below_65536 (2 ^ 48) r, (below_65536 (2 ^ 32) r, (below_65536 (2 ^ 16) r, (below_65536 1 r, tt)))))))) in
+    let below : AllBelowBase 65536 (half_groups q ++ half_groups r) = (
+      below_65536 (2 ^ 48) q,
+      (
+        below_65536 (2 ^ 32) q,
+        (below_65536 (2 ^ 16) q, (below_65536 1 q, (below_65536 (2 ^ 48) r, (below_65536 (2 ^ 32) r, (below_65536 (2 ^ 16) r, (below_65536 1 r, tt)))))),
+      ),
+    ) in
     record {
       part = subst (IsPart false) (sym (all_joined a)) (part in_quads (half_groups q ++ half_groups r) (lit< tt) below);
       stands = ip6 {address = a} (whole (record {
         groups = map (digits 16 false) (half_groups q ++ half_groups r);
         are = record { joined = all_joined a; each = each in_quads (half_groups q ++ half_groups r) below };
         all = refl;
-        value = eight_groups a q r _ _ _ _ _ _ _ _ refl refl (four_groups q (omega arith)) (four_groups r (omega arith)) ∙ ap (number_from_digits 65536) (sym (values in_quads (half_groups q ++ half_groups r) below));
+        value = eight_groups a q r _ _ _ _ _ _ _ _ refl refl (four_groups q (omega arith)) (four_groups r (omega arith))
+            ∙ ap (number_from_digits 65536) (sym (values in_quads (half_groups q ++ half_groups r) below));
       }));
       fit = refl;
     }

@@ -1,6 +1,17 @@
 -- The tokens of a resolved tree are read as that tree, and so what an expression means is read as
 -- the expression.
-use Rattle.flt_explain.proofs.Common.{◌≡◌, ℕ, suc, refl, ap, Bool, true, false, ◌&&◌, not, is_some, List, [], ◌∷◌, Option, Some, None, Operator, Protocol, TokenKind, ValueType, Proto, Direction, Qualifiers, CompleteQualifiers, NetMask, Value, NumberTree, literal, len, named, load, negated, applied, TruthTree, check, cast, sized, bare, valued, qualified, compared, denied, joined, Expression, empty, truth, latest, with_inherited, complete, completed_qualifiers, only_host, fill_expression, IsResolved, any_primitive, fill_fault, is_misfit, is_out_of_range, is_unfilled, has_bits_past_mask, ReadsProtocol, no_protocol, protocol, ReadsDirection, no_direction, one_side, source_first, of_type, ReadsQualifiers, qualifiers, ReadsMask, no_mask, prefix, dotted_mask, ReadsValue, number, dotted, ip6_prefix, range, level, Number, of_literal, of_len, of_name, enclosed, of_sized_load, minus, chain, Truth, of_check, of_cast, of_protocol_cast, of_sized, of_valued, relation, denial, enclosed_truth, term, terms, IsReadAs, no_tokens, all_tokens, mask_tokens, value_tokens, protocol_tokens, direction_tokens, qualifier_tokens, written_direction, written_side, written_qualifiers, number_tokens, open_operand, close_operand, truth_tokens, explained_tokens, IsWritable, IsWritableNumber, IsWritableTruth, ◌≤◌, lit≤, length, sym, subst, arith, short, Other, type_tokens, explained_text, IsReadBack, IsWritableMask, IsWritableValue, or-true, or_parts}
+use Rattle.flt_explain.proofs.Common.{◌≡◌, ℕ, suc, refl, ap, Bool, true, false, ◌&&◌, not, is_some, List, [], ◌∷◌, Option, Some, None, Operator, Protocol}
+use Rattle.flt_explain.proofs.Common.{TokenKind, ValueType, Proto, Direction, Qualifiers, CompleteQualifiers, NetMask, Value, NumberTree, literal, len, named}
+use Rattle.flt_explain.proofs.Common.{load, negated, applied, TruthTree, check, cast, sized, bare, valued, qualified, compared, denied, joined, Expression}
+use Rattle.flt_explain.proofs.Common.{empty, truth, latest, with_inherited, complete, completed_qualifiers, only_host, fill_expression, IsResolved}
+use Rattle.flt_explain.proofs.Common.{any_primitive, fill_fault, is_misfit, is_out_of_range, is_unfilled, has_bits_past_mask, ReadsProtocol, no_protocol}
+use Rattle.flt_explain.proofs.Common.{protocol, ReadsDirection, no_direction, one_side, source_first, of_type, ReadsQualifiers, qualifiers, ReadsMask, no_mask}
+use Rattle.flt_explain.proofs.Common.{prefix, dotted_mask, ReadsValue, number, dotted, ip6_prefix, range, level, Number, of_literal, of_len, of_name, enclosed}
+use Rattle.flt_explain.proofs.Common.{of_sized_load, minus, chain, Truth, of_check, of_cast, of_protocol_cast, of_sized, of_valued, relation, denial}
+use Rattle.flt_explain.proofs.Common.{enclosed_truth, term, terms, IsReadAs, no_tokens, all_tokens, mask_tokens, value_tokens, protocol_tokens}
+use Rattle.flt_explain.proofs.Common.{direction_tokens, qualifier_tokens, written_direction, written_side, written_qualifiers, number_tokens, open_operand}
+use Rattle.flt_explain.proofs.Common.{close_operand, truth_tokens, explained_tokens, IsWritable, IsWritableNumber, IsWritableTruth, ◌≤◌, lit≤, length, sym}
+use Rattle.flt_explain.proofs.Common.{subst, arith, short, Other, type_tokens, explained_text, IsReadBack, IsWritableMask, IsWritableValue, or-true, or_parts}
 use Rattle.flt_words.specs.declared.token.Join.{Join}
 use Rattle.flt_ast.specs.Fits.{fit_of, is_either, is_misfit_fit, is_proto}
 use Rattle.flt_lang.{proofs.Stacked.widened, proofs.ValuesBack.level_small, specs.Values.ip6, specs.Values.mac}
@@ -13,8 +24,10 @@ use Rattle.flt_ast.specs.declared.value.Value.TheVariants as value
 any : {k : ℕ} {ts rest : List TokenKind} {a : NumberTree} → k ≤ 4 → Number k ts a rest → Number 4 ts a rest
 any {k} small reads = widened k 4 _ _ _ small reads
 
-operation : (o : Operator) {ts mid rest : List TokenKind} {a b : NumberTree} → Number 0 ts a (token.Operator o ∷ mid) → Number 0 mid b rest → Number 4 ts (applied o a b) rest
-operation o left right = any (omega (arith, level_small o)) (chain (widened 0 (suc (level o)) _ _ _ (omega arith) left) refl (widened 0 (level o) _ _ _ (omega arith) right))
+operation : (o : Operator) {ts mid rest : List TokenKind} {a b : NumberTree} → Number 0 ts a (token.Operator o ∷ mid) → Number 0 mid b rest
+    → Number 4 ts (applied o a b) rest
+operation o left right = any (omega (arith, level_small o)) (chain (widened 0 (suc (level o)) _ _ _ (omega arith) left) refl
+    (widened 0 (level o) _ _ _ (omega arith) right))
 
 -- a number is read
 reads_number : (a : NumberTree) (rest : List TokenKind) → IsWritableNumber a → Number 0 (number_tokens a rest) a rest
@@ -48,7 +61,9 @@ reads_direction : (d : Direction) (rest : List TokenKind) → ReadsDirection (di
 reads_direction (direction.One s) rest = one_side
 reads_direction (direction.Both j) rest = source_first
 
-reads_typed : (k : ValueType) (d : Direction) (p : Option Protocol) (ts rest : List TokenKind) → ReadsProtocol ts p (written_direction (written_side k d) (token.ValueType k ∷ rest)) → ReadsQualifiers ts (record { protocol = p; direction = written_side k d; value_type = Some k }) rest
+reads_typed : (k : ValueType) (d : Direction) (p : Option Protocol) (ts rest : List TokenKind)
+    → ReadsProtocol ts p (written_direction (written_side k d) (token.ValueType k ∷ rest))
+    → ReadsQualifiers ts (record { protocol = p; direction = written_side k d; value_type = Some k }) rest
 reads_typed Proto d p ts rest reads = qualifiers reads no_direction of_type
 reads_typed _ d p ts rest reads = qualifiers reads (reads_direction d _) of_type
 
@@ -67,7 +82,8 @@ Reads : Bool → List TokenKind → TruthTree → List TokenKind → Type 0
 Reads true ts a rest = Truth 0 ts a rest
 Reads false ts a rest = Truth 1 ts a rest
 
-around : (operand : Bool) (rest : List TokenKind) {ts : List TokenKind} {a : TruthTree} → Truth 1 ts a (close_operand operand rest) → Reads operand (open_operand operand ts) a rest
+around : (operand : Bool) (rest : List TokenKind) {ts : List TokenKind} {a : TruthTree} → Truth 1 ts a (close_operand operand rest)
+    → Reads operand (open_operand operand ts) a rest
 unfolding Reads
 around true rest reads = enclosed_truth reads
 around false rest reads = reads
@@ -77,7 +93,8 @@ unfolding Reads
 alone true reads = reads
 alone false reads = term reads
 
-reads_truth : (operand : Bool) (a : TruthTree) (rest : List TokenKind) → IsWritableTruth a → any_primitive is_unfilled a ≡ false → Reads operand (truth_tokens operand a rest) (reread a) rest
+reads_truth : (operand : Bool) (a : TruthTree) (rest : List TokenKind) → IsWritableTruth a → any_primitive is_unfilled a ≡ false
+    → Reads operand (truth_tokens operand a rest) (reread a) rest
 unfolding Reads reread
 reads_truth operand (check p) rest w f = alone operand (of_check w)
 reads_truth operand (cast None c) rest w f = alone operand of_cast
@@ -86,20 +103,23 @@ reads_truth operand (sized s n) rest w f = around operand rest (term of_sized)
 reads_truth operand (bare v) rest w f = cc
 reads_truth operand (valued q v) rest w f = cc
 reads_truth operand (qualified q v) rest w f = around operand rest (term (of_valued (reads_qualifiers q _) (or-true _) (reads_value v _)))
-reads_truth operand (compared c a b) rest w f = around operand rest (term (relation (any (lit≤ tt) (reads_number a _ w.0)) (any (lit≤ tt) (reads_number b _ w.1))))
+reads_truth operand (compared c a b) rest w f =
+    around operand rest (term (relation (any (lit≤ tt) (reads_number a _ w.0)) (any (lit≤ tt) (reads_number b _ w.1))))
 reads_truth operand (denied a) rest w f = around operand rest (term (denial (reads_truth true a _ w f)))
 reads_truth operand (joined j a b) rest w f =
     let parts = or_parts (any_primitive is_unfilled a) (any_primitive is_unfilled b) f in
     around operand rest (terms (term (reads_truth true a _ w.0 parts.0)) (reads_truth true b _ w.1 parts.1))
 
 -- resolved, it is the tree
-full_again : (k : ValueType) (p : Option Protocol) (d : Direction) → is_proto k && not (is_either d) ≡ false → completed_qualifiers (record { protocol = p; direction = written_side k d; value_type = Some k }) ≡ record { protocol = p; direction = d; value_type = k }
+full_again : (k : ValueType) (p : Option Protocol) (d : Direction) → is_proto k && not (is_either d) ≡ false
+    → completed_qualifiers (record { protocol = p; direction = written_side k d; value_type = Some k }) ≡ record { protocol = p; direction = d; value_type = k }
 full_again Proto p (direction.Both Join.Or) h = refl
 full_again Proto p (direction.Both Join.And) h = cc
 full_again Proto p (direction.One s) h = cc
 full_again _ p d h = refl
 
-filled_again : (q : Qualifiers) (a : TruthTree) → any_primitive is_unfilled a ≡ false → any_primitive is_misfit a ≡ false → complete (with_inherited q (reread a)) ≡ a
+filled_again : (q : Qualifiers) (a : TruthTree) → any_primitive is_unfilled a ≡ false → any_primitive is_misfit a ≡ false
+    → complete (with_inherited q (reread a)) ≡ a
 unfolding reread
 filled_again q (bare v) f m = cc
 filled_again q (valued p v) f m = cc
@@ -114,7 +134,8 @@ filled_again q (joined j a b) f m =
 filled_again q _ f m = refl
 
 -- and has none of the faults
-keeps : (g : TruthTree → Bool) → ((q : CompleteQualifiers) (v : Value) → g (qualified q v) ≡ false → g (valued (written_qualifiers q) v) ≡ false) → (q : Qualifiers) (a : TruthTree) → any_primitive is_unfilled a ≡ false → any_primitive g a ≡ false → any_primitive g (with_inherited q (reread a)) ≡ false
+keeps : (g : TruthTree → Bool) → ((q : CompleteQualifiers) (v : Value) → g (qualified q v) ≡ false → g (valued (written_qualifiers q) v) ≡ false)
+    → (q : Qualifiers) (a : TruthTree) → any_primitive is_unfilled a ≡ false → any_primitive g a ≡ false → any_primitive g (with_inherited q (reread a)) ≡ false
 unfolding reread
 keeps g same q (bare v) f h = cc
 keeps g same q (valued p v) f h = cc
@@ -220,7 +241,8 @@ truth_spelled operand (cast (Some p) c) rest w s = opened_spelled operand _ (tt,
 truth_spelled operand (sized z n) rest w s = opened_spelled operand _ (tt, tt, (w, tt, closed_spelled operand rest s))
 truth_spelled operand (bare v) rest w s = opened_spelled operand _ (value_spelled v _ w (closed_spelled operand rest s))
 truth_spelled operand (valued q v) rest w s = opened_spelled operand _ (qualifiers_spelled q _ (value_spelled v _ w (closed_spelled operand rest s)))
-truth_spelled operand (qualified q v) rest w s = opened_spelled operand _ (qualifiers_spelled (written_qualifiers q) _ (value_spelled v _ w (closed_spelled operand rest s)))
+truth_spelled operand (qualified q v) rest w s = opened_spelled operand _
+    (qualifiers_spelled (written_qualifiers q) _ (value_spelled v _ w (closed_spelled operand rest s)))
 truth_spelled operand (compared c a b) rest w s =
     opened_spelled operand _ (number_spelled a 0 _ w.0 (tt, tt, number_spelled b 0 _ w.1 (closed_spelled operand rest s)))
 truth_spelled operand (denied a) rest w s = opened_spelled operand _ (tt, tt, truth_spelled true a _ w (closed_spelled operand rest s))

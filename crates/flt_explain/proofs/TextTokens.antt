@@ -1,5 +1,10 @@
 -- A sign in a text is a token, and the text of tokens is cut into these tokens.
-use Rattle.flt_explain.proofs.Common.{◌≡◌, ℕ, ◌<◌, ◌≤◌, ◌⊎◌, ⊎_elim, inr, List, [], ◌∷◌, ◌++◌, length, get_or, take, refl, ◌∙◌, arith, Bool, true, false, ◌==◌, ◌&&◌, ◌||◌, not, nat_tests, list_all, Option, None, Some, TokenKind, within_word, look_up, symbol_of, found_passes, IsToken, symbol_meaning, longest_one, longest_two, fixed_spelling, inl, suc, zero, ◌+◌, drop, sym, ap, subst, cond, count_by, nat_lt, codes, if◌then◌else◌, Ok, append_assoc, append-nil, length-append, drop_at, get_or_at, take_at, Token, is_inside, TokensFrom, kinds_of, Following, gap, joins_next, joins_previous, next_after, spelling, tokens_text, IsSpellable, or-true, Operator, symbol_piece, closings, openings, token_has, lt-ltb}
+use Rattle.flt_explain.proofs.Common.{◌≡◌, ℕ, ◌<◌, ◌≤◌, ◌⊎◌, ⊎_elim, inr, List, [], ◌∷◌, ◌++◌, length, get_or, take, refl, ◌∙◌, arith, Bool, true, false, ◌==◌}
+use Rattle.flt_explain.proofs.Common.{◌&&◌, ◌||◌, not, nat_tests, list_all, Option, None, Some, TokenKind, within_word, look_up, symbol_of, found_passes}
+use Rattle.flt_explain.proofs.Common.{IsToken, symbol_meaning, longest_one, longest_two, fixed_spelling, inl, suc, zero, ◌+◌, drop, sym, ap, subst, cond}
+use Rattle.flt_explain.proofs.Common.{count_by, nat_lt, codes, if◌then◌else◌, Ok, append_assoc, append-nil, length-append, drop_at, get_or_at, take_at, Token}
+use Rattle.flt_explain.proofs.Common.{is_inside, TokensFrom, kinds_of, Following, gap, joins_next, joins_previous, next_after, spelling, tokens_text}
+use Rattle.flt_explain.proofs.Common.{IsSpellable, or-true, Operator, symbol_piece, closings, openings, token_has, lt-ltb}
 use Rattle.flt_words.specs.Spellings.{symbols}
 use Rattle.flt_words.specs.declared.token.Comparison.{Comparison}
 use Rattle.flt_explain.proofs.AddressTokens.{dotted_for, mac_for, ip6_for}
@@ -57,17 +62,23 @@ two_is inside b c = simp and-false refl
 
 no_two : (inside : Bool) (b : ℕ) (more : List ℕ) → Ends inside more ⊎ (is_alone b ≡ true) → 2 ≤ length (b ∷ more) → symbol_of inside (take 2 (b ∷ more)) ≡ None
 no_two inside b [] stops long = absurd (omega arith)
-no_two inside b (c ∷ more) stops long = two_is inside b c ∙ none_two b c (⊎_elim (λ ends. rw (ends_first ends) refl) (λ alone. ap (λ x. is_end true c || x) alone ∙ or-true _) stops)
+no_two inside b (c ∷ more) stops long = two_is inside b c
+    ∙ none_two b c (⊎_elim (λ ends. rw (ends_first ends) refl) (λ alone. ap (λ x. is_end true c || x) alone ∙ or-true _) stops)
   where
     ends_first : Ends inside (c ∷ more) → is_end true c ≡ true
     ends_first (goes_on end) = end_inside inside c end
 
 -- a sign of one or two bytes
-sign_at : (inside : Bool) (place : ℕ) (word more : List ℕ) (t : TokenKind) → symbol_of inside word ≡ Some t → Ends inside more ⊎ (is_alone (get_or word 0 0) ≡ true) → IsToken inside place (word ++ more) t (length word)
+sign_at : (inside : Bool) (place : ℕ) (word more : List ℕ) (t : TokenKind) → symbol_of inside word ≡ Some t
+    → Ends inside more ⊎ (is_alone (get_or word 0 0) ≡ true) → IsToken inside place (word ++ more) t (length word)
 sign_at inside place [] more t is stops = absurd (omega (arith, (symbol_piece inside [] t is).some))
 sign_at inside place (b ∷ []) more t is stops =
     record { longest = longest_one (omega arith) (symbol_piece inside (b ∷ []) t is).starts_none (no_two inside b more stops) is; means = symbol_meaning is }
-sign_at inside place (b ∷ c ∷ []) more t is stops = record { longest = longest_two (omega arith) (symbol_piece inside (b ∷ c ∷ []) t is).starts_none is; means = symbol_meaning is }
+sign_at inside place (b ∷ c ∷ []) more t is stops = record {
+  longest = longest_two (omega arith) (symbol_piece inside (b ∷ c ∷ []) t is).starts_none
+      is;
+  means = symbol_meaning is;
+}
 sign_at inside place (b ∷ c ∷ d ∷ word) more t is stops = absurd (omega (arith, (symbol_piece inside (b ∷ c ∷ d ∷ word) t is).upper_bound))
 
 abbrev pub is_sign : TokenKind → Bool
@@ -87,7 +98,8 @@ sign_found false (token.Comparison Comparison.Equal) h = refl
 sign_found false (token.Operator Operator.Divide) h = refl
 sign_found _ _ h = cc
 
-pub sign_token : (t : TokenKind) (inside : Bool) (place : ℕ) (more : List ℕ) → is_sign t ≡ true → Ends inside more ⊎ (is_alone (get_or (fixed_spelling t) 0 0) ≡ true) → IsToken inside place (fixed_spelling t ++ more) t (length (fixed_spelling t))
+pub sign_token : (t : TokenKind) (inside : Bool) (place : ℕ) (more : List ℕ) → is_sign t ≡ true
+    → Ends inside more ⊎ (is_alone (get_or (fixed_spelling t) 0 0) ≡ true) → IsToken inside place (fixed_spelling t ++ more) t (length (fixed_spelling t))
 sign_token t inside place more h stops = sign_at inside place (fixed_spelling t) more t (sign_found inside t h) stops
 
 pub colon_token : (inside : Bool) (place : ℕ) (more : List ℕ) → inside ≡ true → IsToken inside place (58 ∷ more) token.Colon 1
@@ -113,27 +125,36 @@ AreSpelled d [] = Unit {0}
 AreSpelled d (t ∷ rest) = IsSpellable t × IsAt d t × AreSpelled (depth_after d t) rest
 
 -- what follows a token that doesn't join the next one
-before_next : (d : ℕ) (u : TokenKind) (us : List TokenKind) (following : Following) → IsAt d u → Ends (nat_lt 0 d) ((if joins_previous u then [] else codes " ") ++ tokens_text following (u ∷ us))
+before_next : (d : ℕ) (u : TokenKind) (us : List TokenKind) (following : Following) → IsAt d u
+    → Ends (nat_lt 0 d) ((if joins_previous u then [] else codes " ") ++ tokens_text following (u ∷ us))
 before_next d token.Colon us following at = goes_on (rw (lt-ltb 0 d at) refl)
 before_next d (token.Operator Operator.Divide) us following at = goes_on refl
 before_next d _ us following at = goes_on refl
 
-ends_of : (d : ℕ) (t : TokenKind) (rest : List TokenKind) (following : Following) → joins_next t ≡ false → AreSpelled d rest → Ends (nat_lt 0 d) (gap t rest ++ tokens_text following rest)
+ends_of : (d : ℕ) (t : TokenKind) (rest : List TokenKind) (following : Following) → joins_next t ≡ false → AreSpelled d rest
+    → Ends (nat_lt 0 d) (gap t rest ++ tokens_text following rest)
 ends_of d t [] following h s = no_more
 ends_of d t (u ∷ us) following h s = rw h (before_next d u us following s.1)
 
-word_here : (d place : ℕ) (word : List ℕ) (t : TokenKind) (rest : List TokenKind) (following : Following) → joins_next t ≡ false → IsWordFor (nat_lt 0 d) word t → AreSpelled d rest → IsToken (nat_lt 0 d) place (word ++ (gap t rest ++ tokens_text following rest)) t (length word)
-word_here d place word t rest following h w s = word_token (nat_lt 0 d) place word (gap t rest ++ tokens_text following rest) t w.part w.stands w.fit (word_ends (nat_lt 0 d) (gap t rest ++ tokens_text following rest) (ends_of d t rest following h s))
+word_here : (d place : ℕ) (word : List ℕ) (t : TokenKind) (rest : List TokenKind) (following : Following) → joins_next t ≡ false
+    → IsWordFor (nat_lt 0 d) word t → AreSpelled d rest → IsToken (nat_lt 0 d) place (word ++ (gap t rest ++ tokens_text following rest)) t (length word)
+word_here d place word t rest following h w s = word_token (nat_lt 0 d) place word (gap t rest ++ tokens_text following rest) t w.part w.stands w.fit
+    (word_ends (nat_lt 0 d) (gap t rest ++ tokens_text following rest) (ends_of d t rest following h s))
 
 -- a token stands at its place
-token_here : (t : TokenKind) (d place : ℕ) (following next : Following) (rest : List TokenKind) → IsSpellable t → IsAt d t → AreSpelled (depth_after d t) rest → IsToken (nat_lt 0 d) place (spelling following t ++ (gap t rest ++ tokens_text next rest)) t (length (spelling following t))
+token_here : (t : TokenKind) (d place : ℕ) (following next : Following) (rest : List TokenKind) → IsSpellable t → IsAt d t
+    → AreSpelled (depth_after d t) rest → IsToken (nat_lt 0 d) place (spelling following t ++ (gap t rest ++ tokens_text next rest)) t
+    (length (spelling following t))
 token_here token.Open d place following next rest w at s = sign_token token.Open (nat_lt 0 d) place _ refl (inr refl)
 token_here token.Close d place following next rest w at s = sign_token token.Close (nat_lt 0 d) place _ refl (inr refl)
 token_here token.OpenBracket d place following next rest w at s = sign_token token.OpenBracket (nat_lt 0 d) place _ refl (inr refl)
 token_here token.CloseBracket d place following next rest w at s = sign_token token.CloseBracket (nat_lt 0 d) place _ refl (inr refl)
-token_here (token.Operator Operator.Divide) d place following next rest w at s = sign_token (token.Operator Operator.Divide) (nat_lt 0 d) place _ refl (inr refl)
-token_here (token.Operator o) d place following next rest w at s = sign_token (token.Operator o) (nat_lt 0 d) place _ refl (inl (ends_of d (token.Operator o) rest next refl s))
-token_here (token.Comparison c) d place following next rest w at s = sign_token (token.Comparison c) (nat_lt 0 d) place _ refl (inl (ends_of d (token.Comparison c) rest next refl s))
+token_here (token.Operator Operator.Divide) d place following next rest w at s = sign_token (token.Operator Operator.Divide) (nat_lt 0 d) place _ refl
+    (inr refl)
+token_here (token.Operator o) d place following next rest w at s = sign_token (token.Operator o) (nat_lt 0 d) place _ refl
+    (inl (ends_of d (token.Operator o) rest next refl s))
+token_here (token.Comparison c) d place following next rest w at s = sign_token (token.Comparison c) (nat_lt 0 d) place _ refl
+    (inl (ends_of d (token.Comparison c) rest next refl s))
 token_here token.Colon d place following next rest w at s = colon_token (nat_lt 0 d) place _ (lt-ltb 0 d at)
 token_here (token.Number n) d place following next rest w at s = word_here d place _ _ rest next refl (number_for (nat_lt 0 d) n w) s
 token_here (token.Name n) d place following next rest w at s = word_here d place _ _ rest next refl (name_for (nat_lt 0 d) following n w) s
@@ -158,22 +179,26 @@ inside_is opened closed d h = grind (arith, nat_tests)
 gap_is : (t : TokenKind) (rest : List TokenKind) → (gap t rest ≡ []) ⊎ (gap t rest ≡ 32 ∷ [])
 gap_is t [] = inl refl
 gap_is t (u ∷ rest) =
-    elim (joins_next t || joins_previous u) as (λ b. ((if b then [] else codes " ") ≡ []) ⊎ ((if b then [] else codes " ") ≡ 32 ∷ [])) [ true ↦ inl refl | false ↦ inr refl ]
+    elim (joins_next t || joins_previous u) as (λ b. ((if b then [] else codes " ") ≡ []) ⊎ ((if b then [] else codes " ") ≡ 32 ∷ []))
+    [ true ↦ inl refl | false ↦ inr refl ]
 
 gap_none : (c : ℕ) (g : List ℕ) → (g ≡ []) ⊎ (g ≡ 32 ∷ []) → (32 == c) ≡ false → count_by (λ b. b == c) g ≡ 0
 gap_none c g which other = ⊎_elim (λ e. ap (count_by (λ b. b == c)) e) (λ e. ap (count_by (λ b. b == c)) e ∙ rw other refl) which
 
-counted : (c : ℕ) (front word g : List ℕ) → count_by (λ b. b == c) (front ++ (word ++ g)) ≡ count_by (λ b. b == c) front + (count_by (λ b. b == c) word + count_by (λ b. b == c) g)
+counted : (c : ℕ) (front word g : List ℕ) → count_by (λ b. b == c) (front ++ (word ++ g)) ≡ count_by (λ b. b == c) front +
+    (count_by (λ b. b == c) word + count_by (λ b. b == c) g)
 counted c front word g =
     sum_by-append (λ b. cond (b == c) 1 0) front (word ++ g) ∙ ap (λ n. count_by (λ b. b == c) front + n) (sum_by-append (λ b. cond (b == c) 1 0) word g)
 
 -- a gap is passed over
-over_gap : (text front g tail : List ℕ) (tokens : List Token) → text ≡ front ++ (g ++ tail) → (g ≡ []) ⊎ (g ≡ 32 ∷ []) → TokensFrom text (length front + length g) (Ok tokens) → TokensFrom text (length front) (Ok tokens)
+over_gap : (text front g tail : List ℕ) (tokens : List Token) → text ≡ front ++ (g ++ tail) → (g ≡ []) ⊎ (g ≡ 32 ∷ [])
+    → TokensFrom text (length front + length g) (Ok tokens) → TokensFrom text (length front) (Ok tokens)
 over_gap text front g tail tokens is which from =
     ⊎_elim (λ none. let at : length front + length g ≡ length front = omega (arith, ap length none) in subst (λ k. TokensFrom text k (Ok tokens)) at from)
     (λ one.
     let at : length front + length g ≡ length front + 1 = omega (arith, ap length one) in
-    let byte : get_or text (length front) 0 ≡ 32 = ap (λ t. get_or t (length front) 0) (is ∙ ap (λ h. front ++ (h ++ tail)) one) ∙ get_or_at front 32 tail 0 (length front) refl in
+    let byte : get_or text (length front) 0 ≡ 32 = ap (λ t. get_or t (length front) 0) (is ∙ ap (λ h. front ++ (h ++ tail)) one)
+    ∙ get_or_at front 32 tail 0 (length front) refl in
     blank (rw byte refl) (subst (λ k. TokensFrom text k (Ok tokens)) at from))
     which
 
@@ -182,7 +207,8 @@ pub record LexesAs (text : List ℕ) (at : ℕ) (kinds : List TokenKind) : Type 
   pub are : TokensFrom text at (Ok tokens)
   pub same : kinds_of tokens ≡ kinds
 
-pub lexes : (kinds : List TokenKind) (d : ℕ) (following : Following) (front : List ℕ) → count_by (λ b. b == 91) front ≡ count_by (λ b. b == 93) front + d → AreSpelled d kinds → LexesAs (front ++ tokens_text following kinds) (length front) kinds
+pub lexes : (kinds : List TokenKind) (d : ℕ) (following : Following) (front : List ℕ) → count_by (λ b. b == 91) front ≡ count_by (λ b. b == 93) front
+    + d → AreSpelled d kinds → LexesAs (front ++ tokens_text following kinds) (length front) kinds
 lexes [] d following front counts s = record { tokens = []; are = at_end (ap length (sym (append-nil front))); same = refl }
 lexes (t ∷ rest) d following front counts s =
     let word : List ℕ = spelling following t in
@@ -197,20 +223,33 @@ lexes (t ∷ rest) d following front counts s =
     let opened : count_by (λ b. b == 91) word ≡ openings t = ap (count_by (λ b. b == 91)) (sym cut) ∙ has.opened in
     let closed : count_by (λ b. b == 93) word ≡ closings t = ap (count_by (λ b. b == 93)) (sym cut) ∙ has.closed in
     let more : count_by (λ b. b == 91) (front ++ (word ++ g)) ≡ count_by (λ b. b == 93) (front ++ (word ++ g)) + depth_after d t =
-    omega (arith, counted 91 front word g, counted 93 front word g, gap_none 91 g which refl, gap_none 93 g which refl, depth_is d t s.1, opened, closed, counts) in
+    omega (
+      arith,
+      counted 91 front word g,
+      counted 93 front word g,
+      gap_none 91 g which refl,
+      gap_none 93 g which refl,
+      depth_is d t s.1,
+      opened,
+      closed,
+      counts,
+    ) in
     let later = lexes rest (depth_after d t) next (front ++ (word ++ g)) more s.2 in
     let whole : (front ++ (word ++ g)) ++ tail ≡ text = simp append_assoc refl in
-    let long : length (front ++ (word ++ g)) ≡ length (front ++ word) + length g = omega (arith, length-append front (word ++ g), length-append word g, length-append front word) in
+    let long : length (front ++ (word ++ g)) ≡ length (front ++ word) + length g =
+    omega (arith, length-append front (word ++ g), length-append word g, length-append front word) in
     let after_gap : TokensFrom text (length (front ++ word) + length g) (Ok later.tokens) =
     subst (λ k. TokensFrom text k (Ok later.tokens)) long (subst (λ t. TokensFrom t (length (front ++ (word ++ g))) (Ok later.tokens)) whole later.are) in
     let split : text ≡ (front ++ word) ++ (g ++ tail) = sym (append_assoc front word (g ++ tail)) in
     let after_word : TokensFrom text (length front + length word) (Ok later.tokens) =
     subst (λ k. TokensFrom text k (Ok later.tokens)) (length-append front word) (over_gap text (front ++ word) g tail later.tokens split which after_gap) in
     let inside : nat_lt 0 d ≡ is_inside (take (length front) text) =
-    sym (ap is_inside (take_at front (word ++ (g ++ tail)) (length front) refl) ∙ inside_is (count_by (λ b. b == 91) front) (count_by (λ b. b == 93) front) d counts) in
+    sym (ap is_inside (take_at front (word ++ (g ++ tail)) (length front) refl) ∙ inside_is (count_by (λ b. b == 91) front)
+    (count_by (λ b. b == 93) front) d counts) in
     let left : word ++ (g ++ tail) ≡ drop (length front) text = sym (drop_at front (word ++ (g ++ tail)) (length front) refl) in
     let placed : IsToken (is_inside (take (length front) text)) (length front + 1) (drop (length front) text) t (length word) =
-    subst (λ i. IsToken i (length front + 1) (drop (length front) text) t (length word)) inside (subst (λ r. IsToken (nat_lt 0 d) (length front + 1) r t (length word)) left here) in
+    subst (λ i. IsToken i (length front + 1) (drop (length front) text) t (length word)) inside
+    (subst (λ r. IsToken (nat_lt 0 d) (length front + 1) r t (length word)) left here) in
     record {
       tokens = record { kind = t; place = length front + 1 } ∷ later.tokens;
       are = one_more {answer = Ok later.tokens} placed after_word;

@@ -1,6 +1,11 @@
 -- A word in a text, after which no byte of it follows, is a token; and each word that is written
 -- means its token.
-use Rattle.flt_explain.proofs.Common.{◌≡◌, ℕ, suc, zero, ◌+◌, ◌-◌, ◌<◌, ◌≤◌, List, [], ◌∷◌, ◌++◌, length, get_or, refl, sym, ap, ◌∙◌, arith, Bool, true, false, ◌&&◌, nat_lt, Some, nat_tests, get_or-append-add, get_or_append_left, take_at, digit_value, is_ascii_alphanumeric, AllByRecursion, list_all, AllDigits, TokenKind, starts_word, within_word, keyword_of, IsToken, IsWordPiece, word_meaning, Spells, fits, known, IsScanned, longest_word, found_passes, ⊎_elim, ◌^◌, subst, ◌==◌, lit<, lit≤, decimal_digit, decimal_is_IsNumeral, first_decimal, decimal, Host, WritesDecimal, keyword, keyword_is_plain, Following, Other, fixed_spelling, name_word, has_name, and_parts, ltb-true, eqb-true, or_cases, or-true, Protocol}
+use Rattle.flt_explain.proofs.Common.{◌≡◌, ℕ, suc, zero, ◌+◌, ◌-◌, ◌<◌, ◌≤◌, List, [], ◌∷◌, ◌++◌, length, get_or, refl, sym, ap, ◌∙◌, arith, Bool, true, false}
+use Rattle.flt_explain.proofs.Common.{◌&&◌, nat_lt, Some, nat_tests, get_or-append-add, get_or_append_left, take_at, digit_value, is_ascii_alphanumeric}
+use Rattle.flt_explain.proofs.Common.{AllByRecursion, list_all, AllDigits, TokenKind, starts_word, within_word, keyword_of, IsToken, IsWordPiece, word_meaning}
+use Rattle.flt_explain.proofs.Common.{Spells, fits, known, IsScanned, longest_word, found_passes, ⊎_elim, ◌^◌, subst, ◌==◌, lit<, lit≤, decimal_digit}
+use Rattle.flt_explain.proofs.Common.{decimal_is_IsNumeral, first_decimal, decimal, Host, WritesDecimal, keyword, keyword_is_plain, Following, Other}
+use Rattle.flt_explain.proofs.Common.{fixed_spelling, name_word, has_name, and_parts, ltb-true, eqb-true, or_cases, or-true, Protocol}
 use Rattle.flt_words.specs.Spellings.{keywords}
 use Rattle.std.proofs.lemmas.List.{length-append}
 use Rattle.flt_words.specs.Numbers.IsNumber.{decimal as decimal_number}
@@ -57,20 +62,23 @@ pub part_of_digits : (inside : Bool) (radix : ℕ) (digits : List ℕ) → radix
 part_of_digits inside radix digits few some all = part_of_starts inside digits some (digits_start inside radix digits few all)
 
 -- two parts, and a byte between them
-pub part_join : (inside : Bool) (c : ℕ) (front back : List ℕ) → within_word inside c ≡ true → IsPart inside front → IsPart inside back → IsPart inside (front ++ c ∷ back)
+pub part_join : (inside : Bool) (c : ℕ) (front back : List ℕ) → within_word inside c ≡ true → IsPart inside front → IsPart inside back
+    → IsPart inside (front ++ c ∷ back)
 part_join inside c front back between v w =
     let last : length (front ++ c ∷ back) - 1 ≡ length front + suc (length back - 1) = rw (length-append front (c ∷ back)) (omega (arith, w.some)) in
     record {
       some = rw (length-append front (c ∷ back)) (omega arith);
       begins = ap (starts_word inside) (get_or_append_left front (c ∷ back) 0 0 v.some) ∙ v.begins;
       within = all_append (λ b. within_word inside b ≡ true) front (c ∷ back) v.within (between, w.within);
-      ends = ap (λ k. starts_word inside (get_or (front ++ c ∷ back) k 0)) last ∙ ap (starts_word inside) (get_or-append-add front (c ∷ back) (suc (length back - 1)) 0) ∙ w.ends;
+      ends = ap (λ k. starts_word inside (get_or (front ++ c ∷ back) k 0)) last ∙ ap (starts_word inside)
+          (get_or-append-add front (c ∷ back) (suc (length back - 1)) 0) ∙ w.ends;
     }
 
 -- a keyword
 part_test : Bool → List ℕ → Bool
 part_test inside word =
-    nat_lt 0 (length word) && (starts_word inside (get_or word 0 0) && (list_all (within_word inside) word && starts_word inside (get_or word (length word - 1) 0)))
+    nat_lt 0 (length word) && (starts_word inside (get_or word 0 0) &&
+    (list_all (within_word inside) word && starts_word inside (get_or word (length word - 1) 0)))
 
 all_parts : (inside : Bool) → list_all (λ entry. part_test inside entry.0) keywords ≡ true
 unfolding part_test keywords
@@ -118,14 +126,16 @@ module _ (inside : Bool) (place : ℕ) (word more : List ℕ) (kind : TokenKind)
   stop : length word < length (word ++ more) → within_word inside (get_or (word ++ more) (length word) 0) ≡ false
   stop below =
       let at : length word + 0 ≡ length word = omega arith in
-      ap (λ k. within_word inside (get_or (word ++ more) k 0)) (sym at) ∙ ap (within_word inside) (get_or-append-add word more 0 0) ∙ stops (omega (arith, long))
+      ap (λ k. within_word inside (get_or (word ++ more) k 0)) (sym at) ∙ ap (within_word inside) (get_or-append-add word more 0 0)
+      ∙ stops (omega (arith, long))
 
   piece : IsWordPiece inside word
   piece = record { begins = part.begins; within = λ i below. byte_at (λ b. within_word inside b ≡ true) word i part.within below; ends = part.ends }
 
   pub word_token : IsToken inside place (word ++ more) kind (length word)
   word_token = record {
-    longest = longest_word inside (word ++ more) (length word) (length word) scanned (omega (arith, long)) (ap (starts_word inside) (here 0 part.some) ∙ part.begins) stop;
+    longest = longest_word inside (word ++ more) (length word) (length word) scanned (omega (arith, long)) (ap (starts_word inside) (here 0 part.some)
+        ∙ part.begins) stop;
     means = rw (take_at word more (length word) refl) (word_meaning piece (known stands fit));
   }
 
@@ -179,7 +189,10 @@ unfolding keywords
 name_found following n h =
     let P : ℕ → Type 0 = λ k. keyword_of (name_word following k) ≡ Some (token.Name k) in
     let at : (k : ℕ) → P k → (n == k) ≡ true → P n = λ k found is. subst P (sym (eqb-true n k is)) found in
-    ⊎_elim (at 0 refl) (λ h. ⊎_elim (at 1 (one_found following)) (λ h. ⊎_elim (at 2 refl) (λ h. ⊎_elim (at 4 refl) (λ h. ⊎_elim (at 8 refl) (λ h. ⊎_elim (at 13 refl) (λ h. ⊎_elim (at 16 refl) (at 32 refl) (or_cases (n == 16) (n == 32) h)) (or_cases (n == 13) _ h)) (or_cases (n == 8) _ h)) (or_cases (n == 4) _ h)) (or_cases (n == 2) _ h)) (or_cases (n == 1) _ h)) (or_cases (n == 0) _ h)
+    ⊎_elim (at 0 refl) (λ h. ⊎_elim (at 1 (one_found following))
+    (λ h. ⊎_elim (at 2 refl) (λ h. ⊎_elim (at 4 refl)
+    (λ h. ⊎_elim (at 8 refl) (λ h. ⊎_elim (at 13 refl) (λ h. ⊎_elim (at 16 refl) (at 32 refl) (or_cases (n == 16) (n == 32) h))
+    (or_cases (n == 13) _ h)) (or_cases (n == 8) _ h)) (or_cases (n == 4) _ h)) (or_cases (n == 2) _ h)) (or_cases (n == 1) _ h)) (or_cases (n == 0) _ h)
 
 pub name_for : (inside : Bool) (following : Following) (n : ℕ) → has_name n ≡ true → IsWordFor inside (name_word following n) (token.Name n)
 name_for inside following n h = keyword_by inside _ _ (name_found following n h)

@@ -1,5 +1,8 @@
 -- Each tree that is read of a text is writable.
-use Rattle.flt_explain.proofs.Common.{◌≡◌, ℕ, ◌^◌, ◌<◌, List, refl, arith, rules, Bool, true, false, Result, Ok, Err, AllByRecursion, list_all, Token, TokenKind, IsDotted, IsIp6, shortened, whole, is_word_sized, PieceMeans, Tokens, TokensFrom, before, symbol_meaning, word_meaning, short, too_long, Spells, fits, keyword, mac, ip6, known, found_passes, kinds_of, IsDottedAddress, has_name, IsSpellable, and_parts, ltb-true, symbol_passes}
+use Rattle.flt_explain.proofs.Common.{◌≡◌, ℕ, ◌^◌, ◌<◌, List, refl, arith, rules, Bool, true, false, Result, Ok, Err, AllByRecursion, list_all, Token}
+use Rattle.flt_explain.proofs.Common.{TokenKind, IsDotted, IsIp6, shortened, whole, is_word_sized, PieceMeans, Tokens, TokensFrom, before, symbol_meaning}
+use Rattle.flt_explain.proofs.Common.{word_meaning, short, too_long, Spells, fits, keyword, mac, ip6, known, found_passes, kinds_of, IsDottedAddress, has_name}
+use Rattle.flt_explain.proofs.Common.{IsSpellable, and_parts, ltb-true, symbol_passes}
 use Rattle.flt_words.specs.Spellings.{keywords, symbols}
 use Rattle.flt_words.specs.Tokens.TokensFrom.{at_end, blank, refused, token as one_more}
 use Rattle.flt_words.specs.Words.Spells.{number, dotted, range}
@@ -54,7 +57,8 @@ stands_spellable (ip6 w) fit = ip6_small w
 piece_spellable : {inside : Bool} {place : ℕ} {piece : List ℕ} {kind : TokenKind} → PieceMeans inside place piece (Ok kind) → IsSpellable kind
 piece_spellable (word_meaning w (known stands fit)) = stands_spellable stands fit
 piece_spellable {inside} {place} {piece} {kind} (symbol_meaning found) =
-    symbol_passes (λ _ _ k. IsSpellable k) tt (λ _ piece k is. from_table k (found_passes (λ _ k. table_test k) symbols piece k all_symbols is)) inside piece kind found
+    symbol_passes (λ _ _ k. IsSpellable k) tt (λ _ piece k is. from_table k (found_passes (λ _ k. table_test k) symbols piece k all_symbols is))
+    inside piece kind found
 
 -- and each token of a text
 abbrev pub AllSpellable : Result (List Token) ExprFault → Type 0

@@ -1,5 +1,11 @@
 -- What is read of writable tokens is writable, and stays so as it is resolved.
-use Rattle.flt_explain.proofs.Common.{ℕ, List, Option, Ok, lit<, AllByRecursion, Protocol, Token, TokenKind, ValueType, Tokens, Direction, Qualifiers, NetMask, Value, NumberTree, TruthTree, denied, joined, Expression, empty, truth, latest, with_inherited, complete, only_host, fill_expression, ReadsProtocol, no_protocol, protocol, ReadsDirection, no_direction, one_side, ReadsType, no_type, of_type, ReadsQualifiers, qualifiers, ReadsMask, no_mask, ReadsValue, number, dotted, ip6_prefix, Number, enclosed, of_load, of_sized_load, minus, single, chain, Truth, of_check, of_cast, of_protocol_cast, of_sized, of_valued, of_bare, relation, denial, enclosed_truth, term, terms, IsReadAs, no_tokens, all_tokens, kinds_of, IsWritable, IsWritableMask, IsWritableNumber, IsWritableTruth, IsWritableValue, IsSpellable}
+use Rattle.flt_explain.proofs.Common.{ℕ, List, Option, Ok, lit<, AllByRecursion, Protocol, Token, TokenKind, ValueType, Tokens, Direction, Qualifiers, NetMask}
+use Rattle.flt_explain.proofs.Common.{Value, NumberTree, TruthTree, denied, joined, Expression, empty, truth, latest, with_inherited, complete, only_host}
+use Rattle.flt_explain.proofs.Common.{fill_expression, ReadsProtocol, no_protocol, protocol, ReadsDirection, no_direction, one_side, ReadsType, no_type}
+use Rattle.flt_explain.proofs.Common.{of_type, ReadsQualifiers, qualifiers, ReadsMask, no_mask, ReadsValue, number, dotted, ip6_prefix, Number, enclosed}
+use Rattle.flt_explain.proofs.Common.{of_load, of_sized_load, minus, single, chain, Truth, of_check, of_cast, of_protocol_cast, of_sized, of_valued, of_bare}
+use Rattle.flt_explain.proofs.Common.{relation, denial, enclosed_truth, term, terms, IsReadAs, no_tokens, all_tokens, kinds_of, IsWritable, IsWritableMask}
+use Rattle.flt_explain.proofs.Common.{IsWritableNumber, IsWritableTruth, IsWritableValue, IsSpellable}
 use Rattle.flt_explain.proofs.WritableTokens.{all_spellable}
 
 abbrev All : List TokenKind → Type 0
@@ -91,5 +97,6 @@ filled_keeps : (e : Expression) → IsWritable e → IsWritable (fill_expression
 filled_keeps empty w = tt
 filled_keeps (truth a) w = inherited_keeps a only_host w
 
-pub writable : (text : List ℕ) (tokens : List Token) (tree : Expression) → Tokens text (Ok tokens) → IsReadAs (kinds_of tokens) tree → IsWritable (fill_expression tree)
+pub writable : (text : List ℕ) (tokens : List Token) (tree : Expression) → Tokens text (Ok tokens) → IsReadAs (kinds_of tokens) tree
+    → IsWritable (fill_expression tree)
 writable text tokens tree are reads = filled_keeps tree (from_tokens reads (all_spellable are))

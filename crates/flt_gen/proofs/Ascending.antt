@@ -1,5 +1,9 @@
 -- Intervals that ascend.
-use Rattle.flt_gen.proofs.Common.{◌≡◌, ℕ, zero, suc, ◌+◌, ◌-◌, ◌^◌, ◌<◌, ◌≤◌, List, [], ◌∷◌, length, take, drop, get_or, Bool, true, false, Option, Some, None, refl, sym, ap, ap₂, ◌∙◌, subst, arith, nat_lt, nat_le, ◌==◌, ◌&&◌, ◌||◌, max, if◌then◌else◌, nat_tests, and_parts, or_assoc, Interval, Sides, Offset, Fixed, AfterHeader, field_at, under_mask, low_of, Formula, Single, Compare, Both, Either, Except, Split, Sought, Numbers, is_in, is_within, no_interval, first_ends, insert_ascending, is_gap, extended, joined_from, joined_all, same_interval, without}
+use Rattle.flt_gen.proofs.Common.{◌≡◌, ℕ, zero, suc, ◌+◌, ◌-◌, ◌^◌, ◌<◌, ◌≤◌, List, [], ◌∷◌, length, take, drop, get_or, Bool, true, false, Option, Some, None}
+use Rattle.flt_gen.proofs.Common.{refl, sym, ap, ap₂, ◌∙◌, subst, arith, nat_lt, nat_le, ◌==◌, ◌&&◌, ◌||◌, max, if◌then◌else◌, nat_tests, and_parts, or_assoc}
+use Rattle.flt_gen.proofs.Common.{Interval, Sides, Offset, Fixed, AfterHeader, field_at, under_mask, low_of, Formula, Single, Compare, Both, Either, Except}
+use Rattle.flt_gen.proofs.Common.{Split, Sought, Numbers, is_in, is_within, no_interval, first_ends, insert_ascending, is_gap, extended, joined_from}
+use Rattle.flt_gen.proofs.Common.{joined_all, same_interval, without}
 use Rattle.std.specs.List.{insert}
 
 -- by a test
@@ -17,16 +21,19 @@ each_is None P a h e = cc
 each_is (Some b) P a h e = (let same : b ≡ a = cc in subst P same h)
 
 -- after lower intervals one is put before the first that isn't lower
-pub inserted_at : (i : Interval) (is : List Interval) (at : ℕ) → at ≤ length is → ((k : ℕ) → k < at → (get_or is k no_interval).low < i.low) → (at < length is → i.low ≤ (get_or is at no_interval).low) → insert is at i ≡ insert_ascending i is
+pub inserted_at : (i : Interval) (is : List Interval) (at : ℕ) → at ≤ length is → ((k : ℕ) → k < at → (get_or is k no_interval).low < i.low)
+    → (at < length is → i.low ≤ (get_or is at no_interval).low) → insert is at i ≡ insert_ascending i is
 inserted_at i [] zero l low high = refl
 inserted_at i [] (suc at) l low high = absurd (omega arith)
 inserted_at i (j ∷ js) zero l low high =
     let h = high (omega arith) in
-    if_case (λ r. i ∷ j ∷ js ≡ r) (nat_lt j.low i.low) (j ∷ insert_ascending i js) (i ∷ j ∷ js) (λ e. absurd (let k : j.low < i.low = grind (arith, nat_tests) in omega arith)) (λ e. refl)
+    if_case (λ r. i ∷ j ∷ js ≡ r) (nat_lt j.low i.low) (j ∷ insert_ascending i js) (i ∷ j ∷ js)
+    (λ e. absurd (let k : j.low < i.low = grind (arith, nat_tests) in omega arith)) (λ e. refl)
 inserted_at i (j ∷ js) (suc at) l low high =
     let k = low 0 (omega arith) in
     let h = inserted_at i js at (omega arith) (λ n m. low (suc n) (omega arith)) (λ m. high (omega arith)) in
-    if_case (λ r. j ∷ insert js at i ≡ r) (nat_lt j.low i.low) (j ∷ insert_ascending i js) (i ∷ j ∷ js) (λ e. ap (λ r. j ∷ r) h) (λ e. absurd (let no : (j.low < i.low) → ⊥ = grind (arith, nat_tests) in no k))
+    if_case (λ r. j ∷ insert js at i ≡ r) (nat_lt j.low i.low) (j ∷ insert_ascending i js) (i ∷ j ∷ js) (λ e. ap (λ r. j ∷ r) h)
+    (λ e. absurd (let no : (j.low < i.low) → ⊥ = grind (arith, nat_tests) in no k))
 
 -- intervals from a number on, each of which begins past the one before
 abbrev pub Apart : ℕ → List Interval → Type 0
@@ -49,7 +56,8 @@ pub record Ready (at : Sides) (numbers : Numbers) : Type 0 where
   pub order : numbers.first.low ≤ numbers.first.high
   pub all : Searchable numbers.all
   pub others_are : numbers.others ≡ without numbers.first numbers.all
-  pub first_in : (p : List ℕ) (x : ℕ) → field_at at.source at.width p ≡ Some x → is_in (under_mask numbers.mask x) numbers.first ≡ true → is_within (under_mask numbers.mask x) numbers.all ≡ true
+  pub first_in : (p : List ℕ) (x : ℕ) → field_at at.source at.width p ≡ Some x → is_in (under_mask numbers.mask x) numbers.first ≡ true
+      → is_within (under_mask numbers.mask x) numbers.all ≡ true
   pub reached : Reached at.index numbers.mask at.source at.destination
 
 -- all numbers that a formula searches
@@ -152,7 +160,8 @@ ordered_inserted a i (j ∷ js) l m h =
 pub length_inserted : (i : Interval) (is : List Interval) → length (insert_ascending i is) ≡ length is + 1
 length_inserted i [] = refl
 length_inserted i (j ∷ js) =
-    if_case (λ xs. length xs ≡ length (j ∷ js) + 1) (nat_lt j.low i.low) (j ∷ insert_ascending i js) (i ∷ j ∷ js) (λ e. let h = length_inserted i js in omega arith) (λ e. omega arith)
+    if_case (λ xs. length xs ≡ length (j ∷ js) + 1) (nat_lt j.low i.low) (j ∷ insert_ascending i js) (i ∷ j ∷ js)
+    (λ e. let h = length_inserted i js in omega arith) (λ e. omega arith)
 
 or_swap : (a b c : Bool) → (b || (a || c)) ≡ (a || (b || c))
 or_swap a b c = grind (arith, nat_tests)

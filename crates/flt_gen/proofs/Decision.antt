@@ -1,32 +1,35 @@
 -- A decision tree, unfolded once, and the tests of a case from a word on.
-use Rattle.std.proofs.Common.{◌≡◌, ℕ, zero, suc, ◌+◌, ◌-◌, ◌<◌, List, [], ◌∷◌, drop, take, get_or, length, Bool, true, false, Option, Some, None, refl, ap, ap₂, ◌∙◌, sym, subst, arith, nat_le, ◌≤◌, ◌⊎◌, inl, inr}
+use Rattle.std.proofs.Common.{◌≡◌, ℕ, zero, suc, ◌+◌, ◌-◌, ◌<◌, List, [], ◌∷◌, drop, take, get_or, length, Bool, true, false, Option, Some, None, refl, ap, ap₂}
+use Rattle.std.proofs.Common.{◌∙◌, sym, subst, arith, nat_le, ◌≤◌, ◌⊎◌, inl, inr}
 use Rattle.std.proofs.lemmas.Bool.Decides.{nat_tests}
 use Rattle.std.specs.Prelude.{slice_get, is_none, if◌then◌else◌, Result}
 use Rattle.std.specs.declared.alloc.AllocError.{AllocError}
 use Rattle.flt_gen.specs.Formula.{Formula, Single, Both, Split, all_of, guarded_formula}
-use Rattle.flt_gen.specs.{Primitives.ip6_tests, declared.cases.Bound.TheVariants.Exactly, declared.cases.Case.Case, declared.group.Entry.Entry}
+use Rattle.flt_gen.specs.{declared.cases.Bound.TheVariants.Exactly, declared.cases.Case.Case}
 use Rattle.flt_gen.specs.declared.elementary.Elementary.{Elementary}
-use Rattle.flt_gen.specs.inside.Cases.{case_front, case_tests, cases_formula, sides_decision, either_ip6, asked, share_third, MOST_DECISIONS, chain, decided, decision, all_keep, is_parted, middle, test_at, lowest, from_test, same_word, FEW_HOSTS}
+use Rattle.flt_gen.specs.inside.Cases.{case_front, case_tests, cases_formula, few_of, MOST_DECISIONS, chain, decided, decision, all_keep, is_parted, middle}
+use Rattle.flt_gen.specs.inside.Cases.{test_at, lowest, from_test, same_word}
 use Rattle.flt_gen.specs.inside.Emitted.{needed_tests, last_test, is_idle}
 use Rattle.flt_gen.specs.inside.{Code.Block, Code.emit_all, Code.emit_elementary, Code.emit_formula, Emits.Emits}
 use Rattle.flt_gen.proofs.Ascending.{if_case}
 use Rattle.flt_bpf.specs.declared.insn.Insn.{Insn}
 use Rattle.flt_ast.specs.declared.qualifiers.Direction.{Direction}
-use Rattle.flt_ast.specs.declared.qualifiers.Direction.TheVariants as direction
-use Rattle.flt_words.specs.declared.token.Side.TheVariants.{Source, Destination}
-use Rattle.cap_octet.specs.{Link.network_offset, declared.link.Link.Link}
+use Rattle.cap_octet.specs.declared.link.Link.{Link}
 
-decision_put : (few k : ℕ) (tests : Case → List Elementary) (word : ℕ) (cs : List Case) → 0 < k → decision few k tests word cs ≡ decided few (decision few (k - 1) tests) tests word cs
+decision_put : (few k : ℕ) (tests : Case → List Elementary) (word : ℕ) (cs : List Case) → 0 < k → decision few k tests word cs ≡ decided few
+    (decision few (k - 1) tests) tests word cs
 unfolding decision
 decision_put few zero tests word cs l = absurd (omega arith)
 decision_put few (suc k) tests word cs l = ap (λ j. decided few (decision few j tests) tests word cs) (let e : k ≡ suc k - 1 = omega arith in e)
 
-pub decision_chain : (few k : ℕ) (tests : Case → List Elementary) (word : ℕ) (cs : List Case) → (k ≡ 0) ⊎ (length cs ≤ few) → decision few k tests word cs ≡ chain tests word cs
+pub decision_chain : (few k : ℕ) (tests : Case → List Elementary) (word : ℕ) (cs : List Case) → (k ≡ 0) ⊎ (length cs ≤ few)
+    → decision few k tests word cs ≡ chain tests word cs
 unfolding decision
 decision_chain few zero tests word cs h = refl
 decision_chain few (suc k) tests word cs (inl e) = absurd (omega arith)
 decision_chain few (suc k) tests word cs (inr l) =
-    if_case (λ (f : Formula). f ≡ chain tests word cs) (nat_le (length cs) few) _ _ (λ e. refl) (λ e. absurd (let no : few < length cs = grind (arith, nat_tests) in omega arith))
+    if_case (λ (f : Formula). f ≡ chain tests word cs) (nat_le (length cs) few) _ _ (λ e. refl)
+    (λ e. absurd (let no : few < length cs = grind (arith, nat_tests) in omega arith))
 
 -- the code of tests, of which all hold
 pub all_emitted : (link : Link) (ts : List Elementary) (hit miss : ℕ) (c : List Insn) → emit_formula link (all_of ts) hit miss c ≡ emit_all ts hit miss c
@@ -35,51 +38,40 @@ all_emitted link (t ∷ []) hit miss c = refl
 all_emitted link (t ∷ u ∷ ts) hit miss c = ap (λ (e : Block). emit_elementary t e.entry miss e.code) (all_emitted link (u ∷ ts) hit miss c)
 
 -- the code of tests and of a formula after them
-pub guarded_emitted : (link : Link) (ts : List Elementary) (f : Formula) (hit miss : ℕ) (c : List Insn) → emit_formula link (guarded_formula ts f) hit miss c ≡ (let e = emit_formula link f hit miss c in emit_all ts e.entry miss e.code)
+pub guarded_emitted : (link : Link) (ts : List Elementary) (f : Formula) (hit miss : ℕ) (c : List Insn) → emit_formula link (guarded_formula ts f) hit
+    miss c ≡ (let e = emit_formula link f hit miss c in emit_all ts e.entry miss e.code)
 guarded_emitted link [] f hit miss c = refl
 guarded_emitted link (t ∷ ts) f hit miss c = ap (λ (e : Block). emit_elementary t e.entry miss e.code) (guarded_emitted link ts f hit miss c)
 
 -- a case in front of others, of all that are searched or of some
-chain_emitted : (link : Link) (tests : Case → List Elementary) (word : ℕ) (cs : List Case) (other : Case) (hit miss : ℕ) (c : List Insn) → 1 ≤ length cs → let e = emit_formula link (chain tests word (drop 1 cs)) hit miss c in emit_formula link (chain tests word cs) hit miss c ≡ emit_all (needed_tests (drop word (tests (get_or cs 0 other)))) hit e.entry e.code
+chain_emitted : (link : Link) (tests : Case → List Elementary) (word : ℕ) (cs : List Case) (other : Case) (hit miss : ℕ) (c : List Insn)
+    → 1 ≤ length cs → let e = emit_formula link (chain tests word (drop 1 cs)) hit miss c in emit_formula link (chain tests word cs) hit miss c ≡
+    emit_all (needed_tests (drop word (tests (get_or cs 0 other)))) hit e.entry e.code
 chain_emitted link tests word [] other hit miss c l = absurd (omega arith)
 chain_emitted link tests word (d ∷ []) other hit miss c l = all_emitted link (needed_tests (drop word (tests d))) hit miss c
-chain_emitted link tests word (d ∷ x ∷ xs) other hit miss c l = let e = emit_formula link (chain tests word (x ∷ xs)) hit miss c in all_emitted link (needed_tests (drop word (tests d))) hit e.entry e.code
+chain_emitted link tests word (d ∷ x ∷ xs) other hit miss c l = let e = emit_formula link (chain tests word (x ∷ xs)) hit miss c in
+    all_emitted link (needed_tests (drop word (tests d))) hit e.entry e.code
 
-pub turn_emitted : (r : Result ℕ AllocError) (new : List Insn) (link : Link) (tests : Case → List Elementary) (word : ℕ) (cs : List Case) (other : Case) (hit miss : ℕ) (c : List Insn) (e : Block) → 1 ≤ length cs → emit_formula link (chain tests word (drop 1 cs)) hit miss c ≡ e
-    → Emits r (emit_all (needed_tests (drop word (tests (get_or cs 0 other)))) hit e.entry e.code) new → Emits r (emit_formula link (chain tests word cs) hit miss c) new
+pub turn_emitted : (r : Result ℕ AllocError) (new : List Insn) (link : Link) (tests : Case → List Elementary) (word : ℕ) (cs : List Case)
+    (other : Case) (hit miss : ℕ) (c : List Insn) (e : Block) → 1 ≤ length cs → emit_formula link (chain tests word (drop 1 cs)) hit miss c ≡ e
+    → Emits r (emit_all (needed_tests (drop word (tests (get_or cs 0 other)))) hit e.entry e.code) new
+    → Emits r (emit_formula link (chain tests word cs) hit miss c) new
 turn_emitted r new link tests word cs other hit miss c e l is done =
     subst (λ (f : Block). Emits r f new)
-    (sym (chain_emitted link tests word cs other hit miss c l ∙ ap (λ (f : Block). emit_all (needed_tests (drop word (tests (get_or cs 0 other)))) hit f.entry f.code) is)) done
+    (sym (chain_emitted link tests word cs other hit miss c l ∙ ap (λ (f : Block). emit_all (needed_tests (drop word (tests (get_or cs 0 other)))) hit
+    f.entry f.code) is)) done
 
-pub cases_put : (link : Link) (d : Direction) (key : ℕ) (cs : List Case) (es : List Entry) (other : Case) → 1 ≤ length cs → cases_formula link d key cs es ≡ guarded_formula (case_front link (get_or cs 0 other)) (sides_decision link d key (get_or cs 0 other) cs es)
-cases_put link d key [] es other l = absurd (omega arith)
-cases_put link d key (c ∷ cs) es other l = refl
-
--- the code of hosts of either side, by its parts
-pub either_emitted : (link : Link) (a : ℕ) (cs : List Case) (es : List Entry) (hit miss : ℕ) (c : List Insn) (found other asks first whole : Block) → let s = ip6_tests None a (network_offset link + 8) in let d = ip6_tests None a (network_offset link + 24) in emit_formula link (decision FEW_HOSTS MOST_DECISIONS (case_tests link (direction.One Destination)) 2 cs) hit miss c ≡ found → emit_all (take 2 d) found.entry miss found.code ≡ other → emit_formula link (asked link a (share_third link cs) es) hit other.entry other.code ≡ asks → emit_all (drop 2 s) hit asks.entry asks.code ≡ first
-    → emit_formula link (decision FEW_HOSTS MOST_DECISIONS (case_tests link (direction.One Source)) 2 cs) first.entry other.entry first.code ≡ whole → emit_formula link (either_ip6 link a cs es) hit miss c ≡ emit_all (take 2 s) whole.entry other.entry whole.code
-either_emitted link a cs es hit miss c found other asks first whole h i j k l = ap by_found h ∙ ap by_other i ∙ ap (by_asked other) j ∙ ap (by_first other) k ∙ ap (by_whole other) l
-  where
-    by_whole : Block → Block → Block
-    by_whole o e = emit_all (take 2 (ip6_tests None a (network_offset link + 8))) e.entry o.entry e.code
-
-    by_first : Block → Block → Block
-    by_first o e = by_whole o (emit_formula link (decision FEW_HOSTS MOST_DECISIONS (case_tests link (direction.One Source)) 2 cs) e.entry o.entry e.code)
-
-    by_asked : Block → Block → Block
-    by_asked o e = by_first o (emit_all (drop 2 (ip6_tests None a (network_offset link + 8))) hit e.entry e.code)
-
-    by_other : Block → Block
-    by_other o = by_asked o (emit_formula link (asked link a (share_third link cs) es) hit o.entry o.code)
-
-    by_found : Block → Block
-    by_found e = by_other (emit_all (take 2 (ip6_tests None a (network_offset link + 24))) e.entry miss e.code)
+pub cases_put : (link : Link) (d : Direction) (cs : List Case) (other : Case) → 1 ≤ length cs → cases_formula link d cs
+    ≡ guarded_formula (case_front link (get_or cs 0 other)) (decision (few_of (get_or cs 0 other) (length cs)) MOST_DECISIONS (case_tests link d) 0 cs)
+cases_put link d [] other l = absurd (omega arith)
+cases_put link d (c ∷ cs) other l = refl
 
 pub tests_from : (ts : List Elementary) (word : ℕ) (t : Elementary) → slice_get ts word ≡ Some t → drop word ts ≡ t ∷ drop (word + 1) ts
 tests_from [] zero t e = cc
 tests_from [] (suc word) t e = cc
 tests_from (u ∷ ts) zero t e = (let same : u ≡ t = cc in ap (λ (x : Elementary). x ∷ ts) same)
-tests_from (u ∷ ts) (suc word) t e = (let next : suc word + 1 ≡ suc (word + 1) = omega arith in tests_from ts word t e ∙ ap (λ k. t ∷ drop k (u ∷ ts)) (sym next))
+tests_from (u ∷ ts) (suc word) t e = (let next : suc word + 1 ≡ suc (word + 1) = omega arith in tests_from ts word t e ∙ ap (λ k. t ∷ drop k (u ∷ ts))
+    (sym next))
 
 pub none_from : (ts : List Elementary) (word : ℕ) → slice_get ts word ≡ None → drop word ts ≡ []
 none_from [] zero e = refl
@@ -88,17 +80,21 @@ none_from (t ∷ ts) zero e = cc
 none_from (t ∷ ts) (suc word) e = none_from ts word e
 
 -- the last test, and one in front of others
-pub last_needed : (ts : List Elementary) (word : ℕ) (t : Elementary) → slice_get ts word ≡ Some t → is_none (slice_get ts (word + 1)) ≡ true → needed_tests (drop word ts) ≡ last_test t ∷ []
+pub last_needed : (ts : List Elementary) (word : ℕ) (t : Elementary) → slice_get ts word ≡ Some t → is_none (slice_get ts (word + 1)) ≡ true
+    → needed_tests (drop word ts) ≡ last_test t ∷ []
 last_needed ts word t e last = ap needed_tests (tests_from ts word t e ∙ ap (λ us. t ∷ us) (by (slice_get ts (word + 1)) refl last))
   where
     by : (o : Option Elementary) → slice_get ts (word + 1) ≡ o → is_none o ≡ true → drop (word + 1) ts ≡ []
     by None f last = none_from ts (word + 1) f
     by (Some u) f last = cc
 
-pub next_needed : (ts : List Elementary) (word : ℕ) (t : Elementary) (b : Bool) → slice_get ts word ≡ Some t → is_none (slice_get ts (word + 1)) ≡ false → is_idle t ≡ b → needed_tests (drop word ts) ≡ (if b then needed_tests (drop (word + 1) ts) else t ∷ needed_tests (drop (word + 1) ts))
-next_needed ts word t b e more idle = by (slice_get ts (word + 1)) refl more ∙ ap (λ c. if c then needed_tests (drop (word + 1) ts) else t ∷ needed_tests (drop (word + 1) ts)) idle
+pub next_needed : (ts : List Elementary) (word : ℕ) (t : Elementary) (b : Bool) → slice_get ts word ≡ Some t → is_none (slice_get ts (word + 1)) ≡
+    false → is_idle t ≡ b → needed_tests (drop word ts) ≡ (if b then needed_tests (drop (word + 1) ts) else t ∷ needed_tests (drop (word + 1) ts))
+next_needed ts word t b e more idle = by (slice_get ts (word + 1)) refl more
+    ∙ ap (λ c. if c then needed_tests (drop (word + 1) ts) else t ∷ needed_tests (drop (word + 1) ts)) idle
   where
-    by : (o : Option Elementary) → slice_get ts (word + 1) ≡ o → is_none o ≡ false → needed_tests (drop word ts) ≡ (if is_idle t then needed_tests (drop (word + 1) ts) else t ∷ needed_tests (drop (word + 1) ts))
+    by : (o : Option Elementary) → slice_get ts (word + 1) ≡ o → is_none o ≡ false → needed_tests (drop word ts) ≡
+        (if is_idle t then needed_tests (drop (word + 1) ts) else t ∷ needed_tests (drop (word + 1) ts))
     by None f more = cc
     by (Some u) f more =
         let next = tests_from ts (word + 1) u f in
@@ -120,17 +116,22 @@ module _ (few k : ℕ) (by : Case → List Elementary) (w : ℕ) (cs : List Case
       else chain by w cs)
 
   put : decision few k by w cs ≡ parts (all_keep by w (Exactly (lowest t)) cs) (is_parted by w cs (middle by w cs))
-  put = decision_put few k by w cs some ∙ (let over : nat_le (length cs) few ≡ false = grind (arith, nat_tests) in ap (λ b. if b then chain by w cs else parts (all_keep by w (Exactly (lowest t)) cs) (is_parted by w cs (middle by w cs))) over)
+  put = decision_put few k by w cs some ∙ (let over : nat_le (length cs) few ≡ false = grind (arith, nat_tests) in
+      ap (λ b. if b then chain by w cs else parts (all_keep by w (Exactly (lowest t)) cs) (is_parted by w cs (middle by w cs))) over)
 
-  pub decision_same : (o : Option Elementary) → o ≡ t → true ≡ all_keep by w (Exactly (lowest o)) cs → same_word o (test_at by (w + 1) cs 0) (next (w + 1) cs) ≡ decision few k by w cs
+  pub decision_same : (o : Option Elementary) → o ≡ t → true ≡ all_keep by w (Exactly (lowest o)) cs → same_word o (test_at by (w + 1) cs 0)
+      (next (w + 1) cs) ≡ decision few k by w cs
   decision_same o e a =
       ap (λ x. same_word x (test_at by (w + 1) cs 0) (next (w + 1) cs)) e
       ∙ sym (put ∙ ap (λ b. parts b (is_parted by w cs (middle by w cs))) (sym (a ∙ ap (λ x. all_keep by w (Exactly (lowest x)) cs) e)))
 
-  pub decision_told : (o : Elementary) (b : Bool) → Some o ≡ t → is_none (test_at by (w + 1) cs 0) ≡ b → true ≡ all_keep by w (Exactly (lowest (Some o))) cs → (if b then Single o else Both (Single o) (next (w + 1) cs)) ≡ decision few k by w cs
+  pub decision_told : (o : Elementary) (b : Bool) → Some o ≡ t → is_none (test_at by (w + 1) cs 0) ≡ b
+      → true ≡ all_keep by w (Exactly (lowest (Some o))) cs → (if b then Single o else Both (Single o) (next (w + 1) cs)) ≡ decision few k by w cs
   decision_told o b e n a = ap (λ c. if c then Single o else Both (Single o) (next (w + 1) cs)) (sym n) ∙ decision_same (Some o) e a
 
-  pub decision_halves : (o : Option Elementary) (at : ℕ) (b : Bool) → o ≡ t → at ≡ middle by w cs → false ≡ all_keep by w (Exactly (lowest o)) cs → b ≡ is_parted by w cs at → (if b then Split (from_test o (lowest (test_at by w cs at))) (next w (drop at cs)) (next w (take at cs)) else chain by w cs) ≡ decision few k by w cs
+  pub decision_halves : (o : Option Elementary) (at : ℕ) (b : Bool) → o ≡ t → at ≡ middle by w cs → false ≡ all_keep by w (Exactly (lowest o)) cs
+      → b ≡ is_parted by w cs at → (if b then Split (from_test o (lowest (test_at by w cs at))) (next w (drop at cs)) (next w (take at cs)) else chain
+      by w cs) ≡ decision few k by w cs
   decision_halves o at b e f a g =
       ap₂ (λ x i. if b then Split (from_test x (lowest (test_at by w cs i))) (next w (drop i cs)) (next w (take i cs)) else chain by w cs) e f
       ∙ ap (parts false) (g ∙ ap (is_parted by w cs) f)

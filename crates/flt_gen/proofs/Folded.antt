@@ -1,5 +1,12 @@
 -- An expression with its arithmetic of numbers folded means the same, and counts no more.
-use Rattle.flt_gen.proofs.Common.{◌≡◌, ℕ, ◌+◌, ◌%◌, ◌^◌, ◌≤◌, List, [], ◌∷◌, Option, Some, None, refl, sym, ap, ap₂, ◌∙◌, arith, fold, or_assoc, ◌||◌, Operator, Protocol, field, Node, NumberTree, literal, load, negated, applied, TruthTree, compared, denied, joined, Expression, empty, truth, number_size, number_words, number_tests, truth_size, truth_words, truth_tests, bound_of, words_of, number_nodes, truth_nodes, expr_nodes, number_onto, truth_onto, expr_onto, is_unfilled, any_primitive, some_primitive, Link, MatchResult, Yes, with, reading_of, compares, width_of, base, number, result_of, accessors, Compare, both, either, negation, reads, checked_formula, constant, formula, holds, short_bound_of, negated_constant, applied_constant, number_or, negated_number, applied_number, folded_number, and_denied, joined_truth, folded_truth, folded_expression, node_or, with_negation, with_operator, Held, with_held, with_folded}
+use Rattle.flt_gen.proofs.Common.{◌≡◌, ℕ, ◌+◌, ◌%◌, ◌^◌, ◌≤◌, List, [], ◌∷◌, Option, Some, None, refl, sym, ap, ap₂, ◌∙◌, arith, fold, or_assoc, ◌||◌, Operator}
+use Rattle.flt_gen.proofs.Common.{Protocol, field, Node, NumberTree, literal, load, negated, applied, TruthTree, compared, denied, joined, Expression, empty}
+use Rattle.flt_gen.proofs.Common.{truth, number_size, number_words, number_tests, truth_size, truth_words, truth_tests, bound_of, words_of, number_nodes}
+use Rattle.flt_gen.proofs.Common.{truth_nodes, expr_nodes, number_onto, truth_onto, expr_onto, is_unfilled, any_primitive, some_primitive, Link, MatchResult}
+use Rattle.flt_gen.proofs.Common.{Yes, with, reading_of, compares, width_of, base, number, result_of, accessors, Compare, both, either, negation, reads}
+use Rattle.flt_gen.proofs.Common.{checked_formula, constant, formula, holds, short_bound_of, negated_constant, applied_constant, number_or, negated_number}
+use Rattle.flt_gen.proofs.Common.{applied_number, folded_number, and_denied, joined_truth, folded_truth, folded_expression, node_or, with_negation}
+use Rattle.flt_gen.proofs.Common.{with_operator, Held, with_held, with_folded}
 use Rattle.flt_gen.proofs.{Held.held_truth, Held.none_held, Held.back_truth, Numbers.constant_is, Once.both_again, Once.checked_same}
 use Rattle.flt_words.specs.declared.token.Join.{Join}
 
@@ -30,7 +37,8 @@ module _ (p : List ℕ) (n : ℕ) (link : Link) where
   negated_is a None c k e = cc
   negated_is a (Some x) c k e = ap (λ o. negated_constant o) (constant_is p n link a x c) ∙ e
 
-  applied_is : (o : Operator) (a b : NumberTree) (v u : Option ℕ) → constant a ≡ u → constant b ≡ v → (k : ℕ) → applied_constant o u v ≡ Some k → number link (applied o a b) p n ≡ Some k
+  applied_is : (o : Operator) (a b : NumberTree) (v u : Option ℕ) → constant a ≡ u → constant b ≡ v → (k : ℕ) → applied_constant o u v ≡ Some k
+      → number link (applied o a b) p n ≡ Some k
   applied_is o a b (Some y) (Some x) c d k e =
       ap (λ q. with q (λ v. with (number link b p n) (λ w. result_of o v w))) (constant_is p n link a x c)
       ∙ ap (λ q. with q (λ w. result_of o x w)) (constant_is p n link b y d)
@@ -45,7 +53,8 @@ record Replaces (b a : NumberTree) : Type 0 where
   accessors_are : (rest : List Protocol) → accessors b rest ≡ accessors a rest
   same : (p : List ℕ) (n : ℕ) (link : Link) → number link b p n ≡ number link a p n
 
-operands_same : (o : Operator) (c a d b : NumberTree) → Replaces c a → Replaces d b → (p : List ℕ) (n : ℕ) (link : Link) → number link (applied o c d) p n ≡ number link (applied o a b) p n
+operands_same : (o : Operator) (c a d b : NumberTree) → Replaces c a → Replaces d b → (p : List ℕ) (n : ℕ) (link : Link) → number link (applied o c d)
+    p n ≡ number link (applied o a b) p n
 operands_same o c a d b h g p n link =
     ap₂ (λ q r. with q (λ v. with r (λ w. result_of o v w))) (h.same p n link) (g.same p n link)
 
@@ -70,7 +79,14 @@ number_folded (negated a) =
       accessors_are = λ rest. sym (constant_alone b s.0 rest s.1) ∙ h.accessors_are rest;
       same = λ p n link. sym (negated_is p n link b (constant b) refl k e) ∙ ap (λ o. negated_constant o) (h.same p n link);
     })
-    (record { size = omega (arith, h.size); words = h.words; tests = h.tests; accessors_are = h.accessors_are; same = λ p n link. ap (λ o. negated_constant o) (h.same p n link) })
+    (record {
+      size = omega (arith, h.size);
+      words = h.words;
+      tests = h.tests;
+      accessors_are = h.accessors_are;
+      same =
+          λ p n link. ap (λ o. negated_constant o) (h.same p n link);
+    })
 number_folded (applied o a b) =
     let h = number_folded a in
     let g = number_folded b in
@@ -85,7 +101,14 @@ number_folded (applied o a b) =
       accessors_are = λ rest. sym (ap (accessors c) (constant_alone d s.1 rest s.3) ∙ constant_alone c s.0 rest s.2) ∙ all rest;
       same = λ p n link. sym (applied_is p n link o c d (constant d) (constant c) refl refl k e) ∙ operands_same o c a d b h g p n link;
     })
-    (record { size = omega (arith, h.size, g.size); words = omega (arith, h.words, g.words); tests = omega (arith, h.tests, g.tests); accessors_are = all; same = operands_same o c a d b h g })
+    (record {
+      size = omega (arith, h.size, g.size);
+      words = omega (arith, h.words, g.words);
+      tests = omega (arith, h.tests, g.tests);
+      accessors_are =
+          all;
+      same = operands_same o c a d b h g;
+    })
 number_folded _ = record { size = omega arith; words = omega arith; tests = omega arith; accessors_are = λ rest. refl; same = λ p n link. refl }
 
 -- a truth in the place of another one: it counts no more, has primitives that lack qualifiers only
@@ -122,7 +145,8 @@ joined_stands : (j : Join) (a b : TruthTree) → Stands (joined_truth j a b) (jo
 joined_stands Join.And a (denied b) = denied_stands a b
 joined_stands j a b = itself (joined j a b)
 
-both_same : (j : Join) (a c b d : TruthTree) → Stands a c → Stands b d → (p : List ℕ) (n : ℕ) (link : Link) → reads link (formula link (joined j a b)) p n ≡ reads link (formula link (joined j c d)) p n
+both_same : (j : Join) (a c b d : TruthTree) → Stands a c → Stands b d → (p : List ℕ) (n : ℕ) (link : Link) → reads link (formula link (joined j a b))
+    p n ≡ reads link (formula link (joined j c d)) p n
 both_same Join.And a c b d h g p n link = ap₂ both (h.same p n link) (g.same p n link)
 both_same Join.Or a c b d h g p n link = ap₂ either (h.same p n link) (g.same p n link)
 
@@ -173,7 +197,8 @@ expression_folded (truth a) =
 
 -- ---- the nodes of the folded tree
 
-one_or_both : (o : Operator) (r : Option ℕ) (a b : NumberTree) (d : List Node) → node_or r d (Node.Apply o ∷ number_onto b (number_onto a d)) ≡ number_onto (number_or r (applied o a b)) d
+one_or_both : (o : Operator) (r : Option ℕ) (a b : NumberTree) (d : List Node) → node_or r d (Node.Apply o ∷ number_onto b (number_onto a d)) ≡
+    number_onto (number_or r (applied o a b)) d
 one_or_both o None a b d = refl
 one_or_both o (Some k) a b d = refl
 
@@ -188,7 +213,8 @@ with_applied o _ _ d = refl
 number_put : (a : NumberTree) (d rest : List Node) → fold with_folded d (number_nodes a rest) ≡ fold with_folded (number_onto (folded_number a) d) rest
 number_put (load p s a) d rest = number_put a d _
 number_put (negated a) d rest = number_put a d _ ∙ ap (λ c. fold with_folded c rest) (with_negated (folded_number a) d)
-number_put (applied o a b) d rest = number_put a d _ ∙ number_put b _ _ ∙ ap (λ c. fold with_folded c rest) (with_applied o (folded_number b) (folded_number a) d)
+number_put (applied o a b) d rest = number_put a d _ ∙ number_put b _ _ ∙ ap (λ c. fold with_folded c rest)
+    (with_applied o (folded_number b) (folded_number a) d)
 number_put _ d rest = refl
 
 join_put : (j : Join) (b a : TruthTree) (d : List Node) → with_folded (truth_onto b (truth_onto a d)) (Node.Join j) ≡ truth_onto (joined_truth j a b) d
@@ -198,7 +224,8 @@ join_put Join.And (denied b) a d =
   where
     after : (b a : TruthTree) (d : List Node) → with_held (truth_nodes b []) (truth_onto a d) ≡ truth_onto (joined_truth Join.And a (denied b)) d
     after b (denied a) d = ap (λ ns. Node.Not ∷ Node.Join Join.Or ∷ ns) (back_truth b [] (truth_onto a d))
-    after b (joined Join.And x (denied a)) d = ap (λ ns. Node.Join Join.And ∷ Node.Not ∷ Node.Join Join.Or ∷ ns) (back_truth b [] (truth_onto a (truth_onto x d)))
+    after b (joined Join.And x (denied a)) d = ap (λ ns. Node.Join Join.And ∷ Node.Not ∷ Node.Join Join.Or ∷ ns)
+        (back_truth b [] (truth_onto a (truth_onto x d)))
     after b a d = ap (λ ns. Node.Join Join.And ∷ Node.Not ∷ ns) (back_truth b [] (truth_onto a d))
 join_put Join.And b a d = refl
 

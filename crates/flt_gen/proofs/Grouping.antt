@@ -1,20 +1,34 @@
 -- The formula of a truth in which hosts or ports are looked for together reads as the truth's own,
 -- and has no more tests.
-use Rattle.flt_gen.proofs.Ascending.{if_case, Each, each_is, Searchable, Reached, Ready, Ordered, Points, ordered_inserted, points_inserted, length_inserted, within_inserted, within_joined, searchable_joined, ends_few, one_point, joined_few, joined_points}
-use Rattle.flt_gen.proofs.Common.{◌≡◌, ℕ, ◌+◌, ◌-◌, ◌*◌, ◌<◌, ◌≤◌, max, List, [], ◌∷◌, length, Bool, true, false, Option, Some, None, refl, sym, ap, ap₂, ◌∙◌, subst, arith, ◌==◌, ◌||◌, ◌&&◌, nat_lt, nat_le, if◌then◌else◌, suc-mul, nat_tests, and_parts, or_parts, Protocol, Ip, Tcp, Udp, Source, Destination, And, Or, ValueType, Host, Net, Port, PortRange, Direction, CompleteQualifiers, Value, Interval, Sides, FrameKind, network_offset, not, map, and-false, inl, inr, Sought, sought_tests, is_address, joined_all, left_out, high_mask, cut, address_places, port_places, ip_transport, ip6_transport, sought, Entry, TruthTree, check, cast, sized, bare, valued, qualified, compared, denied, joined, is_unfilled, any_primitive, Link, MatchResult, Several, Formula, Both, Either, Except, is_in, is_within, both, either, negation, Numbers, reads, check_formula, cast_formula, sized_formula, hosts_formula, port_test, port_formula, relation_formula, qualified_needed, formula, first_ends, Group, no_group, entry, with_member, same_type, same_protocol, same_direction, goes_with, member_of, group_and, larger_group, is_searched, numbers_of, several_formula, all_of, accessor_tests, accessor_test_count, guarded_formula, Elementary, with, Tcp, value_formula, Proto, rows_formula, group_formula, or_any, or_group, choice, grouped_formula, MOST_TOGETHER, FEWEST_RANGES, suc}
-use Rattle.flt_gen.proofs.Counted.{Sized, Bare, bare_within, bare_some, bare_both, bare_either, bare_else, bare_after, bare_sought, bare_check, bare_cast, of_kinds, bare_hosts, bare_ports}
-use Rattle.flt_gen.proofs.Deciding.{fields_of, some_fields, some_front, shapes_of, both_tests, rows, read_all, sizes, decision_good, Likes, likes_put, sizes_put, length_put, read_put, alike, alike_alike, self_alike}
-use Rattle.flt_gen.proofs.EitherSide.{Paired, IsFirst, host_read, hosts_read, either_read, either_bare}
+use Rattle.flt_gen.proofs.Ascending.{if_case, Each, each_is, Searchable, Reached, Ready, Ordered, Points, ordered_inserted, points_inserted, length_inserted}
+use Rattle.flt_gen.proofs.Ascending.{within_inserted, within_joined, searchable_joined, ends_few, one_point, joined_few, joined_points}
+use Rattle.flt_gen.proofs.Common.{◌≡◌, ℕ, ◌+◌, ◌-◌, ◌*◌, ◌<◌, ◌≤◌, max, List, [], ◌∷◌, length, Bool, true, false, Option, Some, None, refl, sym, ap, ap₂, ◌∙◌}
+use Rattle.flt_gen.proofs.Common.{subst, arith, ◌==◌, ◌||◌, ◌&&◌, nat_lt, nat_le, if◌then◌else◌, suc-mul, nat_tests, and_parts, or_parts, Protocol, Ip, Tcp}
+use Rattle.flt_gen.proofs.Common.{Udp, Source, Destination, And, Or, ValueType, Host, Net, Port, PortRange, Direction, CompleteQualifiers, Value, Interval}
+use Rattle.flt_gen.proofs.Common.{Sides, FrameKind, network_offset, not, map, and-false, inl, inr, Sought, sought_tests, is_address, joined_all, left_out}
+use Rattle.flt_gen.proofs.Common.{high_mask, cut, address_places, port_places, ip_transport, ip6_transport, sought, Entry, TruthTree, check, cast, sized, bare}
+use Rattle.flt_gen.proofs.Common.{valued, qualified, compared, denied, joined, is_unfilled, any_primitive, Link, Several, Formula, Both, Either, Except, is_in}
+use Rattle.flt_gen.proofs.Common.{is_within, both, either, negation, Numbers, reads, check_formula, cast_formula, sized_formula, hosts_formula, port_test}
+use Rattle.flt_gen.proofs.Common.{port_formula, relation_formula, qualified_needed, formula, first_ends, Group, no_group, entry, with_member, same_type}
+use Rattle.flt_gen.proofs.Common.{same_protocol, same_direction, goes_with, member_of, group_and, larger_group, is_searched, numbers_of, several_formula}
+use Rattle.flt_gen.proofs.Common.{all_of, accessor_tests, accessor_test_count, guarded_formula, Elementary, with, Tcp, value_formula, Proto, rows_formula}
+use Rattle.flt_gen.proofs.Common.{group_formula, or_any, or_group, choice, grouped_formula, MOST_TOGETHER, FEWEST_RANGES}
+use Rattle.flt_gen.proofs.Counted.{Sized, Bare, bare_within, bare_some, bare_both, bare_either, bare_else, bare_after, bare_sought, bare_check, bare_cast}
+use Rattle.flt_gen.proofs.Counted.{of_kinds, bare_hosts, bare_ports}
+use Rattle.flt_gen.proofs.Deciding.{fields_of, some_fields, some_front, shapes_of, rows, read_all, sizes, decision_good, Likes, likes_put, sizes_put}
+use Rattle.flt_gen.proofs.Deciding.{length_put, read_put, alike, alike_alike, self_alike}
 use Rattle.flt_gen.proofs.{Exclusive.or_no, Exclusive.both_either, Exclusive.either_assoc, IdleBits.uncut}
 use Rattle.flt_gen.proofs.{Needed.bare_needed, Needed.value_same, Once.relation_sizes, Once.relation_same, Once.all_read, Once.guarded_read}
 use Rattle.flt_gen.proofs.Relations.{entry_tests, entry_bare, IsEntry, entry_is}
 use Rattle.flt_gen.proofs.Prefixes.{Idle, idle_sought, cut_in, cut_within, cut_order, cut_apart}
-use Rattle.flt_gen.proofs.Together.{Fitting, fitting_small, unmasked_fitting, address_fitting, Merged, members_read, members_more, members_alone, member_reads, IsMember, member_tests, several_are, member_is}
+use Rattle.flt_gen.proofs.Together.{Fitting, fitting_small, unmasked_fitting, address_fitting, Merged, members_read, members_more, members_alone, member_reads}
+use Rattle.flt_gen.proofs.Together.{IsMember, member_tests, several_are, member_is}
 use Rattle.std.specs.Prelude.{◌⊎◌, count_by}
 use Rattle.flt_words.specs.declared.token.Protocol.TheVariants as protocol
-use Rattle.flt_gen.specs.declared.{address.Hosts.Hosts, cases.Case.Case, cases.Case.TheVariants.EitherIp6, cases.Case.TheVariants.Ip6}
-use Rattle.flt_gen.specs.inside.Cases.{case_of, same_words, key_of, insert_case, case_front, case_tests, sides_decision, MOST_DECISIONS}
-use Rattle.flt_gen.specs.inside.Group.{with_case, has_none, shares_words, case_goes_with, larger_with, together_formula, entry_formula, entry_of, leaf_formula, fewest}
+use Rattle.flt_gen.specs.declared.{address.Hosts.Hosts, cases.Case.Case}
+use Rattle.flt_gen.specs.inside.Cases.{case_of, same_words, key_of, case_front, case_tests, MOST_DECISIONS}
+use Rattle.flt_gen.specs.inside.Group.{with_case, has_none, shares_words, case_goes_with, larger_with, together_formula, entry_formula, entry_of, leaf_formula}
+use Rattle.flt_gen.specs.inside.Group.{fewest}
 use Rattle.std.proofs.lemmas.List.{length-map}
 use Rattle.cap_octet.specs.declared.link.Link.TheVariants as link
 use Rattle.cap_octet.specs.declared.link.Link.TheVariants.{Ether}
@@ -42,30 +56,8 @@ pub record Held (group : Group) (ms : List Interval) : Type 0 where
   pub all_count : length group.all ≡ length group.entries
   pub points : group.is_plain ≡ true → (group.first.low ≡ group.first.high) × Points group.all
   pub counted : length group.entries * member_tests group.qualifiers.value_type group.qualifiers.protocol group.qualifiers.direction ≤ group_tests group
-  pub rows : (link : Link) (p : List ℕ) (n : ℕ) → reads link (rows_formula link group.entries) p n ≡ members_read link p n group.qualifiers.value_type group.qualifiers.protocol group.qualifiers.direction group.first ms
-
--- a case, after the tests in front of it, and how it reads
-abbrev case_formula : Link → Direction → Case → Formula
-case_formula link d (EitherIp6 a) =
-    Either (all_of (case_tests link (direction.One Source) (EitherIp6 a))) (all_of (case_tests link (direction.One Destination) (EitherIp6 a)))
-case_formula link d c = all_of (case_tests link d c)
-
-abbrev case_read : Link → List ℕ → ℕ → Direction → Case → MatchResult
-case_read link p n d c = reads link (case_formula link d c) p n
-
--- how cases with the words of one read, or the entries that they are
-abbrev cases_read : Link → List ℕ → ℕ → Direction → Case → List Case → List Entry → MatchResult
-cases_read link p n d (EitherIp6 b) cs es = hosts_read link p n es
-cases_read link p n d _ cs es = read_all link p n (rows (case_tests link d) 0 cs)
-
--- hosts on either side are entries
-abbrev IsHosts : Case → List Case → List Entry → Type 0
-IsHosts (EitherIp6 b) cs es = Paired b es cs
-IsHosts _ cs es = Unit {0}
-
-abbrev BeginsWith : Case → ℕ → List Entry → Type 0
-BeginsWith (EitherIp6 b) a es = IsFirst a es
-BeginsWith _ a es = Unit {0}
+  pub rows : (link : Link) (p : List ℕ) (n : ℕ) → reads link (rows_formula link group.entries) p n ≡ members_read link p n group.qualifiers.value_type
+      group.qualifiers.protocol group.qualifiers.direction group.first ms
 
 -- a group of cases of this direction, which have the words of one
 pub record Listed (d : Direction) (group : Group) : Type 0 where
@@ -73,11 +65,9 @@ pub record Listed (d : Direction) (group : Group) : Type 0 where
   pub like : Likes kind group.cases
   pub some : 0 < length group.cases
   pub all_count : length group.cases ≡ length group.entries
-  pub hosts : IsHosts kind group.cases group.entries
-  pub begins : BeginsWith kind group.first_key group.entries
   pub counted : (link : Link) → length (case_front link kind) + sizes (rows (case_tests link d) 0 group.cases) + length group.cases ≤ 1 + group_tests group
-  pub counted_both : (link : Link) → length (case_front link kind) + length group.cases * both_tests kind ≤ 1 + group_tests group
-  pub rows_are : (link : Link) (p : List ℕ) (n : ℕ) → reads link (rows_formula link group.entries) p n ≡ both (all_read link p n (case_front link kind)) (cases_read link p n d kind group.cases group.entries)
+  pub rows_are : (link : Link) (p : List ℕ) (n : ℕ) → reads link (rows_formula link group.entries) p n
+      ≡ both (all_read link p n (case_front link kind)) (read_all link p n (rows (case_tests link d) 0 group.cases))
 
 -- a group that waits: it has no members, or numbers or cases
 pub data Kept (group : Group) : Type 0 where
@@ -89,11 +79,13 @@ pub kept_none : Kept no_group
 kept_none = nothing refl refl refl
 
 -- several members' formula has no more tests
-several_hosts_few : (protocol : Option Protocol) (d : Direction) (n x : ℕ) → 1 + x ≤ n → of_kinds protocol (1 + (n * count.side_tests d 1 + x)) ≤ n * count.ip4_tests protocol d
+several_hosts_few : (protocol : Option Protocol) (d : Direction) (n x : ℕ) → 1 + x ≤ n → of_kinds protocol (1 + (n * count.side_tests d 1 + x)) ≤ n *
+    count.ip4_tests protocol d
 several_hosts_few None d n x l = omega arith
 several_hosts_few _ d n x l = omega arith
 
-several_ports_few : (protocol : Option Protocol) (d : Direction) (n x : ℕ) → 2 ≤ n → 1 + x ≤ n → 1 + count.transport_tests protocol + 1 + (n * count.side_tests d 1 + x) + (1 + count.transport_tests protocol + (n * count.side_tests d 1 + x)) ≤ n * count.port_tests protocol d 1
+several_ports_few : (protocol : Option Protocol) (d : Direction) (n x : ℕ) → 2 ≤ n → 1 + x ≤ n → 1 + count.transport_tests protocol + 1 +
+    (n * count.side_tests d 1 + x) + (1 + count.transport_tests protocol + (n * count.side_tests d 1 + x)) ≤ n * count.port_tests protocol d 1
 several_ports_few None d n x l m = omega arith
 several_ports_few _ d n x l m = omega arith
 
@@ -107,9 +99,11 @@ Numbered numbers n =
 sought_few : (d : Direction) (numbers : Numbers) (n : ℕ) → Numbered numbers n → 2 ≤ n → sought_tests d numbers ≤ n * count.side_tests d 1 + (n - 1)
 sought_few (direction.Both Or) numbers n h two = by (nat_le 5 (length numbers.all)) refl h
   where
-    by : (b : Bool) → nat_le 5 (length numbers.all) ≡ b → Numbered numbers n → 2 * max 1 (length numbers.all) + max (first_ends numbers.all) (first_ends (numbers.first ∷ [])) + (if b then 2 else 1) ≤ n * count.side_tests (direction.Both Or) 1 + (n - 1)
+    by : (b : Bool) → nat_le 5 (length numbers.all) ≡ b → Numbered numbers n → 2 * max 1 (length numbers.all) + max (first_ends numbers.all)
+        (first_ends (numbers.first ∷ [])) + (if b then 2 else 1) ≤ n * count.side_tests (direction.Both Or) 1 + (n - 1)
     by true e (inl h) = let k = h.0 in let l = h.1 in let five : 5 ≤ length numbers.all = grind (arith, nat_tests) in omega arith
-    by true e (inr h) = let k = h.0 in let few = ends_few numbers.all in let one = ends_few (numbers.first ∷ []) in let five : 5 ≤ length numbers.all = grind (arith, nat_tests) in omega arith
+    by true e (inr h) = let k = h.0 in let few = ends_few numbers.all in let one = ends_few (numbers.first ∷ []) in
+        let five : 5 ≤ length numbers.all = grind (arith, nat_tests) in omega arith
     by false e (inl h) = let k = h.0 in let l = h.1 in omega arith
     by false e (inr h) = let k = h.0 in let l = h.1 in let few = ends_few numbers.all in let one = ends_few (numbers.first ∷ []) in omega arith
 sought_few (direction.Both And) numbers n h two = omega arith
@@ -128,13 +122,19 @@ module _ (link : Link) (q : CompleteQualifiers) (numbers : Numbers) (n : ℕ) (h
   sought_bare : (at : Sides) → Ready at numbers → Bare (Sought q.direction at numbers) (n * count.side_tests q.direction 1 + (n - 1))
   sought_bare at r = bare_within _ (sought_few q.direction numbers n h two) (bare_sought q.direction at numbers r)
 
-  hosts_bare : ((f : FrameKind) → Ready (address_places link f) numbers) → Bare (hosts_formula link q.protocol (Hosts.Several q.direction) numbers) (n * count.ip4_tests q.protocol q.direction)
-  hosts_bare r = bare_within _ (several_hosts_few q.protocol q.direction n (n - 1) (omega arith)) (bare_hosts link q.protocol (Hosts.Several q.direction) numbers _ (omega arith) (λ f. bare_after (sought_bare _ (r f))))
+  hosts_bare : ((f : FrameKind) → Ready (address_places link f) numbers) → Bare (hosts_formula link q.protocol (Hosts.Several q.direction) numbers)
+      (n * count.ip4_tests q.protocol q.direction)
+  hosts_bare r = bare_within _ (several_hosts_few q.protocol q.direction n (n - 1) (omega arith))
+      (bare_hosts link q.protocol (Hosts.Several q.direction) numbers _ (omega arith) (λ f. bare_after (sought_bare _ (r f))))
 
-  ports_bare : Ready (port_places (ip_transport link)) numbers × Ready (port_places (ip6_transport link)) numbers → Bare (port_formula link (port_test q.protocol q.direction Several) numbers) (n * count.port_tests q.protocol q.direction 1)
-  ports_bare r = bare_within _ (several_ports_few q.protocol q.direction n (n - 1) two (omega arith)) (bare_ports link (port_test q.protocol q.direction Several) numbers _ (sought_bare _ r.0) (sought_bare _ r.1))
+  ports_bare : Ready (port_places (ip_transport link)) numbers × Ready (port_places (ip6_transport link)) numbers
+      → Bare (port_formula link (port_test q.protocol q.direction Several) numbers) (n * count.port_tests q.protocol q.direction 1)
+  ports_bare r = bare_within _ (several_ports_few q.protocol q.direction n (n - 1) two (omega arith))
+      (bare_ports link (port_test q.protocol q.direction Several) numbers _ (sought_bare _ r.0) (sought_bare _ r.1))
 
-  bare_several : (k : ValueType) → (is_address k ≡ true → (f : FrameKind) → Ready (address_places link f) numbers) → (is_address k ≡ false → Ready (port_places (ip_transport link)) numbers × Ready (port_places (ip6_transport link)) numbers) → Bare (several_formula link q k numbers) (n * member_tests k q.protocol q.direction)
+  bare_several : (k : ValueType) → (is_address k ≡ true → (f : FrameKind) → Ready (address_places link f) numbers)
+      → (is_address k ≡ false → Ready (port_places (ip_transport link)) numbers × Ready (port_places (ip6_transport link)) numbers)
+      → Bare (several_formula link q k numbers) (n * member_tests k q.protocol q.direction)
   bare_several Host r s = hosts_bare (r refl)
   bare_several Net r s = hosts_bare (r refl)
   bare_several Port r s = ports_bare (s refl)
@@ -146,7 +146,9 @@ searchable_cut : (last : ℕ) (first : Interval) (is : List Interval) → Idle l
 searchable_cut last first [] h up = absurd up
 searchable_cut last first (i ∷ is) h up = cut_apart last 0 first (i ∷ is) h up
 
-ready : (at : Sides) (b : Bool) (group : Group) (ms : List Interval) → Held group ms → 1 ≤ length group.entries → Fitting b at → ((mask : Option ℕ) → (b ≡ false → mask ≡ None) → Reached at.index mask at.source at.destination) → Ready at (sought b group.first group.all)
+ready : (at : Sides) (b : Bool) (group : Group) (ms : List Interval) → Held group ms → 1 ≤ length group.entries
+    → Fitting b at → ((mask : Option ℕ) → (b ≡ false → mask ≡ None) → Reached at.index mask at.source at.destination)
+    → Ready at (sought b group.first group.all)
 ready at b group ms h some fit reached = record {
   order = cut_order last group.first group.first is idle idle.first_aligned h.order;
   all = searchable_cut last group.first is idle up;
@@ -174,7 +176,8 @@ ready at b group ms h some fit reached = record {
 by_numbers : (group : Group) → group.cases ≡ [] → is_searched group ≡ nat_le (if group.is_plain then 2 else FEWEST_RANGES) (length group.entries)
 by_numbers group e = ap (λ cs. nat_le (fewest cs group.is_plain) (length group.entries)) e
 
-group_bare_several : (link : Link) (group : Group) (ms : List Interval) → Held group ms → nat_le (if group.is_plain then 2 else FEWEST_RANGES) (length group.entries) ≡ true → Bare (several_formula link group.qualifiers group.qualifiers.value_type (numbers_of group)) (group_tests group)
+group_bare_several : (link : Link) (group : Group) (ms : List Interval) → Held group ms → nat_le (if group.is_plain then 2 else FEWEST_RANGES)
+    (length group.entries) ≡ true → Bare (several_formula link group.qualifiers group.qualifiers.value_type (numbers_of group)) (group_tests group)
 group_bare_several link group ms h e = by group.is_plain refl e
   where
     n : ℕ
@@ -187,16 +190,21 @@ group_bare_several link group ms h e = by group.is_plain refl e
     with_numbers few two =
         bare_within _ h.counted
         (bare_several link group.qualifiers (numbers_of group) n few two k
-        (λ e f. ready (address_places link f) (is_address k && not group.is_plain) group ms h (omega arith) (address_fitting (is_address k && not group.is_plain) link f) (λ mask _. address_reached link f mask))
+        (λ e f. ready (address_places link f) (is_address k && not group.is_plain) group ms h (omega arith)
+        (address_fitting (is_address k && not group.is_plain) link f) (λ mask _. address_reached link f mask))
         (λ e. let no = ap (λ c. c && not group.is_plain) e in let l = offset_few link in (
-          ready (port_places (ip_transport link)) (is_address k && not group.is_plain) group ms h (omega arith) (unmasked_fitting (is_address k && not group.is_plain) (port_places (ip_transport link)) no) (λ mask f. (f no, refl)),
-          ready (port_places (ip6_transport link)) (is_address k && not group.is_plain) group ms h (omega arith) (unmasked_fitting (is_address k && not group.is_plain) (port_places (ip6_transport link)) no) (λ mask f. (omega arith, omega arith, omega arith, omega arith)),
+          ready (port_places (ip_transport link)) (is_address k && not group.is_plain) group ms h (omega arith)
+              (unmasked_fitting (is_address k && not group.is_plain) (port_places (ip_transport link)) no) (λ mask f. (f no, refl)),
+          ready (port_places (ip6_transport link)) (is_address k && not group.is_plain) group ms h (omega arith)
+              (unmasked_fitting (is_address k && not group.is_plain) (port_places (ip6_transport link)) no)
+              (λ mask f. (omega arith, omega arith, omega arith, omega arith)),
         )))
 
     length_cut : (b : Bool) → length (sought b group.first group.all).all ≡ length (joined_all group.all)
     length_cut b = length-map (joined_all group.all) (cut (left_out b group.first (joined_all group.all)))
 
-    by : (b : Bool) → group.is_plain ≡ b → nat_le (if b then 2 else FEWEST_RANGES) n ≡ true → Bare (several_formula link group.qualifiers k (numbers_of group)) (group_tests group)
+    by : (b : Bool) → group.is_plain ≡ b → nat_le (if b then 2 else FEWEST_RANGES) n ≡ true
+        → Bare (several_formula link group.qualifiers k (numbers_of group)) (group_tests group)
     by true plain e =
         let two : 2 ≤ n = grind (arith, nat_tests) in
         let c = h.all_count in
@@ -225,44 +233,25 @@ front_bare : {f : Formula} {n : ℕ} (ts : List Elementary) → Bare f n → Bar
 front_bare [] h = bare_within _ (omega arith) h
 front_bare (t ∷ ts) h = bare_within _ (omega arith) (bare_after (front_bare ts h))
 
--- the tests of cases with the words of one: how they read, and how many they are
-sides_good : (link : Link) (d : Direction) (a m : ℕ) (kind c : Case) (cs : List Case) (es : List Entry) → Likes kind (c ∷ cs) → IsHosts kind (c ∷ cs) es → BeginsWith kind a es → length (c ∷ cs) ≡ length es → 6 ≤ length es → sizes (rows (case_tests link d) 0 (c ∷ cs)) + length (c ∷ cs) ≤ m → length (c ∷ cs) * both_tests kind ≤ m
-    → ((p : List ℕ) (n : ℕ) → reads link (sides_decision link d a c (c ∷ cs) es) p n ≡ cases_read link p n d kind (c ∷ cs) es) × Bare (sides_decision link d a c (c ∷ cs) es) (m - 1)
-sides_good link d a m (EitherIp6 b) (EitherIp6 x) cs es like hosts first same l few both =
-    (λ p n. either_read link p n a b es (EitherIp6 x ∷ cs) hosts first like (omega arith), bare_within _ (omega arith) (either_bare link a b (EitherIp6 x ∷ cs) es like (sym same) (omega arith)))
-sides_good link d a m (EitherIp6 b) _ cs es like hosts first same l few both = (let no = like.0 in cc)
-sides_good link d a m _ (EitherIp6 x) cs es like hosts first same l few both = (let no = like.0 in cc)
-sides_good link d a m kind c cs es like hosts first same l few both =
-    let by = case_tests link d in
-    let good = decision_good link by _ MOST_DECISIONS 0 (fields_of link d kind) (c ∷ cs) (shapes_of link d kind (c ∷ cs) like) in
-    let long = length-map cs by in
-    (good.0, bare_within _ (omega arith) (good.1 (some_fields link d kind) (omega arith)))
-
-many : (cs : List Case) (plain : Bool) (n : ℕ) → 0 < length cs → nat_le (fewest cs plain) n ≡ true → 6 ≤ n
-many [] plain n l e = absurd (omega arith)
-many (Ip6 m a ∷ cs) plain n l e = grind (arith, nat_tests)
-many (c ∷ cs) plain n l e = grind (arith, nat_tests)
-
 -- a group of cases has few tests, and reads as one after the other
-listed_is : (link : Link) (group : Group) → Listed group.qualifiers.direction group → is_searched group ≡ true → (cs : List Case) → cs ≡ group.cases → Bare (together_formula link group cs) (group_tests group) × ((p : List ℕ) (n : ℕ) → reads link (together_formula link group cs) p n ≡ reads link (rows_formula link group.entries) p n)
+listed_is : (link : Link) (group : Group) → Listed group.qualifiers.direction group → is_searched group ≡ true → (cs : List Case) → cs ≡ group.cases
+    → Bare (together_formula link group cs) (group_tests group) × ((p : List ℕ) (n : ℕ) → reads link (together_formula link group cs) p n ≡ reads link
+    (rows_formula link group.entries) p n)
 listed_is link group h searched [] e = absurd (let some = h.some in let z = ap length e in omega arith)
 listed_is link group h searched (c ∷ cs) e =
     let d = group.qualifiers.direction in
-    let like = subst (Likes h.kind) (sym e) h.like in
-    let long = ap length e in
-    let count = h.all_count in
-    let lots = many group.cases group.is_plain (length group.entries) h.some searched in
+    let by = case_tests link d in
     let few = h.counted link in
-    let few_both = h.counted_both link in
-    let front : case_front link c ≡ case_front link h.kind = (alike link d h.kind c like.0).1 in
+    let front : case_front link c ≡ case_front link h.kind = (alike link d h.kind c (subst (Likes h.kind) (sym e) h.like).0).1 in
     let fronts = ap (λ (ts : List Elementary). length ts) front in
-    let room = 1 + group_tests group - length (case_front link h.kind) in
-    let good = sides_good link d group.first_key room h.kind c cs group.entries like (subst (λ ds. IsHosts h.kind ds group.entries) (sym e) h.hosts) h.begins (omega arith) lots
-    (subst (λ ds. sizes (rows (case_tests link d) 0 ds) + length ds ≤ room) (sym e) (omega arith))
-    (subst (λ ds. length ds * both_tests h.kind ≤ room) (sym e) (omega arith)) in (
-      bare_within _ (omega arith) (front_bare (case_front link c) good.1),
+    let rest : sizes (rows by 0 (c ∷ cs)) + length (c ∷ cs) ≡ sizes (rows by 0 group.cases) + length group.cases =
+    ap (λ ds. sizes (rows by 0 ds) + length ds) e in
+    let long = length-map cs by in
+    let good = decision_good link by _ MOST_DECISIONS 0 (fields_of link d h.kind) (c ∷ cs)
+    (shapes_of link d h.kind (c ∷ cs) (subst (Likes h.kind) (sym e) h.like)) in (
+      bare_within _ (omega arith) (front_bare (case_front link c) (good.1 (some_fields link d h.kind) (omega arith))),
       λ p n. guarded_read link p n (case_front link c) _
-          ∙ ap₂ (λ ts r. both (all_read link p n ts) r) front (good.0 p n ∙ ap (λ ds. cases_read link p n d h.kind ds group.entries) e)
+          ∙ ap₂ (λ ts r. both (all_read link p n ts) r) front (good.0 p n ∙ ap (λ ds. read_all link p n (rows by 0 ds)) e)
           ∙ sym (h.rows_are link p n),
     )
 
@@ -271,14 +260,16 @@ group_bare link group k l = if_case (λ (f : Formula). Bare f (group_tests group
   where
     by : Kept group → is_searched group ≡ true → Bare (together_formula link group group.cases) (group_tests group)
     by (nothing none all empty) e = absurd (let z = ap length none in omega arith)
-    by (numbered l empty ms h) e = subst (λ cs. Bare (together_formula link group cs) (group_tests group)) (sym empty) (group_bare_several link group ms h (sym (by_numbers group empty) ∙ e))
+    by (numbered l empty ms h) e = subst (λ cs. Bare (together_formula link group cs) (group_tests group)) (sym empty)
+        (group_bare_several link group ms h (sym (by_numbers group empty) ∙ e))
     by (listed l h) e = (listed_is link group h e group.cases refl).0
 
 -- members that are looked for together read as one after the other
 searched_two : (group : Group) → nat_le (if group.is_plain then 2 else FEWEST_RANGES) (length group.entries) ≡ true → 2 ≤ length group.entries
 searched_two group e = grind (arith, nat_tests)
 
-group_rows : (link : Link) (p : List ℕ) (n : ℕ) (group : Group) → Kept group → reads link (group_formula link group) p n ≡ reads link (rows_formula link group.entries) p n
+group_rows : (link : Link) (p : List ℕ) (n : ℕ) (group : Group) → Kept group → reads link (group_formula link group) p n ≡ reads link
+    (rows_formula link group.entries) p n
 group_rows link p n group k =
     if_case (λ (f : Formula). reads link f p n ≡ reads link (rows_formula link group.entries) p n) (is_searched group) _ _ (by k) (λ e. refl)
   where
@@ -287,7 +278,8 @@ group_rows link p n group k =
     by (numbered l empty ms h) e =
         let few = sym (by_numbers group empty) ∙ e in
         ap (λ cs. reads link (together_formula link group cs) p n) empty
-        ∙ several_are link p n group.qualifiers (is_address group.qualifiers.value_type && not group.is_plain) group.first ms group.all (h.merged (searched_two group few)) h.ascends h.all_within group.qualifiers.value_type
+        ∙ several_are link p n group.qualifiers (is_address group.qualifiers.value_type && not group.is_plain) group.first ms group.all
+        (h.merged (searched_two group few)) h.ascends h.all_within group.qualifiers.value_type
         (λ t. (and_parts (is_address group.qualifiers.value_type) (not group.is_plain) t).0)
         ∙ sym (h.rows link p n)
     by (listed l h) e = (listed_is link group h e group.cases refl).1 p n
@@ -299,24 +291,30 @@ pub record Stands (link : Link) (f : Formula) (a : TruthTree) (group : Group) : 
   pub reads_are : (p : List ℕ) (n : ℕ) → reads link f p n ≡ either (reads link (formula link a) p n) (reads link (group_formula link group) p n)
 
 -- a group after a formula that stands for a truth
-or_stands : (link : Link) (f : Formula) (a : TruthTree) (group : Group) → Kept group → Sized f (count.truth_size a) (count.truth_words a) (count.truth_tests a) → ((p : List ℕ) (n : ℕ) → reads link f p n ≡ reads link (formula link a) p n) → Stands link (or_group link f group) a group
+or_stands : (link : Link) (f : Formula) (a : TruthTree) (group : Group) → Kept group → Sized f (count.truth_size a) (count.truth_words a)
+    (count.truth_tests a) → ((p : List ℕ) (n : ℕ) → reads link f p n ≡ reads link (formula link a) p n) → Stands link (or_group link f group) a group
 or_stands link f a group k s same = record { counts = sizes group.entries (λ l. group_bare link group k l); reads_are = λ p n. reading p n group.entries refl }
   where
     o : Formula
     o = group_formula link group
 
-    sizes : (es : List Entry) → (0 < length es → Bare o (group_tests group)) → Sized (or_any f o es) (count.truth_size a) (count.truth_words a) (count.truth_tests a + group_tests group)
+    sizes : (es : List Entry) → (0 < length es → Bare o (group_tests group)) → Sized (or_any f o es) (count.truth_size a) (count.truth_words a)
+        (count.truth_tests a + group_tests group)
     sizes [] b = bare_within _ (omega arith) s
     sizes (e ∷ es) b = bare_else s (b (omega arith))
 
-    reading : (p : List ℕ) (n : ℕ) (es : List Entry) → group.entries ≡ es → reads link (or_any f o es) p n ≡ either (reads link (formula link a) p n) (reads link o p n)
-    reading p n [] e = same p n ∙ sym (ap (either (reads link (formula link a) p n)) (group_rows link p n group k ∙ ap (λ es. reads link (rows_formula link es) p n) e) ∙ or_no _)
+    reading : (p : List ℕ) (n : ℕ) (es : List Entry) → group.entries ≡ es → reads link (or_any f o es) p n ≡ either (reads link (formula link a) p n)
+        (reads link o p n)
+    reading p n [] e = same p n ∙ sym (ap (either (reads link (formula link a) p n))
+        (group_rows link p n group k ∙ ap (λ es. reads link (rows_formula link es) p n) e) ∙ or_no _)
     reading p n (x ∷ es) e = ap (λ r. either r (reads link o p n)) (same p n)
 
 -- which members go together
 protocols_are : (a b : Option Protocol) → same_protocol a b ≡ true → b ≡ a
 protocols_are None None e = refl
 protocols_are (Some Ip) (Some Ip) e = refl
+protocols_are (Some protocol.Arp) (Some protocol.Arp) e = refl
+protocols_are (Some protocol.Rarp) (Some protocol.Rarp) e = refl
 protocols_are (Some Tcp) (Some Tcp) e = refl
 protocols_are (Some Udp) (Some Udp) e = refl
 protocols_are _ _ e = cc
@@ -328,7 +326,9 @@ directions_are (direction.Both Or) (direction.Both Or) e = (refl, tt)
 directions_are _ _ e = cc
 
 -- which types go together
-alike_types : (a b : ValueType) → same_type a b ≡ true → ((o : Option Protocol) (d : Direction) → member_tests b o d ≡ member_tests a o d) × ((link : Link) (p : List ℕ) (n : ℕ) (o : Option Protocol) (d : Direction) (m : Interval) (ms : List Interval) → members_read link p n b o d m ms ≡ members_read link p n a o d m ms)
+alike_types : (a b : ValueType) → same_type a b ≡ true → ((o : Option Protocol) (d : Direction) → member_tests b o d ≡ member_tests a o d)
+    × ((link : Link) (p : List ℕ) (n : ℕ) (o : Option Protocol) (d : Direction) (m : Interval) (ms : List Interval) → members_read link p n b o d m
+    ms ≡ members_read link p n a o d m ms)
 alike_types Host Host e = (λ o d. cc, λ link p n o d m ms. cc)
 alike_types _ Host e = (λ o d. cc, λ link p n o d m ms. cc)
 alike_types _ _ e = (λ o d. cc, λ link p n o d m ms. cc)
@@ -338,7 +338,8 @@ record Fits_in (q : CompleteQualifiers) (group : Group) : Type 0 where
   none : has_none group.cases ≡ true
   merged : Merged q.direction
   tests_are : member_tests group.qualifiers.value_type group.qualifiers.protocol group.qualifiers.direction ≡ member_tests q.value_type q.protocol q.direction
-  reads_are : (link : Link) (p : List ℕ) (n : ℕ) (m : Interval) (ms : List Interval) → members_read link p n group.qualifiers.value_type group.qualifiers.protocol group.qualifiers.direction m ms ≡ members_read link p n q.value_type q.protocol q.direction m ms
+  reads_are : (link : Link) (p : List ℕ) (n : ℕ) (m : Interval) (ms : List Interval) → members_read link p n group.qualifiers.value_type
+      group.qualifiers.protocol group.qualifiers.direction m ms ≡ members_read link p n q.value_type q.protocol q.direction m ms
 
 fits_in : (q : CompleteQualifiers) (group : Group) (es : List Entry) → 0 < length es → goes_with q group es ≡ true → Fits_in q group
 fits_in q group [] l g = absurd (omega arith)
@@ -360,14 +361,18 @@ fits_in q group (e ∷ es) l g =
     }
 
 -- one more row in front of others
-rows_put : (link : Link) (p : List ℕ) (n : ℕ) (e : Entry) (es : List Entry) → reads link (rows_formula link (e ∷ es)) p n ≡ either (reads link (entry_formula link e) p n) (reads link (rows_formula link es) p n)
+rows_put : (link : Link) (p : List ℕ) (n : ℕ) (e : Entry) (es : List Entry) → reads link (rows_formula link (e ∷ es)) p n ≡ either
+    (reads link (entry_formula link e) p n) (reads link (rows_formula link es) p n)
 rows_put link p n e [] = sym (or_no _)
 rows_put link p n e (f ∷ es) = refl
 
 -- one more number before those, ls, of a group without cases
-held_put : (q : CompleteQualifiers) (v : Value) (m : Interval) (group : Group) (ls : List Interval) → member_of q.value_type v ≡ Some m → Ordered 0 group.all → ((y : ℕ) → is_within y group.all ≡ is_within y ls) → length group.all ≡ length group.entries → (group.is_plain ≡ true → Points group.all)
+held_put : (q : CompleteQualifiers) (v : Value) (m : Interval) (group : Group) (ls : List Interval) → member_of q.value_type v ≡ Some m
+    → Ordered 0 group.all → ((y : ℕ) → is_within y group.all ≡ is_within y ls) → length group.all ≡ length group.entries
+    → (group.is_plain ≡ true → Points group.all)
     → length group.entries * member_tests q.value_type q.protocol q.direction ≤ group_tests group → (0 < length group.entries → Merged q.direction)
-    → ((link : Link) (p : List ℕ) (n : ℕ) → either (member_reads link p n q.value_type q.protocol q.direction m) (reads link (rows_formula link group.entries) p n) ≡ members_read link p n q.value_type q.protocol q.direction m ls)
+    → ((link : Link) (p : List ℕ) (n : ℕ) → either (member_reads link p n q.value_type q.protocol q.direction m)
+    (reads link (rows_formula link group.entries) p n) ≡ members_read link p n q.value_type q.protocol q.direction m ls)
     → Held (with_member q v m group) ls
 held_put q v m group ls w up within many points few merged rows = record {
   order = order;
@@ -380,29 +385,34 @@ held_put q v m group ls w up within many points few merged rows = record {
       let point : m.low ≡ m.high = (let u = t.0 in grind (arith, nat_tests)) in
       (point, points_inserted m group.all point (points t.1));
   counted = let one = suc-mul (length group.entries) (member_tests q.value_type q.protocol q.direction) in let more = (its Ether [] 0).1 in omega arith;
-  rows = λ link p n. rows_put link p n (entry q v) group.entries ∙ ap (λ r. either r (reads link (rows_formula link group.entries) p n)) (value_same link p n q.value_type q.protocol q.direction v ∙ (its link p n).2) ∙ rows link p n;
+  rows = λ link p n. rows_put link p n (entry q v) group.entries ∙ ap (λ r. either r (reads link (rows_formula link group.entries) p n))
+      (value_same link p n q.value_type q.protocol q.direction v ∙ (its link p n).2) ∙ rows link p n;
 }
   where
     its : (link : Link) (p : List ℕ) (n : ℕ) → IsMember link p n q.value_type q.protocol q.direction v m
-    its link p n = each_is (member_of q.value_type v) (IsMember link p n q.value_type q.protocol q.direction v) m (member_is link p n q.value_type q.protocol q.direction v) w
+    its link p n = each_is (member_of q.value_type v) (IsMember link p n q.value_type q.protocol q.direction v) m
+        (member_is link p n q.value_type q.protocol q.direction v) w
 
     order : m.low ≤ m.high
     order = (its Ether [] 0).0
 
-kept_with : (q : CompleteQualifiers) (v : Value) (m : Interval) (group : Group) → Kept group → goes_with q group group.entries ≡ true → member_of q.value_type v ≡ Some m → Kept (with_member q v m group)
+kept_with : (q : CompleteQualifiers) (v : Value) (m : Interval) (group : Group) → Kept group → goes_with q group group.entries ≡ true
+    → member_of q.value_type v ≡ Some m → Kept (with_member q v m group)
 kept_with q v m group (nothing none all empty) g w =
     let zero : length group.entries ≡ 0 = ap length none in
     let no_all : length group.all ≡ 0 = ap length all in
     numbered (omega arith) empty []
     (held_put q v m group [] w (subst (Ordered 0) (sym all) tt) (λ y. ap (is_within y) all) (omega arith) (λ plain. subst Points (sym all) tt)
     (subst (λ k. k * member_tests q.value_type q.protocol q.direction ≤ group_tests group) (sym zero) (omega arith)) (λ l. absurd (omega arith))
-    (λ link p n. ap (λ es. either (member_reads link p n q.value_type q.protocol q.direction m) (reads link (rows_formula link es) p n)) none ∙ or_no _ ∙ sym (members_alone link p n q.value_type q.protocol q.direction m)))
+    (λ link p n. ap (λ es. either (member_reads link p n q.value_type q.protocol q.direction m) (reads link (rows_formula link es) p n)) none
+    ∙ or_no _ ∙ sym (members_alone link p n q.value_type q.protocol q.direction m)))
 kept_with q v m group (numbered l empty ms h) g w =
     let f = fits_in q group group.entries l g in
     numbered (omega arith) empty (group.first ∷ ms)
     (held_put q v m group (group.first ∷ ms) w h.ascends h.all_within h.all_count (λ plain. (h.points plain).1)
     (subst (λ k. length group.entries * k ≤ group_tests group) f.tests_are h.counted) (λ l. f.merged)
-    (λ link p n. ap (either (member_reads link p n q.value_type q.protocol q.direction m)) (h.rows link p n ∙ f.reads_are link p n group.first ms) ∙ sym (members_more link p n q.value_type q.protocol q.direction m group.first ms f.merged)))
+    (λ link p n. ap (either (member_reads link p n q.value_type q.protocol q.direction m)) (h.rows link p n ∙ f.reads_are link p n group.first ms)
+    ∙ sym (members_more link p n q.value_type q.protocol q.direction m group.first ms f.merged)))
 kept_with q v m group (listed l h) g w = absurd (no_cases group.cases (fits_in q group group.entries l g).none h.some)
   where
     no_cases : (cs : List Case) → has_none cs ≡ true → 0 < length cs → ⊥
@@ -411,28 +421,22 @@ kept_with q v m group (listed l h) g w = absurd (no_cases group.cases (fits_in q
 
 -- what has so many tests and this formula is a case
 abbrev Cased : Link → Direction → Case → ℕ → Formula → Type 0
-Cased link d c tests f = (length (case_front link c) + length (case_tests link d c) ≤ tests) × (length (case_front link c) + both_tests c ≤ 1 + tests) × ((p : List ℕ) (n : ℕ) → reads link f p n ≡ reads link (guarded_formula (case_front link c) (case_formula link d c)) p n)
-
--- the entry that is a host on either side
-abbrev IsEntryOf : Case → Entry → Type 0
-IsEntryOf (EitherIp6 a) (Entry.Value q (value.Ip6 x m)) = a ≡ x
-IsEntryOf (EitherIp6 a) _ = ⊥
-IsEntryOf _ e = Unit {0}
+Cased link d c tests f = (length (case_front link c) + length (case_tests link d c) ≤ tests)
+    × ((p : List ℕ) (n : ℕ) → reads link f p n ≡ reads link (guarded_formula (case_front link c) (all_of (case_tests link d c))) p n)
 
 -- a value that is a case
 abbrev IsCase : Link → ValueType → Option Protocol → Direction → Value → Case → Type 0
-IsCase link k o d v c = Cased link d c (count.typed_tests k o d v) (value_formula link k o d v) × ((q : CompleteQualifiers) → IsEntryOf c (entry q v))
+IsCase link k o d v c = Cased link d c (count.typed_tests k o d v) (value_formula link k o d v)
 
 case_is : (link : Link) (k : ValueType) (o : Option Protocol) (d : Direction) (v : Value) → Each (case_of k o d v) (IsCase link k o d v)
-case_is link Host o (direction.One Source) (value.Mac a) = ((omega arith, omega arith, λ p n. refl), λ q. tt)
-case_is link Host o (direction.One Destination) (value.Mac a) = ((omega arith, omega arith, λ p n. refl), λ q. tt)
-case_is link Host o (direction.One Source) (value.Ip6 a m) = ((omega arith, omega arith, λ p n. refl), λ q. tt)
-case_is link Host o (direction.One Destination) (value.Ip6 a m) = ((omega arith, omega arith, λ p n. refl), λ q. tt)
-case_is link Host o (direction.Both Or) (value.Ip6 a m) = ((omega arith, omega arith, λ p n. refl), λ q. refl)
-case_is link Net o (direction.One Source) (value.Ip6 a m) = ((omega arith, omega arith, λ p n. refl), λ q. tt)
-case_is link Net o (direction.One Destination) (value.Ip6 a m) = ((omega arith, omega arith, λ p n. refl), λ q. tt)
-case_is link Proto (Some Ip) d (value.Number x m) = ((omega arith, omega arith, λ p n. refl), λ q. tt)
-case_is link Proto (Some protocol.Ip6) d (value.Number x m) = ((omega arith, omega arith, λ p n. refl), λ q. tt)
+case_is link Host o (direction.One Source) (value.Mac a) = (omega arith, λ p n. refl)
+case_is link Host o (direction.One Destination) (value.Mac a) = (omega arith, λ p n. refl)
+case_is link Host o (direction.One Source) (value.Ip6 a m) = (omega arith, λ p n. refl)
+case_is link Host o (direction.One Destination) (value.Ip6 a m) = (omega arith, λ p n. refl)
+case_is link Net o (direction.One Source) (value.Ip6 a m) = (omega arith, λ p n. refl)
+case_is link Net o (direction.One Destination) (value.Ip6 a m) = (omega arith, λ p n. refl)
+case_is link Proto (Some Ip) d (value.Number x m) = (omega arith, λ p n. refl)
+case_is link Proto (Some protocol.Ip6) d (value.Number x m) = (omega arith, λ p n. refl)
 case_is link _ o d _ = tt
 
 fronts_few : (link : Link) (p : Protocol) → length (accessor_tests link p) + 1 ≤ accessor_test_count p + 1
@@ -443,40 +447,19 @@ fronts_few link _ = omega arith
 abbrev place : Case → List Case → ℕ
 place c cs = count_by (λ d. nat_lt (key_of d) (key_of c)) cs
 
--- a host on either side, and how a case reads, by itself and in front of others
-hosts_put : (kind c : Case) (cs : List Case) (e : Entry) (es : List Entry) → IsEntryOf c e → same_words kind c ≡ true → Likes kind cs → IsHosts kind cs es → IsHosts kind (insert_case c cs) (e ∷ es) × BeginsWith kind (key_of c) (e ∷ es)
-hosts_put (EitherIp6 b) (EitherIp6 a) cs (Entry.Value q (value.Ip6 x m)) es is e h old =
-    subst (λ y. IsHosts (EitherIp6 b) (insert_case (EitherIp6 a) cs) (Entry.Value q (value.Ip6 y m) ∷ es) × (a ≡ y)) is ((cs, refl, e, h, old), refl)
-hosts_put (EitherIp6 b) (EitherIp6 a) cs _ es is e h old = absurd is
-hosts_put (EitherIp6 b) _ cs x es is e h old = cc
-hosts_put _ c cs x es is e h old = (tt, tt)
-
-host_first : (link : Link) (p : List ℕ) (n a : ℕ) (e : Entry) (es : List Entry) → IsEntryOf (EitherIp6 a) e → either (host_read link p n a) (hosts_read link p n es) ≡ hosts_read link p n (e ∷ es)
-host_first link p n a (Entry.Value q (value.Ip6 x m)) es is = ap (λ y. either (host_read link p n y) (hosts_read link p n es)) is
-host_first link p n a _ es is = absurd is
-
-read_alone : (link : Link) (p : List ℕ) (n : ℕ) (d : Direction) (c : Case) (e : Entry) → IsEntryOf c e → case_read link p n d c ≡ cases_read link p n d c (insert_case c []) (e ∷ [])
-read_alone link p n d (EitherIp6 a) e is = sym (or_no _) ∙ host_first link p n a e [] is
-read_alone link p n d _ e is = sym (or_no _)
-
-read_more : (link : Link) (p : List ℕ) (n : ℕ) (d : Direction) (kind c : Case) (cs : List Case) (e : Entry) (es : List Entry) → IsEntryOf c e → Likes kind cs → same_words kind c ≡ true → either (case_read link p n d c) (cases_read link p n d kind cs es) ≡ cases_read link p n d kind (insert_case c cs) (e ∷ es)
-read_more link p n d (EitherIp6 b) (EitherIp6 a) cs e es is h same = host_first link p n a e es is
-read_more link p n d (EitherIp6 b) _ cs e es is h same = cc
-read_more link p n d _ (EitherIp6 x) cs e es is h same = cc
-read_more link p n d kind c cs e es is h same =
-    sym (read_put link p n 0 (case_tests link d) (fields_of link d kind) c (place c cs) cs (shapes_of link d kind (c ∷ []) (same, tt)).0 (shapes_of link d kind cs h))
-
 -- one more case before those of a group without numbers
-listed_put : (q : CompleteQualifiers) (e : Entry) (c kind : Case) (group : Group) → ((link : Link) → Cased link q.direction c (entry_tests e) (entry_formula link e)) → Likes kind group.cases → same_words kind c ≡ true → length group.cases ≡ length group.entries → ((link : Link) → sizes (rows (case_tests link q.direction) 0 group.cases) + length group.cases ≤ group_tests group) → length group.cases * both_tests kind ≤ group_tests group → IsEntryOf c e → IsHosts kind group.cases group.entries
-    → ((link : Link) (p : List ℕ) (n : ℕ) → let front = all_read link p n (case_front link kind) in either (both front (case_read link p n q.direction c)) (reads link (rows_formula link group.entries) p n) ≡ both front (cases_read link p n q.direction kind (insert_case c group.cases) (e ∷ group.entries)))
+listed_put : (q : CompleteQualifiers) (e : Entry) (c kind : Case) (group : Group)
+    → ((link : Link) → Cased link q.direction c (entry_tests e) (entry_formula link e)) → Likes kind group.cases → same_words kind c ≡ true → length group.cases
+    ≡ length group.entries → ((link : Link) → sizes (rows (case_tests link q.direction) 0 group.cases) + length group.cases ≤ group_tests group)
+    → ((link : Link) (p : List ℕ) (n : ℕ) → let front = all_read link p n (case_front link kind) in let by = case_tests link q.direction in
+    either (both front (reads link (all_of (by c)) p n)) (reads link (rows_formula link group.entries) p n)
+    ≡ both front (either (reads link (all_of (by c)) p n) (read_all link p n (rows by 0 group.cases))))
     → Listed q.direction (with_case q e c group)
-listed_put q e c kind group its likes like count few both_few is hosts rows_are = record {
+listed_put q e c kind group its likes like count few rows_are = record {
   kind = kind;
   like = likes_put kind c (place c group.cases) group.cases like likes;
   some = let l = length_put c (place c group.cases) group.cases in omega arith;
   all_count = let l = length_put c (place c group.cases) group.cases in omega arith;
-  hosts = (hosts_put kind c group.cases e group.entries is like likes hosts).0;
-  begins = (hosts_put kind c group.cases e group.entries is like likes hosts).1;
   counted = λ link.
       let l = length_put c (place c group.cases) group.cases in
       let s = sizes_put (case_tests link q.direction) c (place c group.cases) group.cases in
@@ -484,23 +467,20 @@ listed_put q e c kind group its likes like count few both_few is hosts rows_are 
       let old = few link in
       let fronts = ap (λ (ts : List Elementary). length ts) (alike link q.direction kind c like).1 in
       omega arith;
-  counted_both = λ link.
-      let l : length (insert_case c group.cases) ≡ suc (length group.cases) = length_put c (place c group.cases) group.cases ∙ omega arith in
-      let all = ap (λ k. k * both_tests kind) l in
-      let more = suc-mul (length group.cases) (both_tests kind) in
-      let one = (its link).1 in
-      let same = alike link q.direction kind c like in
-      let fronts = ap (λ (ts : List Elementary). length ts) same.1 in
-      let tests = same.2 in
-      omega arith;
   rows_are = λ link p n.
+      let by = case_tests link q.direction in
+      let one = reads link (all_of (by c)) p n in
       rows_put link p n e group.entries
-      ∙ ap (λ r. either r (reads link (rows_formula link group.entries) p n)) ((its link).2 p n ∙ guarded_read link p n (case_front link c) (case_formula link q.direction c) ∙ ap (λ ts. both (all_read link p n ts) (case_read link p n q.direction c)) (alike link q.direction kind c like).1)
-      ∙ rows_are link p n;
+      ∙ ap (λ r. either r (reads link (rows_formula link group.entries) p n)) ((its link).1 p n ∙ guarded_read link p n (case_front link c) (all_of (by c))
+      ∙ ap (λ ts. both (all_read link p n ts) one) (alike link q.direction kind c like).1)
+      ∙ rows_are link p n
+      ∙ ap (both (all_read link p n (case_front link kind))) (sym (read_put link p n 0 by (fields_of link q.direction kind) c (place c group.cases) group.cases
+      (shapes_of link q.direction kind (c ∷ []) (like, tt)).0 (shapes_of link q.direction kind group.cases likes)));
 }
 
 -- what is known where a case goes with members
-case_fits : (c : Case) (d : Direction) (group : Group) (es : List Entry) → 0 < length es → case_goes_with c d group es ≡ true → (shares_words c group.cases ≡ true) × (group.qualifiers.direction ≡ d)
+case_fits : (c : Case) (d : Direction) (group : Group) (es : List Entry) → 0 < length es → case_goes_with c d group es ≡ true
+    → (shares_words c group.cases ≡ true) × (group.qualifiers.direction ≡ d)
 case_fits c d group [] l g = absurd (omega arith)
 case_fits c d group (e ∷ es) l g =
     let a = and_parts (shares_words c group.cases) _ g in
@@ -510,41 +490,41 @@ shared : (kind c : Case) (cs : List Case) → Likes kind cs → shares_words c c
 shared kind c [] h e = cc
 shared kind c (x ∷ xs) h e = alike_alike kind x c h.0 e
 
-kept_with_case : (q : CompleteQualifiers) (e : Entry) (c : Case) (group : Group) → Kept group → case_goes_with c q.direction group group.entries ≡ true → IsEntryOf c e → ((link : Link) → Cased link q.direction c (entry_tests e) (entry_formula link e)) → Kept (with_case q e c group)
-kept_with_case q e c group (nothing none all empty) g is w =
+kept_with_case : (q : CompleteQualifiers) (e : Entry) (c : Case) (group : Group) → Kept group → case_goes_with c q.direction group group.entries ≡ true
+    → ((link : Link) → Cased link q.direction c (entry_tests e) (entry_formula link e)) → Kept (with_case q e c group)
+kept_with_case q e c group (nothing none all empty) g w =
     listed (omega arith)
     (listed_put q e c c group w (subst (Likes c) (sym empty) tt) (self_alike c) (ap length empty ∙ sym (ap length none))
     (λ link. subst (λ cs. sizes (rows (case_tests link q.direction) 0 cs) + length cs ≤ group_tests group) (sym empty) (omega arith))
-    (subst (λ (cs : List Case). length cs * both_tests c ≤ group_tests group) (sym empty) (omega arith)) is
-    (subst (λ cs. IsHosts c cs group.entries) (sym empty) (subst (IsHosts c []) (sym none) (no_hosts c)))
     (λ link p n.
-    let front = all_read link p n (case_front link c) in
-    ap (λ es. either (both front (case_read link p n q.direction c)) (reads link (rows_formula link es) p n)) none ∙ or_no _
-    ∙ ap (both front) (read_alone link p n q.direction c e is ∙ ap₂ (λ cs es. cases_read link p n q.direction c (insert_case c cs) (e ∷ es)) (sym empty) (sym none))))
-  where
-    no_hosts : (c : Case) → IsHosts c [] []
-    no_hosts (EitherIp6 a) = refl
-    no_hosts _ = tt
-kept_with_case q e c group (numbered l empty ms h) g is w = absurd (let no = ap (shares_words c) (sym empty) ∙ (case_fits c q.direction group group.entries l g).0 in cc)
-kept_with_case q e c group (listed l h) g is w =
+    let by = case_tests link q.direction in
+    let one = both (all_read link p n (case_front link c)) (reads link (all_of (by c)) p n) in
+    ap (λ es. either one (reads link (rows_formula link es) p n)) none ∙ or_no one
+    ∙ ap (both (all_read link p n (case_front link c))) (sym (or_no _)
+    ∙ ap (λ cs. either (reads link (all_of (by c)) p n) (read_all link p n (rows by 0 cs))) (sym empty))))
+kept_with_case q e c group (numbered l empty ms h) g w = absurd (let no = ap (shares_words c) (sym empty)
+    ∙ (case_fits c q.direction group group.entries l g).0 in cc)
+kept_with_case q e c group (listed l h) g w =
     let fit = case_fits c q.direction group group.entries l g in
     let j = subst (λ d. Listed d group) fit.1 h in
-    let like = shared j.kind c group.cases j.like fit.0 in
-    let few : (link : Link) → sizes (rows (case_tests link q.direction) 0 group.cases) + length group.cases ≤ group_tests group = λ link. (let all = j.counted link in let some = some_front link j.kind in omega arith) in
-    let few_both : length group.cases * both_tests j.kind ≤ group_tests group = (let all = j.counted_both Ether in let some = some_front Ether j.kind in omega arith) in
-    listed (omega arith)
-    (listed_put q e c j.kind group w j.like like j.all_count few few_both is j.hosts
-    (λ link p n. ap (either (both _ (case_read link p n q.direction c))) (j.rows_are link p n) ∙ sym (both_either _ (case_read link p n q.direction c) _) ∙ ap (both _) (read_more link p n q.direction j.kind c group.cases e group.entries is j.like like)))
+    let few : (link : Link) → sizes (rows (case_tests link q.direction) 0 group.cases) + length group.cases ≤ group_tests group =
+    λ link. (let all = j.counted link in let some = some_front link j.kind in omega arith) in
+    listed (omega arith) (listed_put q e c j.kind group w j.like (shared j.kind c group.cases j.like fit.0) j.all_count few
+    (λ link p n.
+    let one = reads link (all_of (case_tests link q.direction c)) p n in
+    ap (either (both _ one)) (j.rows_are link p n) ∙ sym (both_either _ one _)))
 
 -- what a member and those after it are, and how they read
 record Taken (link : Link) (e : Entry) (group more : Group) : Type 0 where
   kept : Kept more
   some : 0 < length more.entries
   tests_fit : group_tests more ≤ entry_tests e + group_tests group
-  reads_are : (p : List ℕ) (n : ℕ) → reads link (group_formula link more) p n ≡ either (reads link (entry_formula link e) p n) (reads link (group_formula link group) p n)
+  reads_are : (p : List ℕ) (n : ℕ) → reads link (group_formula link more) p n ≡ either (reads link (entry_formula link e) p n)
+      (reads link (group_formula link group) p n)
 
 module _ (link : Link) (group more : Group) (k : Kept group) where
-  by_test : (e : Entry) (x : Group) (t : Bool) → (t ≡ true → Kept x) → x.entries ≡ e ∷ group.entries → (if t then Some x else None) ≡ Some more → Taken link e group more
+  by_test : (e : Entry) (x : Group) (t : Bool) → (t ≡ true → Kept x) → x.entries ≡ e ∷ group.entries → (if t then Some x else None) ≡ Some more
+      → Taken link e group more
   by_test e x false kept is some = cc
   by_test e x true kept is some =
       let tests = ap entries_tests is in
@@ -553,57 +533,79 @@ module _ (link : Link) (group more : Group) (k : Kept group) where
         kept = kept refl;
         some = omega arith;
         tests_fit = omega arith;
-        reads_are = λ p n. group_rows link p n x (kept refl) ∙ ap (λ es. reads link (rows_formula link es) p n) is ∙ rows_put link p n e group.entries ∙ ap (either _) (sym (group_rows link p n group k));
+        reads_are = λ p n. group_rows link p n x (kept refl) ∙ ap (λ es. reads link (rows_formula link es) p n) is ∙ rows_put link p n e group.entries
+            ∙ ap (either _) (sym (group_rows link p n group k));
       }) some
 
-  by_member : (q : CompleteQualifiers) (v : Value) (o : Option Interval) → member_of q.value_type v ≡ o → group_and q v group o ≡ Some more → Taken link (entry q v) group more
+  by_member : (q : CompleteQualifiers) (v : Value) (o : Option Interval) → member_of q.value_type v ≡ o → group_and q v group o ≡ Some more
+      → Taken link (entry q v) group more
   by_member q v None w e = cc
   by_member q v (Some m) w e = by_test (entry q v) (with_member q v m group) (goes_with q group group.entries) (λ g. kept_with q v m group k g w) refl e
 
-  by_case : (q : CompleteQualifiers) (v : Value) (o : Option Case) → case_of q.value_type q.protocol q.direction v ≡ o → larger_with q v group o ≡ Some more → Taken link (entry q v) group more
+  by_case : (q : CompleteQualifiers) (v : Value) (o : Option Case) → case_of q.value_type q.protocol q.direction v ≡ o → larger_with q v group o ≡
+      Some more → Taken link (entry q v) group more
   by_case q v None w e = by_member q v (member_of q.value_type v) refl e
   by_case q v (Some c) w e =
       by_test (entry q v) (with_case q (entry q v) c group) (case_goes_with c q.direction group group.entries)
-      (λ g. kept_with_case q (entry q v) c group k g ((its link).1 q) (λ l. (((its l).0).0, ((its l).0).1, λ p n. value_same l p n q.value_type q.protocol q.direction v ∙ ((its l).0).2 p n))) refl e
+      (λ g. kept_with_case q (entry q v) c group k g (λ l. ((its l).0, λ p n. value_same l p n q.value_type q.protocol q.direction v ∙ (its l).1 p n))) refl e
     where
       its : (l : Link) → IsCase l q.value_type q.protocol q.direction v c
-      its l = each_is (case_of q.value_type q.protocol q.direction v) (IsCase l q.value_type q.protocol q.direction v) c (case_is l q.value_type q.protocol q.direction v) w
+      its l = each_is (case_of q.value_type q.protocol q.direction v) (IsCase l q.value_type q.protocol q.direction v) c
+          (case_is l q.value_type q.protocol q.direction v) w
 
   taken : (e : Entry) → larger_group e group ≡ Some more → Taken link e group more
   taken (Entry.Value q v) some = by_case q v (case_of q.value_type q.protocol q.direction v) refl some
   taken (Entry.Relation r) some =
-      by_test (Entry.Relation r) (with_case no_group.qualifiers (Entry.Relation r) (Case.Relation r) group) (case_goes_with (Case.Relation r) no_group.qualifiers.direction group group.entries)
-      (λ g. kept_with_case no_group.qualifiers (Entry.Relation r) (Case.Relation r) group k g tt (λ l. (let few = fronts_few l r.protocol in (few, omega arith, λ p n. refl)))) refl some
+      by_test (Entry.Relation r) (with_case no_group.qualifiers (Entry.Relation r) (Case.Relation r) group)
+      (case_goes_with (Case.Relation r) no_group.qualifiers.direction group group.entries)
+      (λ g. kept_with_case no_group.qualifiers (Entry.Relation r) (Case.Relation r) group k g (λ l. (fronts_few l r.protocol, λ p n. refl))) refl some
 
 sized_sizes : (s : Size) (n : ℕ) → Sized (sized_formula s n) 2 1 1
 sized_sizes Size.Less n = record { nodes_fit = omega arith; words_fit = omega arith; searches = tt; tests_fit = omega arith }
 sized_sizes _ n = record { nodes_fit = omega arith; words_fit = omega arith; searches = tt; tests_fit = omega arith }
 
 -- an entry, or a truth that is none
-leaf_stands : (link : Link) (a : TruthTree) (f : Formula) (group : Group) → Kept group → Sized f (count.truth_size a) (count.truth_words a) (count.truth_tests a) → ((p : List ℕ) (n : ℕ) → reads link f p n ≡ reads link (formula link a) p n) → (o : Option Entry) → Each o (IsEntry link a) → Stands link (leaf_formula link o f group) a group
+leaf_stands : (link : Link) (a : TruthTree) (f : Formula) (group : Group) → Kept group → Sized f (count.truth_size a) (count.truth_words a)
+    (count.truth_tests a) → ((p : List ℕ) (n : ℕ) → reads link f p n ≡ reads link (formula link a) p n) → (o : Option Entry) → Each o (IsEntry link a)
+    → Stands link (leaf_formula link o f group) a group
 leaf_stands link a f group k sizes same None is = or_stands link f a group k sizes same
 leaf_stands link a f group k sizes same (Some e) is = by (larger_group e group) refl
   where
     by : (o : Option Group) → larger_group e group ≡ o → Stands link (choice o (group_formula link) (or_group link (entry_formula link e) group)) a group
     by None none =
         let b = entry_bare link e in
-        or_stands link (entry_formula link e) a group k (record { nodes_fit = omega (arith, b.nodes_fit); words_fit = omega (arith, b.words_fit); searches = b.searches; tests_fit = omega (arith, b.tests_fit, is.few) }) is.same
+        or_stands link (entry_formula link e) a group k
+        (record {
+          nodes_fit = omega (arith, b.nodes_fit);
+          words_fit = omega (arith, b.words_fit);
+          searches = b.searches;
+          tests_fit =
+              omega (arith, b.tests_fit, is.few);
+        }) is.same
     by (Some more) some =
         let t = taken link group more k e some in
         let b = group_bare link more t.kept t.some in
         record {
-          counts = record { nodes_fit = omega (arith, b.nodes_fit); words_fit = omega (arith, b.words_fit); searches = b.searches; tests_fit = omega (arith, b.tests_fit, t.tests_fit, is.few) };
+          counts = record {
+            nodes_fit = omega (arith, b.nodes_fit);
+            words_fit = omega (arith, b.words_fit);
+            searches = b.searches;
+            tests_fit =
+                omega (arith, b.tests_fit, t.tests_fit, is.few);
+          };
           reads_are = λ p n. t.reads_are p n ∙ ap (λ r. either r (reads link (group_formula link group) p n)) (is.same p n);
         }
 
 -- the second one of two truths may join the group after it, or begin another one
-module _ (link : Link) (a b : TruthTree) (group : Group) (k : Kept group) (f : Group → Formula) (g : Formula) (h : (more : Group) → Kept more → Stands link (f more) a more) (m : Stands link g b group) where
+module _ (link : Link) (a b : TruthTree) (group : Group) (k : Kept group) (f : Group → Formula) (g : Formula)
+    (h : (more : Group) → Kept more → Stands link (f more) a more) (m : Stands link g b group) where
   parted : Stands link (Either (f no_group) g) (joined Or a b) group
   parted =
       let s = h no_group kept_none in
       record {
         counts = bare_within _ (omega arith) (bare_either s.counts m.counts);
-        reads_are = λ p n. ap₂ either (s.reads_are p n ∙ or_no (reads link (formula link a) p n)) (m.reads_are p n) ∙ sym (either_assoc (reads link (formula link a) p n) (reads link (formula link b) p n) (reads link (group_formula link group) p n));
+        reads_are = λ p n. ap₂ either (s.reads_are p n ∙ or_no (reads link (formula link a) p n)) (m.reads_are p n)
+            ∙ sym (either_assoc (reads link (formula link a) p n) (reads link (formula link b) p n) (reads link (group_formula link group) p n));
       }
 
   -- both with a group that the second one joins
@@ -612,39 +614,57 @@ module _ (link : Link) (a b : TruthTree) (group : Group) (k : Kept group) (f : G
       let t = taken link old more kept e some in
       let s = h more t.kept in
       record {
-        counts = record { nodes_fit = omega (arith, s.nodes_fit); words_fit = omega (arith, s.words_fit); searches = s.searches; tests_fit = omega (arith, s.tests_fit, t.tests_fit, is.few) };
-        reads_are = λ p n. s.reads_are p n ∙ ap (either (reads link (formula link a) p n)) (t.reads_are p n ∙ ap (λ r. either r (reads link (group_formula link old) p n)) (is.same p n)) ∙ sym (either_assoc (reads link (formula link a) p n) (reads link (formula link b) p n) (reads link (group_formula link old) p n));
+        counts = record {
+          nodes_fit = omega (arith, s.nodes_fit);
+          words_fit = omega (arith, s.words_fit);
+          searches = s.searches;
+          tests_fit =
+              omega (arith, s.tests_fit, t.tests_fit, is.few);
+        };
+        reads_are = λ p n. s.reads_are p n ∙ ap (either (reads link (formula link a) p n))
+            (t.reads_are p n ∙ ap (λ r. either r (reads link (group_formula link old) p n)) (is.same p n))
+            ∙ sym (either_assoc (reads link (formula link a) p n) (reads link (formula link b) p n) (reads link (group_formula link old) p n));
       }
 
-  or_member : (e : Entry) → IsEntry link b e → (o p : Option Group) → larger_group e group ≡ o → larger_group e no_group ≡ p → Stands link (choice o f (choice p (λ new. or_group link (f new) group) (Either (f no_group) g))) (joined Or a b) group
+  or_member : (e : Entry) → IsEntry link b e → (o p : Option Group) → larger_group e group ≡ o → larger_group e no_group ≡ p
+      → Stands link (choice o f (choice p (λ new. or_group link (f new) group) (Either (f no_group) g))) (joined Or a b) group
   or_member e is None None none alone = parted
   or_member e is None (Some new) none begun =
       let s = joins e is no_group new kept_none begun in
       or_stands link (f new) (joined Or a b) group k (bare_within _ (omega arith) s.counts) (λ p n. s.reads_are p n ∙ or_no _)
   or_member e is (Some more) p some q = joins e is group more k some
 
-  either_stands : (o : Option Entry) → Each o (IsEntry link b) → Stands link (choice (with o (λ e. larger_group e group)) f (choice (with o (λ e. larger_group e no_group)) (λ new. or_group link (f new) group) (Either (f no_group) g))) (joined Or a b) group
+  either_stands : (o : Option Entry) → Each o (IsEntry link b)
+      → Stands link (choice (with o (λ e. larger_group e group)) f
+      (choice (with o (λ e. larger_group e no_group)) (λ new. or_group link (f new) group) (Either (f no_group) g))) (joined Or a b) group
   either_stands None is = parted
   either_stands (Some e) is = or_member e is (larger_group e group) (larger_group e no_group) refl refl
 
 -- members that are looked for together change neither the reading nor what is counted
-pub grouped_stands : (link : Link) (a : TruthTree) (group : Group) → Kept group → any_primitive is_unfilled a ≡ false → Stands link (grouped_formula link group a) a group
+pub grouped_stands : (link : Link) (a : TruthTree) (group : Group) → Kept group → any_primitive is_unfilled a ≡ false
+    → Stands link (grouped_formula link group a) a group
 grouped_stands link (check p) group k u = or_stands link (check_formula link p) (check p) group k (bare_check link p) (λ q n. refl)
 grouped_stands link (cast p c) group k u = or_stands link (cast_formula link p c) (cast p c) group k (bare_cast link p c) (λ q n. refl)
 grouped_stands link (sized s n) group k u = or_stands link (sized_formula s n) (sized s n) group k (sized_sizes s n) (λ p m. refl)
 grouped_stands link (bare v) group k u = cc
 grouped_stands link (valued q v) group k u = cc
 grouped_stands link (qualified q v) group k u =
-    leaf_stands link (qualified q v) (qualified_needed link q v) group k (bare_needed link q.value_type q.protocol q.direction v) (λ p n. value_same link p n q.value_type q.protocol q.direction v) (Some (entry q v)) (entry_is link (qualified q v))
+    leaf_stands link (qualified q v) (qualified_needed link q v) group k (bare_needed link q.value_type q.protocol q.direction v)
+    (λ p n. value_same link p n q.value_type q.protocol q.direction v) (Some (entry q v)) (entry_is link (qualified q v))
 grouped_stands link (compared c l r) group k u =
-    leaf_stands link (compared c l r) (relation_formula link c l r) group k (relation_sizes link c l r) (λ p n. relation_same link p n c l r) (entry_of (compared c l r)) (entry_is link (compared c l r))
+    leaf_stands link (compared c l r) (relation_formula link c l r) group k (relation_sizes link c l r) (λ p n. relation_same link p n c l r)
+    (entry_of (compared c l r)) (entry_is link (compared c l r))
 grouped_stands link (denied a) group k u =
     let h = grouped_stands link a no_group kept_none u in
-    or_stands link (Except (grouped_formula link no_group a)) (denied a) group k (record { nodes_fit = h.nodes_fit; words_fit = h.words_fit; searches = h.searches; tests_fit = omega (arith, h.tests_fit) }) (λ p n. ap negation (h.reads_are p n ∙ or_no _))
+    or_stands link (Except (grouped_formula link no_group a)) (denied a) group k
+    (record { nodes_fit = h.nodes_fit; words_fit = h.words_fit; searches = h.searches; tests_fit = omega (arith, h.tests_fit) })
+    (λ p n. ap negation (h.reads_are p n ∙ or_no _))
 grouped_stands link (joined And a b) group k u =
     let parts = or_parts (any_primitive is_unfilled a) (any_primitive is_unfilled b) u in
     let h = grouped_stands link a no_group kept_none parts.0 in
     let g = grouped_stands link b no_group kept_none parts.1 in
-    or_stands link (Both (grouped_formula link no_group a) (grouped_formula link no_group b)) (joined And a b) group k (bare_within _ (omega arith) (bare_both h.counts g.counts)) (λ p n. ap₂ both (h.reads_are p n ∙ or_no _) (g.reads_are p n ∙ or_no _))
+    or_stands link (Both (grouped_formula link no_group a) (grouped_formula link no_group b)) (joined And a b) group k
+    (bare_within _ (omega arith) (bare_both h.counts g.counts)) (λ p n. ap₂ both (h.reads_are p n ∙ or_no _) (g.reads_are p n ∙ or_no _))
 grouped_stands link (joined Or a b) group k u =
-    either_stands link a b group k (λ more. grouped_formula link more a) (grouped_formula link group b) (λ more j. grouped_stands link a more j (or_parts _ _ u).0) (grouped_stands link b group k (or_parts _ _ u).1) (entry_of b) (entry_is link b)
+    either_stands link a b group k (λ more. grouped_formula link more a) (grouped_formula link group b)
+    (λ more j. grouped_stands link a more j (or_parts _ _ u).0) (grouped_stands link b group k (or_parts _ _ u).1) (entry_of b) (entry_is link b)

@@ -2,7 +2,19 @@
 -- no jump, and no more instructions and branches than are counted.
 use Rattle.flt_gen.proofs.Ascending.{if_case, Searchable, Reached, Ready, Searches, length_without, ends_few}
 use Rattle.flt_bpf.proofs.Codes.{code_is}
-use Rattle.flt_gen.proofs.Common.{and_parts, accessor_offset, alu_operation, ◌≡◌, ℕ, zero, suc, ◌+◌, ◌-◌, ◌*◌, ◌/◌, ◌<◌, ◌≤◌, List, [], ◌∷◌, length, take, drop, Bool, true, false, cond, Option, Some, None, refl, sym, ap, ◌∙◌, arith, length-drop, length-take, ◌≢◌, nat_lt, nat_le, ◌==◌, not, ◌&&◌, if◌then◌else◌, count_by, nat_tests, sum_by-cons, All-cons, Insn, Operand, Constant, IndexRegister, Operation, LoadAbsolute, LoadIndirect, Load, LoadHeaderLength, Store, Compute, Negate, Jump, JumpIf, CopyToIndex, Word, Accumulator, Index, Immediate, Memory, Length, Test, Width, fault_if_known, operation_fault, unless, ends_in_return, IsValidUnlessLong, code_of, is_branch, JUMP, HasNoJump, Comparison, Equal, NotEqual, Less, AtMost, Greater, AtLeast, Operator, Protocol, Tcp, Udp, Icmp, number_words, number_size, NumberTree, literal, len, named, load, negated, applied, Link, network_offset, Interval, Elementary, Outcome, Field, Offset, Fixed, AfterHeader, width_of, Formula, Single, Compare, Both, Either, Except, Split, Sought, Numbers, Sides, Direction, Source, Destination, And, Or, max, subst, plain, computation, takes_constant, constant, constant_operand, branch_insn, emit_branch, emit_comparison, emit_field, emit_mask, emit_accessor, emit_base, emit_number, Block, at_top, emit_interval, emit_chain, are_few, low_of, MOST_HALVINGS, emit_elementary, emit_formula, emit_masked, emit_side, emit_others, emit_few, emit_index, emit_at_index, emit_many, fewest_at_index, are_at_index, emit_among, words, nodes, first_ends, sought_tests, tests}
+use Rattle.flt_gen.proofs.Common.{and_parts, accessor_offset, alu_operation, ◌≡◌, ℕ, zero, suc, ◌+◌, ◌-◌, ◌*◌, ◌/◌, ◌<◌, ◌≤◌, List, [], ◌∷◌, length, take, drop}
+use Rattle.flt_gen.proofs.Common.{Bool, true, false, cond, Option, Some, None, refl, sym, ap, ◌∙◌, arith, length-drop, length-take, ◌≢◌, nat_lt, nat_le, ◌==◌}
+use Rattle.flt_gen.proofs.Common.{not, ◌&&◌, if◌then◌else◌, count_by, nat_tests, sum_by-cons, All-cons, Insn, Operand, Constant, IndexRegister, Operation}
+use Rattle.flt_gen.proofs.Common.{LoadAbsolute, LoadIndirect, Load, LoadHeaderLength, Store, Compute, Negate, Jump, JumpIf, CopyToIndex, Word, Accumulator}
+use Rattle.flt_gen.proofs.Common.{Index, Immediate, Memory, Length, Test, Width, fault_if_known, operation_fault, unless, ends_in_return, IsValidUnlessLong}
+use Rattle.flt_gen.proofs.Common.{code_of, is_branch, JUMP, HasNoJump, Comparison, Equal, NotEqual, Less, AtMost, Greater, AtLeast, Operator, Protocol, Tcp}
+use Rattle.flt_gen.proofs.Common.{Udp, Icmp, number_words, number_size, NumberTree, literal, len, named, load, negated, applied, Link, network_offset, Interval}
+use Rattle.flt_gen.proofs.Common.{Elementary, Outcome, Field, Offset, Fixed, AfterHeader, width_of, Formula, Single, Compare, Both, Either, Except, Split}
+use Rattle.flt_gen.proofs.Common.{Sought, Numbers, Sides, Direction, Source, Destination, And, Or, max, subst, plain, computation, takes_constant, constant}
+use Rattle.flt_gen.proofs.Common.{constant_operand, branch_insn, emit_branch, emit_comparison, emit_field, emit_mask, emit_accessor, emit_base, emit_number}
+use Rattle.flt_gen.proofs.Common.{Block, at_top, emit_interval, emit_chain, are_few, low_of, MOST_HALVINGS, emit_elementary, emit_formula, emit_masked}
+use Rattle.flt_gen.proofs.Common.{emit_side, emit_others, emit_few, emit_index, emit_at_index, emit_many, fewest_at_index, are_at_index, emit_among, words}
+use Rattle.flt_gen.proofs.Common.{nodes, first_ends, sought_tests, tests}
 use Rattle.flt_gen.proofs.Numbers.{operand_is}
 use Rattle.flt_gen.proofs.Leads.{Extends, extends_none, extends_put, extends_on, by_operand}
 use Rattle.flt_bpf.specs.{Check.constant_fault, Check.fault_of, Instructions.operation_of}
@@ -38,7 +50,8 @@ branch_count : (o : Operation) (i : Insn) (c : List Insn) → i.code ≡ code_of
 branch_count o i c e =
     sum_by-cons (λ j. cond (is_branch (operation_of j.code)) 1 0) i c ∙ ap (λ x. cond (is_branch x) 1 0 + branches c) (ap operation_of e ∙ code_is o)
 
-sound_put : (o : Operation) (i : Insn) (c : List Insn) → i.code ≡ code_of o → jumps (Some o) ≡ false → operation_fault o i (length c) ≡ None → Sound c → Sound (i ∷ c)
+sound_put : (o : Operation) (i : Insn) (c : List Insn) → i.code ≡ code_of o → jumps (Some o) ≡ false → operation_fault o i (length c) ≡ None → Sound c
+    → Sound (i ∷ c)
 unfolding fault_of
 sound_put o i c e other f s = record {
   valid = record {
@@ -83,7 +96,8 @@ ends_some (i ∷ c) e = omega arith
 top_inside : (c : List Insn) → Sound c → Inside c (length c)
 top_inside c s = record { low = ends_some c s.valid.ends; upper_bound = omega arith }
 
-branch_sound : (t : Test) (operand : Operand) (k hit miss : ℕ) (c : List Insn) (b : Bool) → Asked b (Sound c) → Asked b (Inside c hit) → Asked b (Inside c miss) → Asked b (Sound (emit_branch t operand k hit miss c))
+branch_sound : (t : Test) (operand : Operand) (k hit miss : ℕ) (c : List Insn) (b : Bool) → Asked b (Sound c) → Asked b (Inside c hit)
+    → Asked b (Inside c miss) → Asked b (Sound (emit_branch t operand k hit miss c))
 branch_sound t operand k hit miss c false s h m = tt
 branch_sound t operand k hit miss c true s h m =
     let f = passes_both (length c - hit) (length c - miss) (length c) JumpOut (omega (arith, h.low, h.upper_bound)) (omega (arith, m.low, m.upper_bound)) in
@@ -98,7 +112,8 @@ pub record FitsBy (b : Bool) (c : List Insn) (e : Block) (m w : ℕ) : Type 0 wh
 word_fine : (k : ℕ) → k < 16 → unless (nat_lt k 16) NoSuchWord ≡ None
 word_fine k l = let t : nat_lt k 16 ≡ true = grind (arith, nat_tests) in ap (λ b. unless b NoSuchWord) t
 
-constant_fine : (operator : Operator) (k m : ℕ) → takes_constant operator k ≡ true → operation_fault (computation operator Constant) (plain (computation operator Constant) k) m ≡ None
+constant_fine : (operator : Operator) (k m : ℕ) → takes_constant operator k ≡ true → operation_fault (computation operator Constant)
+    (plain (computation operator Constant) k) m ≡ None
 constant_fine operator k m t = none_is (constant_fault (alu_operation operator) k) t
   where
     none_is : (o : Option CheckFault) → is_none o ≡ true → o ≡ None
@@ -155,7 +170,8 @@ module _ (b : Bool) where
   grows_more : {c d : List Insn} {m w : ℕ} (m' w' : ℕ) → m ≤ m' → w ≤ w' → GrowsBy b c d m w → GrowsBy b c d m' w'
   grows_more m' w' lm lw g = record { sound = g.sound; tail = g.tail; shorter = omega (arith, g.shorter); lighter = omega (arith, g.lighter) }
 
-  grows_put : {c d : List Insn} {m w : ℕ} (o : Operation) (k : ℕ) → jumps (Some o) ≡ false → is_branch (Some o) ≡ false → operation_fault o (plain o k) (length d) ≡ None → GrowsBy b c d m w → GrowsBy b c (plain o k ∷ d) (m + 1) (w + 1)
+  grows_put : {c d : List Insn} {m w : ℕ} (o : Operation) (k : ℕ) → jumps (Some o) ≡ false → is_branch (Some o) ≡ false
+      → operation_fault o (plain o k) (length d) ≡ None → GrowsBy b c d m w → GrowsBy b c (plain o k ∷ d) (m + 1) (w + 1)
   grows_put {d = d} o k j p f g =
       let n : branches (plain o k ∷ d) ≡ 0 + branches d = branch_count o (plain o k) d refl ∙ ap (λ x. cond x 1 0 + branches d) p in
       record {
@@ -169,7 +185,8 @@ module _ (b : Bool) where
   inside_on {c = c} place g =
       asked b (λ (h : Inside c place). record { low = h.low; upper_bound = omega (arith, g.tail.longer, h.upper_bound) })
 
-  pub branch_grows : (t : Test) (operand : Operand) (k hit miss : ℕ) (c : List Insn) → Asked b (Sound c) → Asked b (Inside c hit) → Asked b (Inside c miss) → GrowsBy b c (emit_branch t operand k hit miss c) 1 3
+  pub branch_grows : (t : Test) (operand : Operand) (k hit miss : ℕ) (c : List Insn) → Asked b (Sound c) → Asked b (Inside c hit)
+      → Asked b (Inside c miss) → GrowsBy b c (emit_branch t operand k hit miss c) 1 3
   branch_grows t operand k hit miss c s h m =
       let i = branch_insn t operand k (length c - hit) (length c - miss) in
       let n : branches (i ∷ c) ≡ 1 + branches c = branch_count (JumpIf t operand) i c refl in
@@ -180,7 +197,8 @@ module _ (b : Bool) where
         lighter = omega arith;
       }
 
-  comparison_grows : (comparison : Comparison) (operand : Operand) (k hit miss : ℕ) (c : List Insn) → Asked b (Sound c) → Asked b (Inside c hit) → Asked b (Inside c miss) → GrowsBy b c (emit_comparison comparison operand k hit miss c) 1 3
+  comparison_grows : (comparison : Comparison) (operand : Operand) (k hit miss : ℕ) (c : List Insn) → Asked b (Sound c) → Asked b (Inside c hit)
+      → Asked b (Inside c miss) → GrowsBy b c (emit_comparison comparison operand k hit miss c) 1 3
   comparison_grows Equal operand k hit miss c s h m = branch_grows Test.Equal operand k hit miss c s h m
   comparison_grows NotEqual operand k hit miss c s h m = branch_grows Test.Equal operand k miss hit c s m h
   comparison_grows Less operand k hit miss c s h m = branch_grows Test.AtLeast operand k miss hit c s m h
@@ -201,22 +219,26 @@ module _ (b : Bool) where
   base_grows at width g =
       grows_more _ _ (omega arith) (omega arith) (grows_put CopyToIndex 0 refl refl refl (grows_put (LoadIndirect width) at refl refl refl g))
 
-  transport_grows : (at : ℕ) (width : Width) {c d : List Insn} {m w : ℕ} → GrowsBy b c d m w → GrowsBy b c (plain LoadHeaderLength at ∷ plain (Compute AluOperation.Add IndexRegister) 0 ∷ emit_base at width d) (m + 4) (w + 4)
+  transport_grows : (at : ℕ) (width : Width) {c d : List Insn} {m w : ℕ} → GrowsBy b c d m w
+      → GrowsBy b c (plain LoadHeaderLength at ∷ plain (Compute AluOperation.Add IndexRegister) 0 ∷ emit_base at width d) (m + 4) (w + 4)
   transport_grows at width g =
       grows_more _ _ (omega arith) (omega arith)
       (grows_put LoadHeaderLength at refl refl refl (grows_put (Compute AluOperation.Add IndexRegister) 0 refl refl refl (base_grows at width g)))
 
-  accessor_grows : (link : Link) (protocol : Protocol) (width : Width) {c d : List Insn} {m w : ℕ} → GrowsBy b c d m w → GrowsBy b c (emit_accessor link protocol width d) (m + 4) (w + 4)
+  accessor_grows : (link : Link) (protocol : Protocol) (width : Width) {c d : List Insn} {m w : ℕ} → GrowsBy b c d m w
+      → GrowsBy b c (emit_accessor link protocol width d) (m + 4) (w + 4)
   accessor_grows link Tcp width g = transport_grows (network_offset link) width g
   accessor_grows link Udp width g = transport_grows (network_offset link) width g
   accessor_grows link Icmp width g = transport_grows (network_offset link) width g
   accessor_grows link _ width g = grows_more _ _ (omega arith) (omega arith) (base_grows _ width g)
 
   -- the two operands are in A and X
-  operands_grow : {c d : List Insn} {m w : ℕ} (slot : ℕ) → slot < 16 → GrowsBy b c d m w → GrowsBy b c (plain CopyToIndex 0 ∷ plain (Load Accumulator Memory) slot ∷ d) (m + 1 + 1) (w + 1 + 1)
+  operands_grow : {c d : List Insn} {m w : ℕ} (slot : ℕ) → slot < 16 → GrowsBy b c d m w
+      → GrowsBy b c (plain CopyToIndex 0 ∷ plain (Load Accumulator Memory) slot ∷ d) (m + 1 + 1) (w + 1 + 1)
   operands_grow slot l g = grows_put CopyToIndex 0 refl refl refl (grows_put (Load Accumulator Memory) slot refl refl (word_fine slot l) g)
 
-  number_grows : (link : Link) (e : NumberTree) (slot : ℕ) {c d : List Insn} {m w : ℕ} → slot + number_words e ≤ 16 → GrowsBy b c d m w → GrowsBy b c (emit_number link e slot d) (m + 6 * number_size e) (w + 6 * number_size e)
+  number_grows : (link : Link) (e : NumberTree) (slot : ℕ) {c d : List Insn} {m w : ℕ} → slot + number_words e ≤ 16 → GrowsBy b c d m w
+      → GrowsBy b c (emit_number link e slot d) (m + 6 * number_size e) (w + 6 * number_size e)
   number_grows link (literal k) slot few g = grows_more _ _ (omega arith) (omega arith) (grows_put (Load Accumulator Immediate) k refl refl refl g)
   number_grows link (named k) slot few g = grows_more _ _ (omega arith) (omega arith) (grows_put (Load Accumulator Immediate) k refl refl refl g)
   number_grows link len slot few g = grows_more _ _ (omega arith) (omega arith) (grows_put (Load Accumulator Length) 0 refl refl refl g)
@@ -230,7 +252,8 @@ module _ (b : Bool) where
       grows_more _ _ (omega arith) (omega arith)
       (number_grows link l slot (omega arith)
       (by_operand (λ code. GrowsBy b c code (m + 4 + 6 * number_size r) (w + 4 + 6 * number_size r)) (constant_operand operator r) _ _
-      (λ k is. grows_more _ _ (omega arith) (omega arith) (grows_put (computation operator Constant) k refl refl (constant_fine operator k (length d) (operand_is operator r k is).taken) g))
+      (λ k is. grows_more _ _ (omega arith) (omega arith)
+      (grows_put (computation operator Constant) k refl refl (constant_fine operator k (length d) (operand_is operator r k is).taken) g))
       (grows_more _ _ (omega arith) (omega arith)
       (grows_put (Store Accumulator) slot refl refl (word_fine slot (omega arith))
       (number_grows link r (slot + 1) (omega arith)
@@ -254,35 +277,42 @@ module _ (b : Bool) where
     entry = f.entry;
   }
 
-  elementary_fits : (t : Elementary) (hit miss : ℕ) (c : List Insn) → Asked b (Sound c) → Asked b (Inside c hit) → Asked b (Inside c miss) → FitsBy b c (emit_elementary t hit miss c) 4 6
+  elementary_fits : (t : Elementary) (hit miss : ℕ) (c : List Insn) → Asked b (Sound c) → Asked b (Inside c hit) → Asked b (Inside c miss)
+      → FitsBy b c (emit_elementary t hit miss c) 4 6
   elementary_fits (Outcome true) hit miss c s h m = record { grows = grows_more _ _ (omega arith) (omega arith) (none_by s); entry = h }
   elementary_fits (Outcome false) hit miss c s h m = record { grows = grows_more _ _ (omega arith) (omega arith) (none_by s); entry = m }
   elementary_fits (Field t) hit miss c s h m =
       fits_top (field_grows t.offset t.width (mask_grows t.mask (comparison_grows t.comparison Constant t.value hit miss c s h m)))
 
-  branch_fits : {c : List Insn} {m w : ℕ} (t : Test) (k hit miss : ℕ) (d : List Insn) → GrowsBy b c d m w → Asked b (Inside d hit) → Asked b (Inside d miss) → FitsBy b c (at_top (emit_branch t Constant k hit miss d)) (m + 1) (w + 3)
+  branch_fits : {c : List Insn} {m w : ℕ} (t : Test) (k hit miss : ℕ) (d : List Insn) → GrowsBy b c d m w → Asked b (Inside d hit)
+      → Asked b (Inside d miss) → FitsBy b c (at_top (emit_branch t Constant k hit miss d)) (m + 1) (w + 3)
   branch_fits t k hit miss d g h m = fits_on g (fits_top (branch_grows t Constant k hit miss d g.sound h m))
 
   abbrev Searched : List Insn → Block → ℕ → Type 0
   Searched c e n = FitsBy b c e n (3 * n)
 
-  pub interval_fits : (from : Bool) (i : Interval) (is : List Interval) (hit miss : ℕ) (c : List Insn) → Asked b (Sound c) → Asked b (Inside c hit) → Asked b (Inside c miss) → Searched c (emit_interval from i hit miss c) (1 + first_more from (i ∷ is))
+  pub interval_fits : (from : Bool) (i : Interval) (is : List Interval) (hit miss : ℕ) (c : List Insn) → Asked b (Sound c) → Asked b (Inside c hit)
+      → Asked b (Inside c miss) → Searched c (emit_interval from i hit miss c) (1 + first_more from (i ∷ is))
   interval_fits from i is hit miss c s h m = by (i.low == i.high) refl
     where
       above : FitsBy b c (at_top (emit_branch Test.Greater Constant i.high miss hit c)) 1 3
       above = branch_fits Test.Greater i.high miss hit c (none_by s) m h
 
-      range : (from : Bool) → (i.low == i.high) ≡ false → Searched c (let e = at_top (emit_branch Test.Greater Constant i.high miss hit c) in if from then e else at_top (emit_branch Test.AtLeast Constant i.low e.entry miss e.code)) (1 + first_more from (i ∷ is))
+      range : (from : Bool) → (i.low == i.high) ≡ false → Searched c (let e = at_top (emit_branch Test.Greater Constant i.high miss hit c) in
+          if from then e else at_top (emit_branch Test.AtLeast Constant i.low e.entry miss e.code)) (1 + first_more from (i ∷ is))
       range true e = more_by _ _ (omega arith) (omega arith) above
       range false e =
           let two : first_more false (i ∷ is) ≡ 1 = ap (λ b. if b then 0 else 1) e in
           more_by _ _ (omega arith) (omega arith) (branch_fits Test.AtLeast i.low _ miss _ above.grows above.entry (inside_on _ above.grows m))
 
-      by : (equal : Bool) → (i.low == i.high) ≡ equal → Searched c (if equal then at_top (emit_branch Test.Equal Constant i.low hit miss c) else (let e = at_top (emit_branch Test.Greater Constant i.high miss hit c) in if from then e else at_top (emit_branch Test.AtLeast Constant i.low e.entry miss e.code))) (1 + first_more from (i ∷ is))
+      by : (equal : Bool) → (i.low == i.high) ≡ equal → Searched c (if equal then at_top (emit_branch Test.Equal Constant i.low hit miss c) else
+          (let e = at_top (emit_branch Test.Greater Constant i.high miss hit c) in if from then e else at_top
+          (emit_branch Test.AtLeast Constant i.low e.entry miss e.code))) (1 + first_more from (i ∷ is))
       by true e = more_by _ _ (omega arith) (omega arith) (branch_fits Test.Equal i.low hit miss c (none_by s) h m)
       by false e = range from e
 
-  pub chain_fits : (from : Bool) (is : List Interval) (hit miss : ℕ) (c : List Insn) → Asked b (Sound c) → Asked b (Inside c hit) → Asked b (Inside c miss) → Searched c (emit_chain from is hit miss c) (2 * length is - 1 + first_more from is)
+  pub chain_fits : (from : Bool) (is : List Interval) (hit miss : ℕ) (c : List Insn) → Asked b (Sound c) → Asked b (Inside c hit)
+      → Asked b (Inside c miss) → Searched c (emit_chain from is hit miss c) (2 * length is - 1 + first_more from is)
   chain_fits from [] hit miss c s h m = more_by _ _ (omega arith) (omega arith) (record { grows = none_by s; entry = m })
   chain_fits from (i ∷ is) hit miss c s h m =
       let e = emit_chain false is hit miss c in
@@ -290,7 +320,8 @@ module _ (b : Bool) where
       let few = rest_few is in
       more_by _ _ (omega arith) (omega arith) (fits_on f.grows (interval_fits from i is hit e.entry e.code f.grows.sound (inside_on _ f.grows h) f.entry))
 
-  pub search_fits : (k : ℕ) (from : Bool) (is : List Interval) (hit miss : ℕ) (c : List Insn) → Asked b (Sound c) → Asked b (Inside c hit) → Asked b (Inside c miss) → Searched c (emit_search k from is hit miss c) (2 * length is - 1 + first_more from is)
+  pub search_fits : (k : ℕ) (from : Bool) (is : List Interval) (hit miss : ℕ) (c : List Insn) → Asked b (Sound c) → Asked b (Inside c hit)
+      → Asked b (Inside c miss) → Searched c (emit_search k from is hit miss c) (2 * length is - 1 + first_more from is)
   unfolding emit_search
   search_fits zero from is hit miss c s h m = chain_fits from is hit miss c s h m
   search_fits (suc k) from is hit miss c s h m =
@@ -306,37 +337,49 @@ module _ (b : Bool) where
       (λ few. chain_fits from is hit miss c s h m)
       (λ many. let two = are_many is many in
       let first = first_of_half from half is (omega arith) in
-      more_by _ _ (omega arith) (omega arith) (branch_fits Test.AtLeast (low_of (drop half is)) upper.entry lower.entry lower.code both.grows (inside_on _ fl.grows fu.entry) fl.entry))
+      more_by _ _ (omega arith) (omega arith) (branch_fits Test.AtLeast (low_of (drop half is)) upper.entry lower.entry lower.code both.grows
+      (inside_on _ fl.grows fu.entry) fl.entry))
 
-  load_grows : (place : Offset) (width : Width) (mask : Option ℕ) → Lean mask place → {c d : List Insn} {m w : ℕ} → GrowsBy b c d m w → GrowsBy b c (emit_field place width (emit_mask mask d)) (m + 2) (w + 2)
+  load_grows : (place : Offset) (width : Width) (mask : Option ℕ) → Lean mask place → {c d : List Insn} {m w : ℕ} → GrowsBy b c d m w
+      → GrowsBy b c (emit_field place width (emit_mask mask d)) (m + 2) (w + 2)
   load_grows (Fixed k) width mask h g = grows_more _ _ (omega arith) (omega arith) (grows_put (LoadAbsolute width) k refl refl refl (mask_grows mask g))
   load_grows (AfterHeader header k) width mask h {c = c} {d = d} {m = m} {w = w} g =
       subst (λ o. GrowsBy b c (emit_field (AfterHeader header k) width (emit_mask o d)) (m + 2) (w + 2)) (sym h) (field_grows (AfterHeader header k) width g)
 
-  pub side_fits : (place : Offset) (width : Width) (mask : Option ℕ) (is : List Interval) (hit miss : ℕ) (c : List Insn) → Lean mask place → Asked b (Sound c) → Asked b (Inside c hit) → Asked b (Inside c miss) → FitsBy b c (emit_side place width mask is hit miss c) (searched is + 2) (3 * searched is + 2)
+  pub side_fits : (place : Offset) (width : Width) (mask : Option ℕ) (is : List Interval) (hit miss : ℕ) (c : List Insn) → Lean mask place
+      → Asked b (Sound c) → Asked b (Inside c hit) → Asked b (Inside c miss) → FitsBy b c (emit_side place width mask is hit miss c) (searched is + 2)
+      (3 * searched is + 2)
   side_fits place width mask is hit miss c l s h m = fits_top (load_grows place width mask l (search_fits MOST_HALVINGS false is hit miss c s h m).grows)
 
-  pub others_fits : (at : Sides) (numbers : Numbers) (is : List Interval) (hit miss : ℕ) (c : List Insn) → Lean numbers.mask at.source → Asked b (Sound c) → Asked b (Inside c hit) → Asked b (Inside c miss) → FitsBy b c (emit_others at numbers is hit miss c) (2 * length is + 2) (6 * length is + 2)
+  pub others_fits : (at : Sides) (numbers : Numbers) (is : List Interval) (hit miss : ℕ) (c : List Insn) → Lean numbers.mask at.source
+      → Asked b (Sound c) → Asked b (Inside c hit) → Asked b (Inside c miss) → FitsBy b c (emit_others at numbers is hit miss c) (2 * length is + 2)
+      (6 * length is + 2)
   others_fits at numbers [] hit miss c l s h m = more_by _ _ (omega arith) (omega arith) (record { grows = none_by s; entry = m })
   others_fits at numbers (i ∷ is) hit miss c l s h m =
       let few = ends_few (i ∷ is) in
       more_by _ _ (omega arith) (omega arith) (side_fits at.source at.width numbers.mask (i ∷ is) hit miss c l s h m)
 
-  few_fits : (at : Sides) (numbers : Numbers) (hit miss : ℕ) (c : List Insn) → Ready at numbers → Asked b (Sound c) → Asked b (Inside c hit) → Asked b (Inside c miss) → let t = 2 * max 1 (length numbers.all) + max (first_ends numbers.all) (first_ends (numbers.first ∷ [])) + 1 in FitsBy b c (emit_few at numbers hit miss c) (4 * t) (6 * t)
+  few_fits : (at : Sides) (numbers : Numbers) (hit miss : ℕ) (c : List Insn) → Ready at numbers → Asked b (Sound c) → Asked b (Inside c hit)
+      → Asked b (Inside c miss) → let t = 2 * max 1 (length numbers.all) + max (first_ends numbers.all) (first_ends (numbers.first ∷ [])) + 1 in
+      FitsBy b c (emit_few at numbers hit miss c) (4 * t) (6 * t)
   few_fits at numbers hit miss c r s h m =
       let lean = source_lean at.index numbers.mask at.source at.destination r.reached in
       let others = emit_others at numbers numbers.others hit miss c in
       let all = emit_side at.destination at.width numbers.mask numbers.all hit others.entry others.code in
       let fo = others_fits at numbers numbers.others hit miss c lean.0 s h m in
-      let fa = side_fits at.destination at.width numbers.mask numbers.all hit others.entry others.code lean.1 fo.grows.sound (inside_on _ fo.grows h) fo.entry in
-      let ff = side_fits at.source at.width numbers.mask (numbers.first ∷ []) hit all.entry all.code lean.0 fa.grows.sound (inside_on _ fa.grows (inside_on _ fo.grows h)) fa.entry in
+      let fa = side_fits at.destination at.width numbers.mask numbers.all hit others.entry others.code lean.1 fo.grows.sound (inside_on _ fo.grows h)
+      fo.entry in
+      let ff = side_fits at.source at.width numbers.mask (numbers.first ∷ []) hit all.entry all.code lean.0 fa.grows.sound
+      (inside_on _ fa.grows (inside_on _ fo.grows h)) fa.entry in
       let some = some_searched numbers.all r.all in
-      let fewer : length numbers.others ≤ length numbers.all = subst (λ (is : List Interval). length is ≤ length numbers.all) (sym r.others_are) (length_without numbers.first numbers.all) in
+      let fewer : length numbers.others ≤ length numbers.all = subst (λ (is : List Interval). length is ≤ length numbers.all) (sym r.others_are)
+      (length_without numbers.first numbers.all) in
       let one = ends_few (numbers.first ∷ []) in
       let two = ends_few numbers.all in
       more_by _ _ (omega arith) (omega arith) (fits_on (fits_on fo.grows fa).grows ff)
 
-  pub at_index_grows : (place : Offset) (width : Width) (index : ℕ) {c d : List Insn} {m w : ℕ} → GrowsBy b c d m w → GrowsBy b c (emit_at_index place width index d) (m + 1) (w + 1)
+  pub at_index_grows : (place : Offset) (width : Width) (index : ℕ) {c d : List Insn} {m w : ℕ} → GrowsBy b c d m w
+      → GrowsBy b c (emit_at_index place width index d) (m + 1) (w + 1)
   at_index_grows (Fixed k) width index g = grows_put (LoadIndirect width) (k - index) refl refl refl g
   at_index_grows (AfterHeader header k) width index g = grows_put (LoadIndirect width) k refl refl refl g
 
@@ -344,31 +387,41 @@ module _ (b : Bool) where
   index_grows (Fixed k) index g = grows_put (Load Index Immediate) index refl refl refl g
   index_grows (AfterHeader header k) index g = grows_put LoadHeaderLength header refl refl refl g
 
-  pub masked_grows : (mask : Option ℕ) (is : List Interval) (hit miss : ℕ) (c : List Insn) → Asked b (Sound c) → Asked b (Inside c hit) → Asked b (Inside c miss) → GrowsBy b c (emit_masked mask is hit miss c) (searched is + 1) (3 * searched is + 1)
+  pub masked_grows : (mask : Option ℕ) (is : List Interval) (hit miss : ℕ) (c : List Insn) → Asked b (Sound c) → Asked b (Inside c hit)
+      → Asked b (Inside c miss) → GrowsBy b c (emit_masked mask is hit miss c) (searched is + 1) (3 * searched is + 1)
   masked_grows mask is hit miss c s h m = mask_grows mask (search_fits MOST_HALVINGS false is hit miss c s h m).grows
 
-  many_fits : (at : Sides) (numbers : Numbers) (hit miss : ℕ) (c : List Insn) → Ready at numbers → Asked b (Sound c) → Asked b (Inside c hit) → Asked b (Inside c miss) → let t = 2 * max 1 (length numbers.all) + max (first_ends numbers.all) (first_ends (numbers.first ∷ [])) + 2 in FitsBy b c (emit_many at numbers hit miss c) (4 * t) (6 * t)
+  many_fits : (at : Sides) (numbers : Numbers) (hit miss : ℕ) (c : List Insn) → Ready at numbers → Asked b (Sound c) → Asked b (Inside c hit)
+      → Asked b (Inside c miss) → let t = 2 * max 1 (length numbers.all) + max (first_ends numbers.all) (first_ends (numbers.first ∷ [])) + 2 in
+      FitsBy b c (emit_many at numbers hit miss c) (4 * t) (6 * t)
   many_fits at numbers hit miss c r s h m =
       let none = emit_at_index at.destination at.width at.index (emit_masked numbers.mask numbers.all hit miss c) in
       let later = emit_at_index at.destination at.width at.index (emit_branch Test.AtLeast Constant 0 hit miss none) in
       let one = emit_interval false numbers.first hit (length later) later in
       let fn = fits_top (at_index_grows at.destination at.width at.index (masked_grows numbers.mask numbers.all hit miss c s h m)) in
       let hn = inside_on _ fn.grows h in
-      let fl = fits_top (at_index_grows at.destination at.width at.index (branch_grows Test.AtLeast Constant 0 hit miss none fn.grows.sound hn (inside_on _ fn.grows m))) in
+      let fl = fits_top (at_index_grows at.destination at.width at.index (branch_grows Test.AtLeast Constant 0 hit miss none fn.grows.sound hn
+      (inside_on _ fn.grows m))) in
       let fi = interval_fits false numbers.first [] hit (length later) later fl.grows.sound (inside_on _ fl.grows hn) fl.entry in
-      let fs = fits_top (index_grows at.source at.index (at_index_grows at.source at.width at.index (masked_grows numbers.mask numbers.all one.entry (length none) one.code fi.grows.sound fi.entry (inside_on _ fi.grows (inside_on _ fl.grows fn.entry))))) in
+      let fs = fits_top (index_grows at.source at.index
+      (at_index_grows at.source at.width at.index (masked_grows numbers.mask numbers.all one.entry (length none) one.code fi.grows.sound fi.entry
+      (inside_on _ fi.grows (inside_on _ fl.grows fn.entry))))) in
       let some = some_searched numbers.all r.all in
       let one_more = ends_few (numbers.first ∷ []) in
       let two = ends_few numbers.all in
       more_by _ _ (omega arith) (omega arith) (fits_on (fits_on (fits_on fn.grows fl).grows fi).grows fs)
 
-  among_fits : (d : Direction) (at : Sides) (numbers : Numbers) (hit miss : ℕ) (c : List Insn) → Ready at numbers → Asked b (Sound c) → Asked b (Inside c hit) → Asked b (Inside c miss) → FitsBy b c (emit_among d at numbers hit miss c) (4 * sought_tests d numbers) (6 * sought_tests d numbers)
+  among_fits : (d : Direction) (at : Sides) (numbers : Numbers) (hit miss : ℕ) (c : List Insn) → Ready at numbers → Asked b (Sound c)
+      → Asked b (Inside c hit) → Asked b (Inside c miss) → FitsBy b c (emit_among d at numbers hit miss c) (4 * sought_tests d numbers)
+      (6 * sought_tests d numbers)
   among_fits (Direction.One Source) at numbers hit miss c r s h m =
       let some = some_searched numbers.all r.all in
-      more_by _ _ (omega arith) (omega arith) (side_fits at.source at.width numbers.mask numbers.all hit miss c (source_lean at.index numbers.mask at.source at.destination r.reached).0 s h m)
+      more_by _ _ (omega arith) (omega arith) (side_fits at.source at.width numbers.mask numbers.all hit miss c
+      (source_lean at.index numbers.mask at.source at.destination r.reached).0 s h m)
   among_fits (Direction.One Destination) at numbers hit miss c r s h m =
       let some = some_searched numbers.all r.all in
-      more_by _ _ (omega arith) (omega arith) (side_fits at.destination at.width numbers.mask numbers.all hit miss c (source_lean at.index numbers.mask at.source at.destination r.reached).1 s h m)
+      more_by _ _ (omega arith) (omega arith) (side_fits at.destination at.width numbers.mask numbers.all hit miss c
+      (source_lean at.index numbers.mask at.source at.destination r.reached).1 s h m)
   among_fits (Direction.Both And) at numbers hit miss c r s h m = more_by _ _ (omega arith) (omega arith) (record { grows = none_by s; entry = m })
   among_fits (Direction.Both Or) at numbers hit miss c r s h m = by (are_at_index at numbers) refl
     where
@@ -378,13 +431,17 @@ module _ (b : Bool) where
       t : ℕ
       t = 2 * max 1 (length numbers.all) + max (first_ends numbers.all) (first_ends (numbers.first ∷ []))
 
-      by : (many : Bool) → are_at_index at numbers ≡ many → FitsBy b c (if many then emit_many at numbers hit miss c else emit_few at numbers hit miss c) (4 * (t + more)) (6 * (t + more))
-      by true e = subst (λ five. let k = t + (if five then 2 else 1) in FitsBy b c (emit_many at numbers hit miss c) (4 * k) (6 * k)) (sym (at_index_many at.width (numbers.first.low == numbers.first.high) (length numbers.all) (and_parts (not at.is_alone) _ e).1)) (many_fits at numbers hit miss c r s h m)
+      by : (many : Bool) → are_at_index at numbers ≡ many → FitsBy b c (if many then emit_many at numbers hit miss c else emit_few at numbers hit miss
+          c) (4 * (t + more)) (6 * (t + more))
+      by true e = subst (λ five. let k = t + (if five then 2 else 1) in FitsBy b c (emit_many at numbers hit miss c) (4 * k) (6 * k))
+          (sym (at_index_many at.width (numbers.first.low == numbers.first.high) (length numbers.all) (and_parts (not at.is_alone) _ e).1))
+          (many_fits at numbers hit miss c r s h m)
       by false e =
           let one : 1 ≤ more = if_case (λ k. 1 ≤ k) (nat_le 5 (length numbers.all)) 2 1 (λ f. omega arith) (λ f. omega arith) in
           more_by _ _ (omega arith) (omega arith) (few_fits at numbers hit miss c r s h m)
 
-  pub emitted_by : (link : Link) (f : Formula) (hit miss : ℕ) (c : List Insn) → words f ≤ 16 → Searches f → Asked b (Sound c) → Asked b (Inside c hit) → Asked b (Inside c miss) → FitsBy b c (emit_formula link f hit miss c) (4 * tests f + 6 * nodes f) (6 * (tests f + nodes f))
+  pub emitted_by : (link : Link) (f : Formula) (hit miss : ℕ) (c : List Insn) → words f ≤ 16 → Searches f → Asked b (Sound c) → Asked b (Inside c hit)
+      → Asked b (Inside c miss) → FitsBy b c (emit_formula link f hit miss c) (4 * tests f + 6 * nodes f) (6 * (tests f + nodes f))
   emitted_by link (Single t) hit miss c few up s h m = more_by _ _ (omega arith) (omega arith) (elementary_fits t hit miss c s h m)
   emitted_by link (Compare comparison l r) hit miss c few up s h m =
       more_by _ _ (omega arith) (omega arith)
@@ -412,6 +469,7 @@ module _ (b : Bool) where
       let yes = emit_formula link x hit miss no.code in
       let f = emitted_by link y hit miss c (omega arith) up.1 s h m in
       let g = emitted_by link x hit miss no.code (omega arith) up.0 f.grows.sound (inside_on _ f.grows h) (inside_on _ f.grows m) in
-      more_by _ _ (omega arith) (omega arith) (fits_on (fits_on f.grows g).grows (elementary_fits t yes.entry no.entry yes.code g.grows.sound g.entry (inside_on _ g.grows f.entry)))
+      more_by _ _ (omega arith) (omega arith)
+      (fits_on (fits_on f.grows g).grows (elementary_fits t yes.entry no.entry yes.code g.grows.sound g.entry (inside_on _ g.grows f.entry)))
   emitted_by link (Sought d at numbers) hit miss c few r s h m =
       more_by _ _ (omega arith) (omega arith) (among_fits d at numbers hit miss c r s h m)

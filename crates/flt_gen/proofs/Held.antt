@@ -1,5 +1,6 @@
 -- The nodes of a tree that are held, and put back.
-use Rattle.flt_gen.proofs.Common.{◌≡◌, ℕ, suc, ◌+◌, List, [], ◌∷◌, refl, ap, ◌∙◌, arith, Node, NumberTree, load, negated, applied, TruthTree, compared, denied, joined, number_nodes, truth_nodes, number_onto, truth_onto, hold, put_back}
+use Rattle.flt_gen.proofs.Common.{◌≡◌, ℕ, suc, ◌+◌, List, [], ◌∷◌, refl, ap, ◌∙◌, arith, Node, NumberTree, load, negated, applied, TruthTree, compared, denied}
+use Rattle.flt_gen.proofs.Common.{joined, number_nodes, truth_nodes, number_onto, truth_onto, hold, put_back}
 
 pub one_more : (need : ℕ) → need + 1 ≡ suc need
 one_more need = omega arith

@@ -1,6 +1,7 @@
 -- Code that grew in front still stands at its end; what its first instruction does; and where it
 -- leads: its answer from a place on.
-use Rattle.flt_gen.proofs.Common.{constant_or, ◌≡◌, ℕ, suc, ◌-◌, ◌≤◌, List, ◌∷◌, length, drop, Option, Some, None, refl, sym, ap, ◌∙◌, arith, Insn, State, Operation, plain, answer_of, answer_after, answer_drop, code_of, does, does_if_known}
+use Rattle.flt_gen.proofs.Common.{constant_or, ◌≡◌, ℕ, suc, ◌-◌, ◌≤◌, List, ◌∷◌, length, drop, Option, Some, None, refl, sym, ap, ◌∙◌, arith, Insn, State}
+use Rattle.flt_gen.proofs.Common.{Operation, plain, answer_of, answer_after, answer_drop, code_of, does, does_if_known}
 use Rattle.flt_bpf.proofs.Codes.{code_is}
 use Rattle.flt_bpf.specs.{Instructions.operation_of, Machine.step}
 
@@ -16,7 +17,8 @@ pub extends_put : {c d : List Insn} (i : Insn) → Extends c d → Extends c (i 
 extends_put {d = d} i e =
     record {
       longer = omega (arith, e.longer);
-      same = λ place l. (let more : length (i ∷ d) - place ≡ suc (length d - place) = omega (arith, e.longer) in ap (λ k. drop k (i ∷ d)) more) ∙ e.same place l;
+      same = λ place l. (let more : length (i ∷ d) - place ≡ suc (length d - place) = omega (arith, e.longer) in ap (λ k. drop k (i ∷ d)) more)
+          ∙ e.same place l;
     }
 
 pub extends_on : {c d f : List Insn} → Extends c d → Extends d f → Extends c f
@@ -27,7 +29,8 @@ extends_on a b =
     }
 
 -- by a constant operand or index
-pub by_operand : (P : List Insn → Type 0) (o : Option ℕ) (short : ℕ → List Insn) (long : List Insn) → ((k : ℕ) → o ≡ Some k → P (short k)) → P long → P (constant_or o short long)
+pub by_operand : (P : List Insn → Type 0) (o : Option ℕ) (short : ℕ → List Insn) (long : List Insn) → ((k : ℕ) → o ≡ Some k → P (short k)) → P long
+    → P (constant_or o short long)
 by_operand P None short long one all = all
 by_operand P (Some k) short long one all = one k refl
 
@@ -37,11 +40,13 @@ HasWords s = length s.memory ≡ 16
 
 module _ (p : List ℕ) (n : ℕ) where
   -- what an instruction does in front of code
-  pub run : (o : Operation) (i : Insn) (c : List Insn) (s : State) → i.code ≡ code_of o → answer_of (i ∷ c) p n 0 s ≡ answer_after (answer_of c p n) (does o i p n s)
+  pub run : (o : Operation) (i : Insn) (c : List Insn) (s : State) → i.code ≡ code_of o → answer_of (i ∷ c) p n 0 s ≡ answer_after (answer_of c p n)
+      (does o i p n s)
   unfolding step
   run o i c s e = ap (λ x. answer_after (answer_of c p n) (does_if_known x i p n s)) (ap operation_of e ∙ code_is o)
 
-  pub run_plain : (o : Operation) (k : ℕ) (c : List Insn) (s : State) → answer_of (plain o k ∷ c) p n 0 s ≡ answer_after (answer_of c p n) (does o (plain o k) p n s)
+  pub run_plain : (o : Operation) (k : ℕ) (c : List Insn) (s : State) → answer_of (plain o k ∷ c) p n 0 s ≡ answer_after (answer_of c p n)
+      (does o (plain o k) p n s)
   run_plain o k c s = run o (plain o k) c s refl
 
   -- in each of some states the code gives this answer from its top on
@@ -63,7 +68,8 @@ module _ (p : List ℕ) (n : ℕ) where
   pub leads_on : {P : State → Type 0} {c d : List Insn} {place v : ℕ} → Extends c d → Leads P c place v → Leads P d place v
   leads_on {c = c} {d = d} {place = place} e h = record {
     inside = omega (arith, h.inside, e.longer);
-    by = λ s q. sym (answer_drop d p n (length d - place) s) ∙ ap (λ is. answer_of is p n 0 s) (e.same place h.inside) ∙ answer_drop c p n (length c - place) s ∙ h.by s q;
+    by = λ s q. sym (answer_drop d p n (length d - place) s) ∙ ap (λ is. answer_of is p n 0 s) (e.same place h.inside)
+        ∙ answer_drop c p n (length c - place) s ∙ h.by s q;
   }
 
   -- in fewer states

@@ -23,5 +23,4 @@ pub mod Turned
 pub mod Masks
 pub mod Whole
 pub mod Deciding
-pub mod EitherSide
 pub mod Decision

@@ -1,6 +1,7 @@
 -- A mask of 128 bits, by the four words in which it stands.
 use Rattle.flt_gen.proofs.Ascending.{if_case}
-use Rattle.flt_gen.proofs.Common.{◌≡◌, ℕ, ◌+◌, ◌-◌, ◌*◌, ◌^◌, ◌<◌, ◌≤◌, [], ◌∷◌, map, refl, ap, ◌∙◌, arith, Option, None, Some, ⊎_elim, cases_lt, pow-add, first_bits, ip6_mask, word_mask, ◌==◌, unwrap_or, nat_tests, partial_mask, ip6_tests}
+use Rattle.flt_gen.proofs.Common.{◌≡◌, ℕ, ◌+◌, ◌-◌, ◌*◌, ◌^◌, ◌<◌, ◌≤◌, [], ◌∷◌, map, refl, ap, ◌∙◌, arith, Option, None, Some, ⊎_elim, cases_lt, pow-add}
+use Rattle.flt_gen.proofs.Common.{first_bits, ip6_mask, word_mask, ◌==◌, unwrap_or, nat_tests, partial_mask, ip6_tests}
 use Rattle.std.proofs.Math.Pow.{pow_mono}
 use Rattle.std.specs.Int.Digits.{number_from_digits}
 
@@ -20,12 +21,39 @@ raised k m up e = same k (m + up) e ∙ pow-add 2 m up
 abbrev lack : ℕ → ℕ → ℕ
 lack bits word = 32 - (bits - 32 * word)
 
-masks_join : (bits : ℕ) → number_from_digits (2 ^ 32) (first_bits 32 (bits - 32 * 0) ∷ first_bits 32 (bits - 32 * 1) ∷ first_bits 32 (bits - 32 * 2) ∷ first_bits 32 (bits - 32 * 3) ∷ []) ≡ first_bits 128 bits
+masks_join : (bits : ℕ) → number_from_digits (2 ^ 32) (first_bits 32 (bits - 32 * 0) ∷ first_bits 32 (bits - 32 * 1) ∷ first_bits 32 (bits - 32 * 2) ∷
+    first_bits 32 (bits - 32 * 3) ∷ []) ≡ first_bits 128 bits
 masks_join bits =
-    ⊎_elim (λ first. by (omega (arith, same (lack bits 1) 32 (omega arith), same (lack bits 2) 32 (omega arith), same (lack bits 3) 32 (omega arith), raised (128 - bits) (lack bits 0) 96 (omega arith))))
-    (λ past_first. ⊎_elim (λ second. by (omega (arith, same (lack bits 0) 0 (omega arith), same (lack bits 2) 32 (omega arith), same (lack bits 3) 32 (omega arith), raised (128 - bits) (lack bits 1) 64 (omega arith))))
-    (λ past_second. ⊎_elim (λ third. by (omega (arith, same (lack bits 0) 0 (omega arith), same (lack bits 1) 0 (omega arith), same (lack bits 3) 32 (omega arith), raised (128 - bits) (lack bits 2) 32 (omega arith))))
-    (λ past_third. by (omega (arith, same (lack bits 0) 0 (omega arith), same (lack bits 1) 0 (omega arith), same (lack bits 2) 0 (omega arith), same (128 - bits) (lack bits 3) (omega arith))))
+    ⊎_elim (λ first. by (omega (
+      arith,
+      same (lack bits 1) 32 (omega arith),
+      same (lack bits 2) 32 (omega arith),
+      same (lack bits 3) 32 (omega arith),
+      raised (128 - bits) (lack bits 0) 96 (omega arith),
+    )))
+    (λ past_first. ⊎_elim (λ second. by
+    (omega (
+      arith,
+      same (lack bits 0) 0 (omega arith),
+      same (lack bits 2) 32 (omega arith),
+      same (lack bits 3) 32 (omega arith),
+      raised (128 - bits) (lack bits 1) 64 (omega arith),
+    )))
+    (λ past_second. ⊎_elim (λ third. by
+    (omega (
+      arith,
+      same (lack bits 0) 0 (omega arith),
+      same (lack bits 1) 0 (omega arith),
+      same (lack bits 3) 32 (omega arith),
+      raised (128 - bits) (lack bits 2) 32 (omega arith),
+    )))
+    (λ past_third. by (omega (
+      arith,
+      same (lack bits 0) 0 (omega arith),
+      same (lack bits 1) 0 (omega arith),
+      same (lack bits 2) 0 (omega arith),
+      same (128 - bits) (lack bits 3) (omega arith),
+    )))
     (cases_lt bits 96))
     (cases_lt bits 64))
     (cases_lt bits 32)
@@ -33,7 +61,9 @@ masks_join bits =
     few : (word : ℕ) → 2 ^ lack bits word ≤ 2 ^ 32
     few word = pow_mono {i = lack bits word} {j = 32} (omega arith)
 
-    by : 2 ^ (128 - bits) + 2 ^ 96 + 2 ^ 64 + 2 ^ 32 ≡ 2 ^ lack bits 0 * 2 ^ 96 + 2 ^ lack bits 1 * 2 ^ 64 + 2 ^ lack bits 2 * 2 ^ 32 + 2 ^ lack bits 3 → number_from_digits (2 ^ 32) (first_bits 32 (bits - 32 * 0) ∷ first_bits 32 (bits - 32 * 1) ∷ first_bits 32 (bits - 32 * 2) ∷ first_bits 32 (bits - 32 * 3) ∷ []) ≡ first_bits 128 bits
+    by : 2 ^ (128 - bits) + 2 ^ 96 + 2 ^ 64 + 2 ^ 32 ≡ 2 ^ lack bits 0 * 2 ^ 96 + 2 ^ lack bits 1 * 2 ^ 64 + 2 ^ lack bits 2 * 2 ^ 32 + 2 ^ lack bits
+        3 → number_from_digits (2 ^ 32) (first_bits 32 (bits - 32 * 0) ∷ first_bits 32 (bits - 32 * 1) ∷ first_bits 32 (bits - 32 * 2) ∷ first_bits 32
+        (bits - 32 * 3) ∷ []) ≡ first_bits 128 bits
     by e = joins _ _ _ _ _ (few 0) (few 1) (few 2) (few 3) e
 
 -- what is below a word of an address

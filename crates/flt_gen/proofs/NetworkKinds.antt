@@ -1,5 +1,8 @@
 -- The test of a kind of network header reads what the packet's network header is.
-use Rattle.flt_gen.proofs.Common.{◌≡◌, get_or-drop, ℕ, ◌+◌, ◌*◌, ◌/◌, ◌%◌, ◌<◌, List, length, drop, Bool, true, false, nat_lt, nat_le, ◌==◌, not, Option, Some, None, refl, sym, ap, subst, ◌∙◌, arith, if◌then◌else◌, ◌↔◌, ◌^◌, All, bit_and, slice_index, nat_tests, HalfWord, big_endian_at, Link, MatchResult, Yes, No, Rejected, reading_of, with, elementary_reads, is_at, kind_test, type_test, link_of, link_type, type_offset, frame_kind, carries_kind, carries}
+use Rattle.flt_gen.proofs.Common.{◌≡◌, get_or-drop, ℕ, ◌+◌, ◌*◌, ◌/◌, ◌%◌, ◌<◌, List, length, drop, Bool, true, false, nat_lt, nat_le, ◌==◌, not, Option, Some}
+use Rattle.flt_gen.proofs.Common.{None, refl, sym, ap, subst, ◌∙◌, arith, if◌then◌else◌, ◌↔◌, ◌^◌, All, bit_and, slice_index, nat_tests, HalfWord}
+use Rattle.flt_gen.proofs.Common.{big_endian_at, Link, MatchResult, Yes, No, Rejected, reading_of, with, elementary_reads, is_at, kind_test, type_test, link_of}
+use Rattle.flt_gen.proofs.Common.{link_type, type_offset, frame_kind, carries_kind, carries}
 use Rattle.std.proofs.lemmas.Grind.{and_high_numeral}
 use Rattle.cap_octet.specs.Assigned.{ETHERTYPE_IPV4, ETHERTYPE_IPV6, ETHERTYPE_ARP, ETHERTYPE_RARP}
 use Rattle.cap_octet.specs.Link.{all_links}
@@ -34,7 +37,8 @@ kind_agrees (Known Rarp) Rarp carried = record { matches = (λ e. refl, λ e. re
 kind_agrees _ _ _ = record { matches = (λ e. cc, λ e. cc); rejects = (λ e. absurd (cc), λ e. let short = e.0 in let is = e.1 in cc) }
 
 -- the first bytes are captured, or they aren't
-captured : (kind : NetworkKind) (long short : Bool) (v : ℕ) (test : ℕ → Bool) (header : NetworkHeader) → short ≡ not long → (long ≡ true → reading_of (Some (test v)) ≡ reads_kind header kind true)
+captured : (kind : NetworkKind) (long short : Bool) (v : ℕ) (test : ℕ → Bool) (header : NetworkHeader) → short ≡ not long
+    → (long ≡ true → reading_of (Some (test v)) ≡ reads_kind header kind true)
     → reading_of (with (if long then Some v else None) (λ x. Some (test x))) ≡ reads_kind (if short then Short else header) kind true
 captured kind true false v test header e there = there refl
 captured kind false true v test header e there = refl
@@ -65,15 +69,19 @@ same_number p at =
     let second : slice_index (drop at p) 1 ≡ slice_index p (at + 1) = get_or-drop at p 1 0 in
     omega (arith, first, second)
 
-type_reads : (at : ℕ) (kind : NetworkKind) (p : List ℕ) → elementary_reads (is_at at HalfWord (type_of kind)) p ≡ reads_kind (header_after (Some at) p) kind true
+type_reads : (at : ℕ) (kind : NetworkKind) (p : List ℕ) → elementary_reads (is_at at HalfWord (type_of kind)) p ≡ reads_kind
+    (header_after (Some at) p) kind true
 type_reads at kind p =
     let v = big_endian_at p at HalfWord in
     let other : nat_lt (length p) (at + 2) ≡ not (nat_le (at + 2) (length p)) = grind (arith, nat_tests) in
-    rw (same_number p at) (captured kind (nat_le (at + 2) (length p)) (nat_lt (length p) (at + 2)) v (λ x. x == type_of kind) (header_by_ethertype v) other (λ long. number_reads v kind))
+    rw (same_number p at) (captured kind (nat_le (at + 2) (length p)) (nat_lt (length p) (at + 2)) v (λ x. x == type_of kind) (header_by_ethertype v)
+    other (λ long. number_reads v kind))
 
 -- by the version n, which the mask leaves as m
-version_reads : (kind : NetworkKind) (n m : ℕ) → m ≡ 16 * n → ((w : ℕ) → reading_of (Some (w == n)) ≡ reads_kind (header_by_version w) kind true) → (p : List ℕ) → All (λ b. b < 2 ^ 8) p
-    → reading_of (with (if nat_le (0 + 1) (length p) then Some (slice_index p 0) else None) (λ (x : ℕ). Some (bit_and x 0xf0 == m))) ≡ reads_kind (header_after None p) kind true
+version_reads : (kind : NetworkKind) (n m : ℕ) → m ≡ 16 * n → ((w : ℕ) → reading_of (Some (w == n)) ≡ reads_kind (header_by_version w) kind true)
+    → (p : List ℕ) → All (λ b. b < 2 ^ 8) p
+    → reading_of (with (if nat_le (0 + 1) (length p) then Some (slice_index p 0) else None) (λ (x : ℕ). Some (bit_and x 0xf0 == m))) ≡ reads_kind
+    (header_after None p) kind true
 version_reads kind n m times is p bytes =
     let v = slice_index p 0 in
     let other : (length p == 0) ≡ not (nat_le (0 + 1) (length p)) = grind (arith, nat_tests) in
@@ -97,5 +105,7 @@ its_link _ = refl
 
 pub agrees : (link : Link) (kind : NetworkKind) (p : List ℕ) → All (λ b. b < 2 ^ 8) p
     → Agrees (elementary_reads (kind_test link (frame_kind kind)) p) (network_header (link_type link) p) kind (carries link kind)
-agrees link Ipv4 p bytes = rw (its_link link) (subst (λ r. Agrees r (header_after (type_offset link) p) Ipv4 (carries link Ipv4)) (sym (by_place (type_offset link) Ipv4 p bytes)) (kind_agrees _ Ipv4 _))
-agrees link kind p bytes = rw (its_link link) (subst (λ r. Agrees r (header_after (type_offset link) p) kind (carries link kind)) (sym (by_place (type_offset link) kind p bytes)) (kind_agrees _ kind _))
+agrees link Ipv4 p bytes = rw (its_link link) (subst (λ r. Agrees r (header_after (type_offset link) p) Ipv4 (carries link Ipv4))
+    (sym (by_place (type_offset link) Ipv4 p bytes)) (kind_agrees _ Ipv4 _))
+agrees link kind p bytes = rw (its_link link) (subst (λ r. Agrees r (header_after (type_offset link) p) kind (carries link kind))
+    (sym (by_place (type_offset link) kind p bytes)) (kind_agrees _ kind _))

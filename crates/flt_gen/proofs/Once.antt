@@ -1,7 +1,10 @@
 -- The tests of a protocol's accessors stand once: the formula reads the same, and has no more
 -- tests.
 use Rattle.flt_gen.proofs.Ascending.{if_case}
-use Rattle.flt_gen.proofs.Common.{◌≡◌, ℕ, ◌+◌, ◌≤◌, List, [], ◌∷◌, true, refl, sym, ap, ◌∙◌, arith, Comparison, Protocol, Ether, Tcp, NumberTree, load, negated, applied, compared, accessor_test_count, number_tests, truth_tests, Link, Elementary, MatchResult, Yes, elementary_reads, accessors, accessor_tests, Formula, Compare, both, reads, guarded_formula, checked_formula, tests, nodes, words, equals, without_protocol, protocols_of, relation_formula, formula}
+use Rattle.flt_gen.proofs.Common.{◌≡◌, ℕ, ◌+◌, ◌≤◌, List, [], ◌∷◌, true, refl, sym, ap, ◌∙◌, arith, Comparison, Protocol, Ether, Tcp, NumberTree, load, negated}
+use Rattle.flt_gen.proofs.Common.{applied, compared, accessor_test_count, number_tests, truth_tests, Link, Elementary, MatchResult, Yes, elementary_reads}
+use Rattle.flt_gen.proofs.Common.{accessors, accessor_tests, Formula, Compare, both, reads, guarded_formula, checked_formula, tests, nodes, words, equals}
+use Rattle.flt_gen.proofs.Common.{without_protocol, protocols_of, relation_formula, formula}
 use Rattle.flt_gen.proofs.Counted.{Sized, bare_within, bare_after}
 
 pub equal_are : (p q : Protocol) → equals p q ≡ true → p ≡ q
@@ -14,7 +17,8 @@ pub guarded_sizes : {s w : ℕ} (ts : List Elementary) (f : Formula) → Sized f
 guarded_sizes [] f h = h
 guarded_sizes (t ∷ ts) f h = bare_after (guarded_sizes ts f h)
 
-checked_sizes : {s w : ℕ} (link : Link) (ps : List Protocol) (f : Formula) → Sized f s w (tests f) → Sized (checked_formula link ps f) s w (tests (checked_formula link ps f))
+checked_sizes : {s w : ℕ} (link : Link) (ps : List Protocol) (f : Formula) → Sized f s w (tests f) → Sized (checked_formula link ps f) s w
+    (tests (checked_formula link ps f))
 checked_sizes link [] f h = h
 checked_sizes link (p ∷ ps) f h = guarded_sizes (accessor_tests link p) (checked_formula link ps f) (checked_sizes link ps f h)
 
@@ -23,15 +27,18 @@ pub accessor_tests_are : (link : Link) (p : Protocol) (f : Formula) → tests (g
 accessor_tests_are link Tcp f = omega arith
 accessor_tests_are link _ f = omega arith
 
-without_tests : (link : Link) (p : Protocol) (qs : List Protocol) (f : Formula) → tests (checked_formula link (without_protocol p qs) f) ≤ tests (checked_formula link qs f)
+without_tests : (link : Link) (p : Protocol) (qs : List Protocol) (f : Formula) → tests (checked_formula link (without_protocol p qs) f) ≤ tests
+    (checked_formula link qs f)
 without_tests link p [] f = omega arith
 without_tests link p (q ∷ qs) f =
     let h = without_tests link p qs f in
     let t = accessor_tests_are link q (checked_formula link qs f) in
     let u = accessor_tests_are link q (checked_formula link (without_protocol p qs) f) in
-    if_case (λ xs. tests (checked_formula link xs f) ≤ tests (checked_formula link (q ∷ qs) f)) (equals p q) (without_protocol p qs) (q ∷ without_protocol p qs) (λ e. omega arith) (λ e. omega arith)
+    if_case (λ xs. tests (checked_formula link xs f) ≤ tests (checked_formula link (q ∷ qs) f)) (equals p q) (without_protocol p qs)
+    (q ∷ without_protocol p qs) (λ e. omega arith) (λ e. omega arith)
 
-protocols_tests : (link : Link) (a : NumberTree) (rest : List Protocol) (f : Formula) → tests (checked_formula link (protocols_of a rest) f) ≤ number_tests a + tests (checked_formula link rest f)
+protocols_tests : (link : Link) (a : NumberTree) (rest : List Protocol) (f : Formula) → tests (checked_formula link (protocols_of a rest) f) ≤
+    number_tests a + tests (checked_formula link rest f)
 protocols_tests link (load p s a) rest f =
     let h = protocols_tests link a rest f in
     let w = without_tests link p (protocols_of a rest) f in
@@ -44,11 +51,13 @@ protocols_tests link (applied o a b) rest f =
     omega arith
 protocols_tests link _ rest f = omega arith
 
-pub relation_sizes : (link : Link) (c : Comparison) (l r : NumberTree) → Sized (relation_formula link c l r) (nodes (Compare c l r)) (words (Compare c l r)) (truth_tests (compared c l r))
+pub relation_sizes : (link : Link) (c : Comparison) (l r : NumberTree) → Sized (relation_formula link c l r) (nodes (Compare c l r))
+    (words (Compare c l r)) (truth_tests (compared c l r))
 relation_sizes link c l r =
     let h = protocols_tests link l (protocols_of r []) (Compare c l r) in
     let k = protocols_tests link r [] (Compare c l r) in
-    bare_within _ (omega arith) (checked_sizes link (protocols_of l (protocols_of r [])) (Compare c l r) (record { nodes_fit = omega arith; words_fit = omega arith; searches = tt; tests_fit = omega arith }))
+    bare_within _ (omega arith) (checked_sizes link (protocols_of l (protocols_of r [])) (Compare c l r)
+    (record { nodes_fit = omega arith; words_fit = omega arith; searches = tt; tests_fit = omega arith }))
 
 -- the same reading
 pub both_again : (a b r : MatchResult) → both a (both b r) ≡ both (both a b) r
@@ -91,7 +100,8 @@ module _ (link : Link) (p : List ℕ) (n : ℕ) where
       (λ e. h ∙ sym (one_read r qs f ∙ ap (λ a. both a (following qs f)) (ap told (sym (equal_are q r e)) ∙ sure)))
       (λ e. one_read r (without_protocol q qs) f ∙ ap (λ a. both (told r) a) h ∙ sym (one_read r qs f))
 
-  protocols_read : (a : NumberTree) (ps qs : List Protocol) (f : Formula) → following ps f ≡ following qs f → following (protocols_of a ps) f ≡ following (accessors a qs) f
+  protocols_read : (a : NumberTree) (ps qs : List Protocol) (f : Formula) → following ps f ≡ following qs f → following (protocols_of a ps) f ≡
+      following (accessors a qs) f
   protocols_read (load q s a) ps qs f h =
       one_read q (without_protocol q (protocols_of a ps)) f
       ∙ if_yes (told q) _ _ (λ sure. without_read q (protocols_of a ps) f sure ∙ protocols_read a ps qs f h)

@@ -1,6 +1,9 @@
 -- Last bits that don't decide which numbers are in intervals, and networks as intervals.
 use Rattle.flt_gen.proofs.Ascending.{if_case, Apart, apart_less}
-use Rattle.flt_gen.proofs.Common.{◌≡◌, ℕ, zero, suc, ◌+◌, ◌-◌, ◌*◌, ◌/◌, ◌%◌, ◌^◌, ◌<◌, ◌≤◌, List, [], ◌∷◌, map, Bool, true, false, Some, None, refl, sym, ap, ap₂, ◌∙◌, subst, arith, ◌==◌, ◌&&◌, ◌||◌, nat_le, bit_and, if◌then◌else◌, div-mul-le_self, lt-div-mul-add, le-div_iff_mul-le, mul-le-mul_right, pow-succ', suc-mul, nat_tests, and_parts, and_le_r, pow_pos, first_bits, under_mask, Interval, is_in, is_within, partial_mask, is_aligned, idle_bits, left_out, high_mask, cut, interval}
+use Rattle.flt_gen.proofs.Common.{◌≡◌, ℕ, zero, suc, ◌+◌, ◌-◌, ◌*◌, ◌/◌, ◌%◌, ◌^◌, ◌<◌, ◌≤◌, List, [], ◌∷◌, map, Bool, true, false, Some, None, refl, sym, ap}
+use Rattle.flt_gen.proofs.Common.{ap₂, ◌∙◌, subst, arith, ◌==◌, ◌&&◌, ◌||◌, nat_le, bit_and, if◌then◌else◌, div-mul-le_self, lt-div-mul-add, le-div_iff_mul-le}
+use Rattle.flt_gen.proofs.Common.{mul-le-mul_right, pow-succ', suc-mul, nat_tests, and_parts, and_le_r, pow_pos, first_bits, under_mask, Interval, is_in}
+use Rattle.flt_gen.proofs.Common.{is_within, partial_mask, is_aligned, idle_bits, left_out, high_mask, cut, interval}
 use Rattle.flt_gen.proofs.Runs.{one_number}
 use Rattle.std.specs.{Int.Bits.and_zero_r, List.list_all}
 use Rattle.std.proofs.{Common.pow_mono, Math.Nat.div-lt_iff_lt-mul, Math.Nat.div-add-mod, lemmas.Nat.and_mask, lemmas.Nat.Bits.and_high_mask}
@@ -11,7 +14,8 @@ blocks_in x a b J some =
     let under : x / J * J ≤ x = div-mul-le_self x J in
     let near : x < x / J * J + J = lt-div-mul-add some in
     let from : a * J ≤ x → a * J ≤ x / J * J = λ l. mul-le-mul_right J ((le-div_iff_mul-le some).1 l) in
-    let upto : x ≤ b * J + (J - 1) → x / J * J ≤ b * J = λ l. mul-le-mul_right J (let m = suc-mul b J in let below : x / J < suc b = (div-lt_iff_lt-mul some).1 (omega arith) in omega arith) in
+    let upto : x ≤ b * J + (J - 1) → x / J * J ≤ b * J = λ l. mul-le-mul_right J (let m = suc-mul b J in let below : x / J < suc b =
+    (div-lt_iff_lt-mul some).1 (omega arith) in omega arith) in
     grind (arith, nat_tests)
 
 -- numbers that begin and end with a block
@@ -84,7 +88,8 @@ masked_is (suc k) x l s =
     ∙ ap (bit_and x) same
     ∙ and_high_mask 32 (suc k) (omega arith) x (s (omega arith))
 
-cut_at : (k x : ℕ) (i : Interval) → k ≤ 31 → is_aligned (2 ^ k - 1) i ≡ true → (0 < 2 ^ k - 1 → x < 2 ^ 32) → is_in (under_mask (high_mask (2 ^ k - 1)) x) (cut (2 ^ k - 1) i) ≡ is_in x i
+cut_at : (k x : ℕ) (i : Interval) → k ≤ 31 → is_aligned (2 ^ k - 1) i ≡ true → (0 < 2 ^ k - 1 → x < 2 ^ 32)
+    → is_in (under_mask (high_mask (2 ^ k - 1)) x) (cut (2 ^ k - 1) i) ≡ is_in x i
 cut_at k x i l e s =
     let J = 2 ^ k in
     let h = blocks_of k i e in
@@ -96,11 +101,14 @@ cut_at k x i l e s =
     ∙ blocks_in x (i.low / J) (i.high / J) J (pow_pos k)
     ∙ ap₂ (λ a b. nat_le a x && nat_le x b) (sym low) (sym high)
 
-pub cut_in : (last x : ℕ) (first i : Interval) (is : List Interval) → Idle last first is → is_aligned last i ≡ true → Small last x → is_in (under_mask (high_mask last) x) (cut last i) ≡ is_in x i
+pub cut_in : (last x : ℕ) (first i : Interval) (is : List Interval) → Idle last first is → is_aligned last i ≡ true → Small last x
+    → is_in (under_mask (high_mask last) x) (cut last i) ≡ is_in x i
 cut_in last x first i is h e s =
-    subst (λ n. is_aligned n i ≡ true → Small n x → is_in (under_mask (high_mask n) x) (cut n i) ≡ is_in x i) (sym h.last_is) (λ a b. cut_at h.bits x i h.few a b) e s
+    subst (λ n. is_aligned n i ≡ true → Small n x → is_in (under_mask (high_mask n) x) (cut n i) ≡ is_in x i) (sym h.last_is)
+    (λ a b. cut_at h.bits x i h.few a b) e s
 
-pub cut_within : (last x : ℕ) (first : Interval) (is : List Interval) → Idle last first is → Small last x → is_within (under_mask (high_mask last) x) (map (cut last) is) ≡ is_within x is
+pub cut_within : (last x : ℕ) (first : Interval) (is : List Interval) → Idle last first is → Small last x → is_within (under_mask (high_mask last) x)
+    (map (cut last) is) ≡ is_within x is
 cut_within last x first is h s = go is h.all_aligned
   where
     go : (js : List Interval) → list_all (is_aligned last) js ≡ true → is_within (under_mask (high_mask last) x) (map (cut last) js) ≡ is_within x js
@@ -109,7 +117,8 @@ cut_within last x first is h s = go is h.all_aligned
         let t = and_parts (is_aligned last j) (list_all (is_aligned last) js) e in
         ap₂ (λ a b. a || b) (cut_in last x first j is h t.0 s) (go js t.1)
 
-pub cut_order : (last : ℕ) (first i : Interval) (is : List Interval) → Idle last first is → is_aligned last i ≡ true → i.low ≤ i.high → i.low ≤ (cut last i).high
+pub cut_order : (last : ℕ) (first i : Interval) (is : List Interval) → Idle last first is → is_aligned last i ≡ true → i.low ≤ i.high
+    → i.low ≤ (cut last i).high
 cut_order last first i is h e l =
     subst (λ n. is_aligned n i ≡ true → i.low ≤ i.high - n) (sym h.last_is) (λ a. block_order h.bits i (blocks_of h.bits i a) l) e
 
@@ -119,8 +128,12 @@ cut_apart last a first is h up = go a is h.all_aligned up
     go : (a : ℕ) (js : List Interval) → list_all (is_aligned last) js ≡ true → Apart a js → Apart a (map (cut last) js)
     go a [] e up = tt
     go a (j ∷ js) e up =
-        let t = and_parts (is_aligned last j) (list_all (is_aligned last) js) e in
-        (up.0, cut_order last first j is h t.0 up.1, apart_less ((cut last j).high + 1) (j.high + 1) (map (cut last) js) (omega arith) (go (j.high + 1) js t.1 up.2))
+        let t = and_parts (is_aligned last j) (list_all (is_aligned last) js) e in (
+          up.0,
+          cut_order last first j is h t.0 up.1,
+          apart_less ((cut last j).high + 1) (j.high + 1) (map (cut last) js) (omega arith)
+              (go (j.high + 1) js t.1 up.2),
+        )
 
 -- the test of a network's address: its mask leaves the first number of a block
 net_mask : (b : ℕ) → partial_mask (first_bits 32 b) ≡ high_mask (2 ^ (32 - b) - 1)
@@ -131,7 +144,8 @@ net_mask b =
     let rest : first_bits 32 b ≡ 2 ^ 32 - 1 - (2 ^ (32 - b) - 1) = omega arith in
     ap₂ (λ t m. if t then None else Some m) all rest
 
-pub net_hit : (b a x : ℕ) → x < 2 ^ 32 → bit_and a (first_bits 32 b) ≡ a → (under_mask (partial_mask (first_bits 32 b)) x == a) ≡ is_in x (interval a (a + (2 ^ 32 - 1 - first_bits 32 b)))
+pub net_hit : (b a x : ℕ) → x < 2 ^ 32 → bit_and a (first_bits 32 b) ≡ a → (under_mask (partial_mask (first_bits 32 b)) x == a) ≡ is_in x
+    (interval a (a + (2 ^ 32 - 1 - first_bits 32 b)))
 net_hit b a x lx e =
     let J = 2 ^ (32 - b) in
     let some = pow_pos (32 - b) in

@@ -1,6 +1,8 @@
 -- An entry reads as the value or comparison that it is, and has no more tests.
 use Rattle.flt_gen.proofs.Ascending.{Each}
-use Rattle.flt_gen.proofs.Common.{◌≡◌, ℕ, ◌+◌, ◌≤◌, ◌==◌, List, Some, sym, ap, ◌∙◌, arith, Equal, literal, load, TruthTree, qualified, compared, accessor_test_count, truth_tests, Link, accessor_tests, width_of, reading_of, with, Single, Compare, both, reads, formula, Entry}
+use Rattle.flt_gen.proofs.Common.{◌≡◌, ℕ, ◌+◌, ◌≤◌, ◌==◌, List, Some, sym, ap, ◌∙◌, arith, Equal, literal, load, TruthTree, qualified, compared}
+use Rattle.flt_gen.proofs.Common.{accessor_test_count, truth_tests, Link, accessor_tests, width_of, reading_of, with, Single, Compare, both, reads, formula}
+use Rattle.flt_gen.proofs.Common.{Entry}
 use Rattle.flt_gen.proofs.{Counted.Bare, Counted.bare_within, Counted.bare_one, Numbers.indexed_same}
 use Rattle.flt_gen.proofs.Needed.{bare_needed, value_same}
 use Rattle.flt_gen.proofs.Once.{guarded_sizes, accessor_tests_are, all_read, guarded_read}

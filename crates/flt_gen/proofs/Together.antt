@@ -1,6 +1,13 @@
 -- Addresses or ports that are looked for together read as one after the other.
 use Rattle.flt_gen.proofs.Ascending.{if_case, Each, each_is, Ordered, within_joined}
-use Rattle.flt_gen.proofs.Common.{◌≡◌, ℕ, ◌+◌, ◌*◌, ◌^◌, ◌%◌, ◌<◌, ◌≤◌, List, [], ◌∷◌, length, map, Bool, true, false, Option, Some, None, refl, sym, ap, ap₂, ◌∙◌, arith, inl, inr, ◌==◌, ◌||◌, ◌&&◌, nat_le, min, max, bit_and, nat_tests, or-false, Protocol, Ip, Tcp, Udp, ValueType, Host, Net, Port, PortRange, Source, Destination, And, Or, Direction, CompleteQualifiers, Value, first_bits, Word, HalfWord, Offset, field, Link, type_offset, FrameKind, Elementary, Interval, One, Between, Several, Sides, Transport, MatchResult, Yes, No, Rejected, reading_of, with, field_at, under_mask, kind_test, elementary_reads, Formula, Sought, is_in, is_within, both, either, all_of, sides, Numbers, no_numbers, reads, address_places, address_test, partial_mask, port_is, port_between, port_places, port_sides, transport, following, ip_transport, ip6_transport, port_test, port_formula, net_formula, value_formula, joined_all, left_out, high_mask, cut, sought, is_address, net_numbers, member_of, several_formula}
+use Rattle.flt_gen.proofs.Common.{◌≡◌, ℕ, ◌+◌, ◌*◌, ◌^◌, ◌%◌, ◌<◌, ◌≤◌, List, [], ◌∷◌, length, map, Bool, true, false, Option, Some, None, refl, sym, ap, ap₂}
+use Rattle.flt_gen.proofs.Common.{◌∙◌, arith, inl, inr, ◌==◌, ◌||◌, ◌&&◌, nat_le, min, max, bit_and, nat_tests, or-false, Protocol, Ip, Tcp, Udp, ValueType}
+use Rattle.flt_gen.proofs.Common.{Host, Net, Port, PortRange, Source, Destination, And, Or, Direction, CompleteQualifiers, Value, first_bits, Word, HalfWord}
+use Rattle.flt_gen.proofs.Common.{Offset, field, Link, type_offset, FrameKind, Elementary, Interval, One, Between, Several, Sides, Transport, MatchResult, Yes}
+use Rattle.flt_gen.proofs.Common.{No, Rejected, reading_of, with, field_at, under_mask, kind_test, elementary_reads, Formula, Sought, is_in, is_within, both}
+use Rattle.flt_gen.proofs.Common.{either, all_of, sides, Numbers, no_numbers, reads, address_places, address_test, partial_mask, port_is, port_between}
+use Rattle.flt_gen.proofs.Common.{port_places, port_sides, transport, following, ip_transport, ip6_transport, port_test, port_formula, net_formula}
+use Rattle.flt_gen.proofs.Common.{value_formula, joined_all, left_out, high_mask, cut, sought, is_address, net_numbers, member_of, several_formula}
 use Rattle.flt_gen.proofs.Exclusive.{or_no, both_either, kinds_exclude}
 use Rattle.flt_gen.proofs.Prefixes.{Idle, idle_sought, Small, cut_in, cut_within, net_hit}
 use Rattle.flt_gen.proofs.Runs.{one_number}
@@ -15,7 +22,8 @@ use Rattle.flt_gen.specs.declared.port.Ports.{Ports}
 abbrev pub Fitting : Bool → Sides → Type 0
 Fitting b at = b ≡ true → (p : List ℕ) (x : ℕ) → (field_at at.source at.width p ≡ Some x) ⊎ (field_at at.destination at.width p ≡ Some x) → x < 2 ^ 32
 
-pub fitting_small : (b : Bool) (at : Sides) (m : Interval) (is : List Interval) → Fitting b at → (p : List ℕ) (x : ℕ) → (field_at at.source at.width p ≡ Some x) ⊎ (field_at at.destination at.width p ≡ Some x) → Small (left_out b m is) x
+pub fitting_small : (b : Bool) (at : Sides) (m : Interval) (is : List Interval) → Fitting b at → (p : List ℕ) (x : ℕ)
+    → (field_at at.source at.width p ≡ Some x) ⊎ (field_at at.destination at.width p ≡ Some x) → Small (left_out b m is) x
 fitting_small true at m is fit p x e = λ l. fit refl p x e
 fitting_small false at m is fit p x e = λ l. absurd (omega arith)
 
@@ -26,7 +34,8 @@ unmasked_fitting false at e = λ f. cc
 -- a word is below 2^32
 pub word_small : (p : List ℕ) (at x : ℕ) → field p at Word ≡ Some x → x < 2 ^ 32
 word_small p at x e =
-    each_is (field p at Word) (λ y. y < 2 ^ 32) x (if_case (λ o. Each o (λ y. y < 2 ^ 32)) (nat_le (at + 4) (length p)) _ _ (λ t. mod-lt _ (omega arith)) (λ t. tt)) e
+    each_is (field p at Word) (λ y. y < 2 ^ 32) x (if_case (λ o. Each o (λ y. y < 2 ^ 32)) (nat_le (at + 4) (length p)) _ _
+    (λ t. mod-lt _ (omega arith)) (λ t. tt)) e
 
 pub address_fitting : (b : Bool) (link : Link) (k : FrameKind) → Fitting b (address_places link k)
 address_fitting b link k e p x (inl f) = word_small p _ x f
@@ -78,7 +87,8 @@ read_seen None f g e = refl
 read_seen (Some x) f g e = ap exact (e x refl)
 
 -- the source is of the first or of the others, whose first is k; so is the destination
-both_told : (m k o n b : Bool) → either (both (exact (m || (k || o))) (either (exact m) Yes)) (exact (n || b)) ≡ either (either (exact m) (exact n)) (either (both (exact (k || o)) (either (exact k) Yes)) (exact b))
+both_told : (m k o n b : Bool) → either (both (exact (m || (k || o))) (either (exact m) Yes)) (exact (n || b)) ≡ either (either (exact m) (exact n))
+    (either (both (exact (k || o)) (either (exact k) Yes)) (exact b))
 both_told true k o n b = refl
 both_told false true o true b = refl
 both_told false false true true b = refl
@@ -86,14 +96,16 @@ both_told false false false true b = refl
 both_told _ _ _ _ b = refl
 
 -- the destination isn't captured
-one_told : (m k o : Bool) → either (both (exact (m || (k || o))) (either (exact m) Rejected)) Rejected ≡ either (either (exact m) Rejected) (either (both (exact (k || o)) (either (exact k) Rejected)) Rejected)
+one_told : (m k o : Bool) → either (both (exact (m || (k || o))) (either (exact m) Rejected)) Rejected ≡ either (either (exact m) Rejected)
+    (either (both (exact (k || o)) (either (exact k) Rejected)) Rejected)
 one_told true k o = refl
 one_told false true o = refl
 one_told false false true = refl
 one_told _ _ _ = refl
 
 -- one more in front of those of which k is the first
-one_more : (d : Direction) (s t : Option ℕ) (m k o : ℕ → Bool) → Merged d → sides_read d s t m (λ x. m x || (k x || o x)) ≡ either (plain_reads d s t m) (sides_read d s t k (λ x. k x || o x))
+one_more : (d : Direction) (s t : Option ℕ) (m k o : ℕ → Bool) → Merged d → sides_read d s t m (λ x. m x || (k x || o x)) ≡ either
+    (plain_reads d s t m) (sides_read d s t k (λ x. k x || o x))
 one_more (Direction.One Source) s t m k o h = read_or s m (λ x. k x || o x)
 one_more (Direction.One Destination) s t m k o h = read_or t m (λ x. k x || o x)
 one_more (Direction.Both Or) None t m k o h = refl
@@ -114,7 +126,8 @@ one_alone d s t m = ap (sides_read d s t m) (λ i x. or-false (m x) i) ∙ by d
     by (Direction.One Source) = refl
     by _ = refl
 
-sides_seen : (d : Direction) (s t : Option ℕ) (f g a b : ℕ → Bool) → ((x : ℕ) → s ≡ Some x → f x ≡ g x) → ((x : ℕ) → t ≡ Some x → f x ≡ g x) → ((x : ℕ) → s ≡ Some x → a x ≡ b x) → ((x : ℕ) → t ≡ Some x → a x ≡ b x) → sides_read d s t f a ≡ sides_read d s t g b
+sides_seen : (d : Direction) (s t : Option ℕ) (f g a b : ℕ → Bool) → ((x : ℕ) → s ≡ Some x → f x ≡ g x) → ((x : ℕ) → t ≡ Some x → f x ≡ g x)
+    → ((x : ℕ) → s ≡ Some x → a x ≡ b x) → ((x : ℕ) → t ≡ Some x → a x ≡ b x) → sides_read d s t f a ≡ sides_read d s t g b
 sides_seen (Direction.One Source) s t f g a b i j h k = read_seen s a b h
 sides_seen (Direction.One Destination) s t f g a b i j h k = read_seen t a b k
 sides_seen (Direction.Both Or) s t f g a b i j h k =
@@ -135,7 +148,8 @@ more_tests _ = omega arith
 
 module _ (link : Link) (p : List ℕ) (n : ℕ) where
   -- where a test is yes those after it are no
-  kinds : (i a x s t : MatchResult) → (i ≡ Yes → (s ≡ No) × (t ≡ No)) → either (both i (either a x)) (either s t) ≡ either (either (both i a) s) (either (both i x) t)
+  kinds : (i a x s t : MatchResult) → (i ≡ Yes → (s ≡ No) × (t ≡ No)) → either (both i (either a x)) (either s t) ≡ either (either (both i a) s)
+      (either (both i x) t)
   kinds Yes a x s t only =
       ap₂ (λ u v. either (either a x) (either u v)) (only refl).0 (only refl).1
       ∙ or_no (either a x)
@@ -162,7 +176,8 @@ module _ (link : Link) (p : List ℕ) (n : ℕ) where
   abbrev after_reads : Option Protocol → Transport → MatchResult → MatchResult
   after_reads protocol header r = both (transport_reads protocol header) (both (whole_reads header.no_later_fragment) r)
 
-  after_more : (protocol : Option Protocol) (header : Transport) (a b : MatchResult) → after_reads protocol header (either a b) ≡ either (after_reads protocol header a) (after_reads protocol header b)
+  after_more : (protocol : Option Protocol) (header : Transport) (a b : MatchResult) → after_reads protocol header (either a b) ≡ either
+      (after_reads protocol header a) (after_reads protocol header b)
   after_more protocol header a b =
       ap (both (transport_reads protocol header)) (both_either (whole_reads header.no_later_fragment) a b)
       ∙ both_either (transport_reads protocol header) (both (whole_reads header.no_later_fragment) a) (both (whole_reads header.no_later_fragment) b)
@@ -171,11 +186,13 @@ module _ (link : Link) (p : List ℕ) (n : ℕ) where
   whole_is None f = refl
   whole_is (Some t) f = refl
 
-  transport_is : (protocol : Option Protocol) (header : Transport) (f : Formula) → reads link (transport protocol header.tcp header.udp f) p n ≡ both (transport_reads protocol header) (reads link f p n)
+  transport_is : (protocol : Option Protocol) (header : Transport) (f : Formula) → reads link (transport protocol header.tcp header.udp f) p n ≡ both
+      (transport_reads protocol header) (reads link f p n)
   transport_is (Some Tcp) header f = refl
   transport_is _ header f = refl
 
-  after_is : (protocol : Option Protocol) (header : Transport) (f : Formula) → reads link (transport protocol header.tcp header.udp (following header.no_later_fragment f)) p n ≡ after_reads protocol header (reads link f p n)
+  after_is : (protocol : Option Protocol) (header : Transport) (f : Formula)
+      → reads link (transport protocol header.tcp header.udp (following header.no_later_fragment f)) p n ≡ after_reads protocol header (reads link f p n)
   after_is protocol header f =
       transport_is protocol header (following header.no_later_fragment f) ∙ ap (both (transport_reads protocol header)) (whole_is header.no_later_fragment f)
 
@@ -203,45 +220,57 @@ module _ (link : Link) (p : List ℕ) (n : ℕ) where
   by_sides PortRange protocol x = ports_by protocol x
   by_sides _ protocol x = No
 
-  hosts_join : (protocol : Option Protocol) (x y : Sides → MatchResult) → hosts_by protocol (λ at. either (x at) (y at)) ≡ either (hosts_by protocol x) (hosts_by protocol y)
+  hosts_join : (protocol : Option Protocol) (x y : Sides → MatchResult) → hosts_by protocol (λ at. either (x at) (y at)) ≡ either
+      (hosts_by protocol x) (hosts_by protocol y)
   hosts_join None x y =
       let only = kinds_exclude p (type_offset link) in
       let a = kind_reads kind.Arp in
       let r = kind_reads kind.Rarp in
       let u = address_places link kind.Arp in
       let v = address_places link kind.Rarp in
-      ap (either _) (ap (either _) (both_either r (x v) (y v)) ∙ kinds a (x u) (y u) (both r (x v)) (both r (y v)) (λ e. (ap (λ z. both z (x v)) (only.3 e), ap (λ z. both z (y v)) (only.3 e))))
-      ∙ kinds (kind_reads kind.Ip) (x (address_places link kind.Ip)) (y (address_places link kind.Ip)) (either (both a (x u)) (both r (x v))) (either (both a (y u)) (both r (y v)))
+      ap (either _) (ap (either _) (both_either r (x v) (y v)) ∙ kinds a (x u) (y u) (both r (x v)) (both r (y v))
+      (λ e. (ap (λ z. both z (x v)) (only.3 e), ap (λ z. both z (y v)) (only.3 e))))
+      ∙ kinds (kind_reads kind.Ip) (x (address_places link kind.Ip)) (y (address_places link kind.Ip)) (either (both a (x u)) (both r (x v)))
+      (either (both a (y u)) (both r (y v)))
       (λ e. (ap₂ (λ z w. either (both z (x u)) (both w (x v))) (only.1 e) (only.2 e), ap₂ (λ z w. either (both z (y u)) (both w (y v))) (only.1 e) (only.2 e)))
   hosts_join (Some Ip) x y = both_either (kind_reads kind.Ip) _ _
   hosts_join (Some Protocol.Arp) x y = both_either (kind_reads kind.Arp) _ _
   hosts_join (Some Protocol.Rarp) x y = both_either (kind_reads kind.Rarp) _ _
   hosts_join (Some _) x y = refl
 
-  ports_join : (protocol : Option Protocol) (x y : Sides → MatchResult) → ports_by protocol (λ at. either (x at) (y at)) ≡ either (ports_by protocol x) (ports_by protocol y)
+  ports_join : (protocol : Option Protocol) (x y : Sides → MatchResult) → ports_by protocol (λ at. either (x at) (y at)) ≡ either
+      (ports_by protocol x) (ports_by protocol y)
   ports_join protocol x y =
       let h = port_places (ip_transport link) in
       let k = port_places (ip6_transport link) in
       let after = after_reads protocol (ip6_transport link) in
-      ap₂ (λ v w. either (both (kind_reads kind.Ip) v) (both (kind_reads kind.Ip6) w)) (after_more protocol (ip_transport link) (x h) (y h)) (after_more protocol (ip6_transport link) (x k) (y k))
+      ap₂ (λ v w. either (both (kind_reads kind.Ip) v) (both (kind_reads kind.Ip6) w)) (after_more protocol (ip_transport link) (x h) (y h))
+      (after_more protocol (ip6_transport link) (x k) (y k))
       ∙ ap (either _) (both_either (kind_reads kind.Ip6) (after (x k)) (after (y k)))
-      ∙ kinds (kind_reads kind.Ip) _ _ (both (kind_reads kind.Ip6) (after (x k))) (both (kind_reads kind.Ip6) (after (y k))) (λ e. let no = (kinds_exclude p (type_offset link)).0 e in (ap (λ z. both z (after (x k))) no, ap (λ z. both z (after (y k))) no))
+      ∙ kinds (kind_reads kind.Ip) _ _ (both (kind_reads kind.Ip6) (after (x k))) (both (kind_reads kind.Ip6) (after (y k)))
+      (λ e. let no = (kinds_exclude p (type_offset link)).0 e in (ap (λ z. both z (after (x k))) no, ap (λ z. both z (after (y k))) no))
 
-  sides_join : (k : ValueType) (protocol : Option Protocol) (x y : Sides → MatchResult) → by_sides k protocol (λ at. either (x at) (y at)) ≡ either (by_sides k protocol x) (by_sides k protocol y)
+  sides_join : (k : ValueType) (protocol : Option Protocol) (x y : Sides → MatchResult) → by_sides k protocol (λ at. either (x at) (y at)) ≡ either
+      (by_sides k protocol x) (by_sides k protocol y)
   sides_join Host protocol x y = hosts_join protocol x y
   sides_join Net protocol x y = hosts_join protocol x y
   sides_join Port protocol x y = ports_join protocol x y
   sides_join PortRange protocol x y = ports_join protocol x y
   sides_join _ protocol x y = refl
 
-  ports_are : (protocol : Option Protocol) (d : Direction) (ports : Ports) (bs : Numbers) → reads link (port_formula link (port_test protocol d ports) bs) p n ≡ two_headers protocol (reads link (port_sides ports d (ip_transport link) bs) p n) (reads link (port_sides ports d (ip6_transport link) bs) p n)
+  ports_are : (protocol : Option Protocol) (d : Direction) (ports : Ports) (bs : Numbers)
+      → reads link (port_formula link (port_test protocol d ports) bs) p n ≡ two_headers protocol
+      (reads link (port_sides ports d (ip_transport link) bs) p n) (reads link (port_sides ports d (ip6_transport link) bs) p n)
   ports_are protocol d ports bs =
       let h = ip_transport link in
       let k = ip6_transport link in
-      ap₂ (λ v w. either (both (kind_reads kind.Ip) v) (both (kind_reads kind.Ip6) w)) (after_is protocol h (port_sides ports d h bs)) (after_is protocol k (port_sides ports d k bs))
+      ap₂ (λ v w. either (both (kind_reads kind.Ip) v) (both (kind_reads kind.Ip6) w)) (after_is protocol h (port_sides ports d h bs))
+      (after_is protocol k (port_sides ports d k bs))
 
-  hosts_same : (protocol : Option Protocol) (x y : Sides → MatchResult) → ((k : FrameKind) → x (address_places link k) ≡ y (address_places link k)) → hosts_by protocol x ≡ hosts_by protocol y
-  hosts_same None x y e = ap₂ either (ap (both (kind_reads kind.Ip)) (e kind.Ip)) (ap₂ either (ap (both (kind_reads kind.Arp)) (e kind.Arp)) (ap (both (kind_reads kind.Rarp)) (e kind.Rarp)))
+  hosts_same : (protocol : Option Protocol) (x y : Sides → MatchResult) → ((k : FrameKind) → x (address_places link k) ≡ y (address_places link k))
+      → hosts_by protocol x ≡ hosts_by protocol y
+  hosts_same None x y e = ap₂ either (ap (both (kind_reads kind.Ip)) (e kind.Ip))
+      (ap₂ either (ap (both (kind_reads kind.Arp)) (e kind.Arp)) (ap (both (kind_reads kind.Rarp)) (e kind.Rarp)))
   hosts_same (Some Ip) x y e = ap (both (kind_reads kind.Ip)) (e kind.Ip)
   hosts_same (Some Protocol.Arp) x y e = ap (both (kind_reads kind.Arp)) (e kind.Arp)
   hosts_same (Some Protocol.Rarp) x y e = ap (both (kind_reads kind.Rarp)) (e kind.Rarp)
@@ -264,10 +293,12 @@ module _ (link : Link) (p : List ℕ) (n : ℕ) where
   abbrev pub member_reads : ValueType → Option Protocol → Direction → Interval → MatchResult
   member_reads k protocol d m = by_sides k protocol (λ at. plain_reads d (source_of at) (destination_of at) (hit m))
 
-  pub members_more : (k : ValueType) (protocol : Option Protocol) (d : Direction) (m l : Interval) (ms : List Interval) → Merged d → members_read k protocol d m (l ∷ ms) ≡ either (member_reads k protocol d m) (members_read k protocol d l ms)
+  pub members_more : (k : ValueType) (protocol : Option Protocol) (d : Direction) (m l : Interval) (ms : List Interval) → Merged d
+      → members_read k protocol d m (l ∷ ms) ≡ either (member_reads k protocol d m) (members_read k protocol d l ms)
   members_more k protocol d m l ms h =
       ap (by_sides k protocol) (λ i at. one_more d (source_of at) (destination_of at) (hit m) (hit l) (λ x. is_within x ms) h i)
-      ∙ sides_join k protocol (λ at. plain_reads d (source_of at) (destination_of at) (hit m)) (λ at. sides_read d (source_of at) (destination_of at) (hit l) (λ x. is_within x (l ∷ ms)))
+      ∙ sides_join k protocol (λ at. plain_reads d (source_of at) (destination_of at) (hit m))
+      (λ at. sides_read d (source_of at) (destination_of at) (hit l) (λ x. is_within x (l ∷ ms)))
 
   pub members_alone : (k : ValueType) (protocol : Option Protocol) (d : Direction) (m : Interval) → members_read k protocol d m [] ≡ member_reads k protocol d m
   members_alone k protocol d m = ap (by_sides k protocol) (λ i at. one_alone d (source_of at) (destination_of at) (hit m) i)
@@ -276,9 +307,12 @@ module _ (link : Link) (p : List ℕ) (n : ℕ) where
   abbrev sought_at : Sides → Direction → Numbers → MatchResult
   sought_at at d numbers = reads link (Sought d at numbers) p n
 
-  module _ (q : CompleteQualifiers) (b : Bool) (m : Interval) (ms all : List Interval) (h : Merged q.direction) (o : Ordered 0 all) (w : (y : ℕ) → is_within y all ≡ is_within y (m ∷ ms)) where
-    sides_are : (at : Sides) → Fitting b at → sought_at at q.direction (sought b m all) ≡ sides_read q.direction (source_of at) (destination_of at) (hit m) (λ x. is_within x (m ∷ ms))
-    sides_are at fit = by q.direction h ∙ sides_seen q.direction (source_of at) (destination_of at) _ _ _ _ (λ x e. one x (small x (inl e))) (λ x e. one x (small x (inr e))) (λ x e. some x (small x (inl e))) (λ x e. some x (small x (inr e)))
+  module _ (q : CompleteQualifiers) (b : Bool) (m : Interval) (ms all : List Interval) (h : Merged q.direction) (o : Ordered 0 all)
+      (w : (y : ℕ) → is_within y all ≡ is_within y (m ∷ ms)) where
+    sides_are : (at : Sides) → Fitting b at → sought_at at q.direction (sought b m all) ≡ sides_read q.direction (source_of at) (destination_of at)
+        (hit m) (λ x. is_within x (m ∷ ms))
+    sides_are at fit = by q.direction h ∙ sides_seen q.direction (source_of at) (destination_of at) _ _ _ _ (λ x e. one x (small x (inl e)))
+        (λ x e. one x (small x (inr e))) (λ x e. some x (small x (inl e))) (λ x e. some x (small x (inr e)))
       where
         last : ℕ
         last = left_out b m (joined_all all)
@@ -298,7 +332,8 @@ module _ (link : Link) (p : List ℕ) (n : ℕ) where
         some : (x : ℕ) → Small last x → is_within (u x) (map (cut last) (joined_all all)) ≡ is_within x (m ∷ ms)
         some x l = cut_within last x m (joined_all all) idle l ∙ within_joined x all o ∙ w x
 
-        by : (e : Direction) → Merged e → sought_at at e (sought b m all) ≡ sides_read e (source_of at) (destination_of at) (λ x. is_within (u x) (cut last m ∷ [])) (λ x. is_within (u x) (map (cut last) (joined_all all)))
+        by : (e : Direction) → Merged e → sought_at at e (sought b m all) ≡ sides_read e (source_of at) (destination_of at)
+            (λ x. is_within (u x) (cut last m ∷ [])) (λ x. is_within (u x) (map (cut last) (joined_all all)))
         by (Direction.Both And) q = absurd q
         by (Direction.One Source) q = refl
         by _ q = refl
@@ -306,7 +341,8 @@ module _ (link : Link) (p : List ℕ) (n : ℕ) where
     hosts_are : reads link (several_formula link q Host (sought b m all)) p n ≡ members_read Host q.protocol q.direction m ms
     hosts_are = by q.protocol ∙ hosts_same q.protocol _ _ (λ k. sides_are (address_places link k) (address_fitting b link k))
       where
-        by : (protocol : Option Protocol) → reads link (several_formula link (record q { protocol = protocol }) Host (sought b m all)) p n ≡ hosts_by protocol (λ at. sought_at at q.direction (sought b m all))
+        by : (protocol : Option Protocol) → reads link (several_formula link (record q { protocol = protocol }) Host (sought b m all)) p n ≡ hosts_by
+            protocol (λ at. sought_at at q.direction (sought b m all))
         by (Some Ip) = refl
         by _ = refl
 
@@ -314,9 +350,11 @@ module _ (link : Link) (p : List ℕ) (n : ℕ) where
     several_ports : b ≡ false → reads link (several_formula link q Port (sought b m all)) p n ≡ members_read Port q.protocol q.direction m ms
     several_ports e =
         ports_are q.protocol q.direction Several (sought b m all)
-        ∙ ap₂ (two_headers q.protocol) (sides_are (port_places (ip_transport link)) (unmasked_fitting b (port_places (ip_transport link)) e)) (sides_are (port_places (ip6_transport link)) (unmasked_fitting b (port_places (ip6_transport link)) e))
+        ∙ ap₂ (two_headers q.protocol) (sides_are (port_places (ip_transport link)) (unmasked_fitting b (port_places (ip_transport link)) e))
+        (sides_are (port_places (ip6_transport link)) (unmasked_fitting b (port_places (ip6_transport link)) e))
 
-    pub several_are : (k : ValueType) → (b ≡ true → is_address k ≡ true) → reads link (several_formula link q k (sought b m all)) p n ≡ members_read k q.protocol q.direction m ms
+    pub several_are : (k : ValueType) → (b ≡ true → is_address k ≡ true) → reads link (several_formula link q k (sought b m all)) p n ≡ members_read k
+        q.protocol q.direction m ms
     several_are Host f = hosts_are
     several_are Net f = hosts_are
     several_are Port f = several_ports (not_both b _ f refl)
@@ -324,13 +362,16 @@ module _ (link : Link) (p : List ℕ) (n : ℕ) where
     several_are _ f = refl
 
   -- the row of a member
-  row_sides : (at : Sides) (d : Direction) (s t : List Elementary) (f : ℕ → Bool) → reads link (all_of s) p n ≡ read_by (source_of at) f → reads link (all_of t) p n ≡ read_by (destination_of at) f → reads link (sides d s t) p n ≡ plain_reads d (source_of at) (destination_of at) f
+  row_sides : (at : Sides) (d : Direction) (s t : List Elementary) (f : ℕ → Bool) → reads link (all_of s) p n ≡ read_by (source_of at) f
+      → reads link (all_of t) p n ≡ read_by (destination_of at) f → reads link (sides d s t) p n ≡ plain_reads d (source_of at) (destination_of at) f
   row_sides at (Direction.One Source) s t f e h = e
   row_sides at (Direction.One Destination) s t f e h = h
   row_sides at (Direction.Both Or) s t f e h = ap₂ either e h
   row_sides at (Direction.Both And) s t f e h = ap₂ both e h
 
-  address_row : (protocol : Option Protocol) (d : Direction) (mask : Option ℕ) (a : ℕ) (f : ℕ → Bool) → ((x : ℕ) → x < 2 ^ 32 → (under_mask mask x == a) ≡ f x) → reads link (net_formula link protocol d mask a) p n ≡ hosts_by protocol (λ at. plain_reads d (source_of at) (destination_of at) f)
+  address_row : (protocol : Option Protocol) (d : Direction) (mask : Option ℕ) (a : ℕ) (f : ℕ → Bool)
+      → ((x : ℕ) → x < 2 ^ 32 → (under_mask mask x == a) ≡ f x) → reads link (net_formula link protocol d mask a) p n ≡ hosts_by protocol
+      (λ at. plain_reads d (source_of at) (destination_of at) f)
   address_row protocol d mask a f e = kinds_are protocol ∙ hosts_same protocol row (λ at. plain_reads d (source_of at) (destination_of at) f) each
     where
       row : Sides → MatchResult
@@ -345,25 +386,34 @@ module _ (link : Link) (p : List ℕ) (n : ℕ) where
           let at = address_places link k in
           let fit = address_fitting true link k refl p in
           row_sides at d (address_test mask a at.source ∷ []) (address_test mask a at.destination ∷ []) f
-          (read_seen (source_of at) (λ x. under_mask mask x == a) f (λ x g. e x (fit x (inl g)))) (read_seen (destination_of at) (λ x. under_mask mask x == a) f (λ x g. e x (fit x (inr g))))
+          (read_seen (source_of at) (λ x. under_mask mask x == a) f (λ x g. e x (fit x (inl g))))
+          (read_seen (destination_of at) (λ x. under_mask mask x == a) f (λ x g. e x (fit x (inr g))))
 
   both_ends : (o : Option ℕ) (a b : ℕ) → both (read_by o (λ x. nat_le a x)) (read_by o (λ x. nat_le x b)) ≡ read_by o (λ x. nat_le a x && nat_le x b)
   both_ends None a b = refl
   both_ends (Some x) a b = yes_and (nat_le a x) (nat_le x b)
 
-  port_row : (protocol : Option Protocol) (d : Direction) (ports : Ports) (tests : Offset → List Elementary) (f : ℕ → Bool) → ((header : Transport) → port_sides ports d header no_numbers ≡ sides d (tests header.source) (tests header.destination)) → ((at : Offset) → reads link (all_of (tests at)) p n ≡ read_by (field_at at HalfWord p) f)
-      → reads link (port_formula link (port_test protocol d ports) no_numbers) p n ≡ ports_by protocol (λ at. plain_reads d (source_of at) (destination_of at) f)
-  port_row protocol d ports tests f are e = ports_are protocol d ports no_numbers ∙ ap₂ (two_headers protocol) (row (ip_transport link)) (row (ip6_transport link))
+  port_row : (protocol : Option Protocol) (d : Direction) (ports : Ports) (tests : Offset → List Elementary) (f : ℕ → Bool)
+      → ((header : Transport) → port_sides ports d header no_numbers ≡ sides d (tests header.source) (tests header.destination))
+      → ((at : Offset) → reads link (all_of (tests at)) p n ≡ read_by (field_at at HalfWord p) f)
+      → reads link (port_formula link (port_test protocol d ports) no_numbers) p n ≡ ports_by protocol
+      (λ at. plain_reads d (source_of at) (destination_of at) f)
+  port_row protocol d ports tests f are e = ports_are protocol d ports no_numbers ∙ ap₂ (two_headers protocol) (row (ip_transport link))
+      (row (ip6_transport link))
     where
-      row : (header : Transport) → reads link (port_sides ports d header no_numbers) p n ≡ plain_reads d (source_of (port_places header)) (destination_of (port_places header)) f
-      row header = ap (λ (x : Formula). reads link x p n) (are header) ∙ row_sides (port_places header) d (tests header.source) (tests header.destination) f (e header.source) (e header.destination)
+      row : (header : Transport) → reads link (port_sides ports d header no_numbers) p n ≡ plain_reads d (source_of (port_places header))
+          (destination_of (port_places header)) f
+      row header = ap (λ (x : Formula). reads link x p n) (are header) ∙ row_sides (port_places header) d (tests header.source)
+          (tests header.destination) f (e header.source) (e header.destination)
 
   -- a value that looks for these numbers: their order, its tests, of which there are no fewer, and how it reads
   abbrev pub IsMember : ValueType → Option Protocol → Direction → Value → Interval → Type 0
-  IsMember k protocol d v m = (m.low ≤ m.high) × (member_tests k protocol d ≤ count.typed_tests k protocol d v) × (reads link (value_formula link k protocol d v) p n ≡ member_reads k protocol d m)
+  IsMember k protocol d v m = (m.low ≤ m.high) × (member_tests k protocol d ≤ count.typed_tests k protocol d v)
+      × (reads link (value_formula link k protocol d v) p n ≡ member_reads k protocol d m)
 
   abbrev IsNet : Option Protocol → Direction → ℕ → ℕ → Interval → Type 0
-  IsNet protocol d b a m = (m.low ≤ m.high) × (count.ip4_tests protocol d ≤ count.ip4_tests protocol d) × (reads link (net_formula link protocol d (partial_mask (first_bits 32 b)) a) p n ≡ member_reads Net protocol d m)
+  IsNet protocol d b a m = (m.low ≤ m.high) × (count.ip4_tests protocol d ≤ count.ip4_tests protocol d)
+      × (reads link (net_formula link protocol d (partial_mask (first_bits 32 b)) a) p n ≡ member_reads Net protocol d m)
 
   net_row : (protocol : Option Protocol) (d : Direction) (b a : ℕ) → Each (net_numbers (record { address = a; mask = first_bits 32 b })) (IsNet protocol d b a)
   net_row protocol d b a =
@@ -372,12 +422,22 @@ module _ (link : Link) (p : List ℕ) (n : ℕ) where
       (λ t. tt)
 
   pub member_is : (k : ValueType) (protocol : Option Protocol) (d : Direction) (v : Value) → Each (member_of k v) (IsMember k protocol d v)
-  member_is Host protocol d (Value.Dotted x z) = (omega arith, omega arith, address_row protocol d None x.address _ (λ y s. one_number y x.address x.address refl))
+  member_is Host protocol d (Value.Dotted x z) =
+      (omega arith, omega arith, address_row protocol d None x.address _ (λ y s. one_number y x.address x.address refl))
   member_is Net protocol d (Value.Number x NetMask.Unwritten) = net_row protocol d 8 (x % 256 * 2 ^ 24)
   member_is Net protocol d (Value.Number x (NetMask.Prefix b)) = net_row protocol d b (x % 256 * 2 ^ 24)
   member_is Net protocol d (Value.Dotted x NetMask.Unwritten) = net_row protocol d (8 * x.parts) x.address
   member_is Net protocol d (Value.Dotted x (NetMask.Prefix b)) = net_row protocol d b x.address
-  member_is Port protocol d (Value.Number x z) = (omega arith, omega arith, port_row protocol d (One x) (port_is x) _ (λ header. refl) (λ at. ap (read_by (field_at at HalfWord p)) (λ i y. one_number y x x refl i)))
-  member_is PortRange protocol d (Value.Range a b) =
-      (omega arith, (let more = more_tests d in omega arith), port_row protocol d (Between (min a b) (max a b)) (port_between (min a b) (max a b)) _ (λ header. refl) (λ at. both_ends (field_at at HalfWord p) (min a b) (max a b)))
+  member_is Port protocol d (Value.Number x z) = (
+    omega arith,
+    omega arith,
+    port_row protocol d (One x) (port_is x) _ (λ header. refl)
+        (λ at. ap (read_by (field_at at HalfWord p)) (λ i y. one_number y x x refl i)),
+  )
+  member_is PortRange protocol d (Value.Range a b) = (
+    omega arith,
+    (let more = more_tests d in omega arith),
+    port_row protocol d (Between (min a b) (max a b)) (port_between (min a b) (max a b)) _
+        (λ header. refl) (λ at. both_ends (field_at at HalfWord p) (min a b) (max a b)),
+  )
   member_is _ protocol d _ = tt

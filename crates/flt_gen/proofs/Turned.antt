@@ -1,6 +1,8 @@
 -- The last of the nodes that are left are emitted, one or several at once: what is left to do then
 -- leads to the same walk.
-use Rattle.flt_gen.proofs.Common.{◌++◌, drop, length-drop, zero, ◌<◌, Check, length-take, ◌≡◌, ℕ, ◌-◌, List, [], ◌∷◌, length, take, get_or, suc, ◌≤◌, Some, None, Entry, Equal, Ether, refl, sym, ap, ◌∙◌, arith, reverse, take-suc, reverse-append, Node, Link, Walk, emit_node, emit_both_nodes, or_walk, emit_nodes}
+use Rattle.flt_gen.proofs.Common.{◌++◌, drop, length-drop, zero, ◌<◌, Check, length-take, ◌≡◌, ℕ, ◌-◌, List, [], ◌∷◌, length, take, get_or, suc, ◌≤◌, Some}
+use Rattle.flt_gen.proofs.Common.{None, Entry, Equal, Ether, refl, sym, ap, ◌∙◌, arith, reverse, take-suc, reverse-append, Node, Link, Walk, emit_node}
+use Rattle.flt_gen.proofs.Common.{emit_both_nodes, or_walk, emit_nodes}
 use Rattle.flt_gen.specs.inside.{Relations.relation, Relations.relation_in, Walk.emit_member}
 use Rattle.std.proofs.Math.Seq.{drop-append_seam}
 use Rattle.std.proofs.lemmas.List.{take_all, take-append-drop, length-reverse}
@@ -10,25 +12,32 @@ pub reverse_taken : {A : Type 0} (xs : List A) (e : ℕ) → reverse (take e xs)
 reverse_taken xs e =
     let parts : reverse xs ≡ reverse (drop e xs) ++ reverse (take e xs) = ap reverse (sym (take-append-drop e xs)) ∙ reverse-append (take e xs) (drop e xs) in
     let n : length (reverse xs) - e ≡ length (reverse (drop e xs)) = omega (arith, length-reverse xs, length-reverse (drop e xs), length-drop e xs) in
-    sym (ap (λ k. drop k (reverse xs)) n ∙ ap (λ ys. drop (length (reverse (drop e xs))) ys) parts ∙ drop-append_seam (reverse (drop e xs)) (reverse (take e xs)))
+    sym (ap (λ k. drop k (reverse xs)) n ∙ ap (λ ys. drop (length (reverse (drop e xs))) ys) parts ∙ drop-append_seam (reverse (drop e xs))
+    (reverse (take e xs)))
 
 never : {A B : Type 0} (v : A) → None ≡ Some v → B
 never v e = cc
 
 -- a relation is put at once
-relation_walked : (link : Link) (w : Walk) (a b c d : Node) (ns : List Node) (e : Entry) → relation_in (a ∷ b ∷ c ∷ d ∷ ns) ≡ Some e → emit_nodes link w (a ∷ b ∷ c ∷ d ∷ ns) ≡ emit_nodes link (emit_member link e w) ns
-relation_walked link w (Node.Compare Equal) (Node.Literal k) (Node.Load p s) (Node.Literal i) ns e is = (let same : relation p s i k ≡ e = cc in ap (λ x. emit_nodes link (emit_member link x w) ns) same)
+relation_walked : (link : Link) (w : Walk) (a b c d : Node) (ns : List Node) (e : Entry) → relation_in (a ∷ b ∷ c ∷ d ∷ ns) ≡ Some e
+    → emit_nodes link w (a ∷ b ∷ c ∷ d ∷ ns) ≡ emit_nodes link (emit_member link e w) ns
+relation_walked link w (Node.Compare Equal) (Node.Literal k) (Node.Load p s) (Node.Literal i) ns e is =
+    (let same : relation p s i k ≡ e = cc in ap (λ x. emit_nodes link (emit_member link x w) ns) same)
 relation_walked link w _ _ _ _ ns e is = never e is
 
-both_walked : (link : Link) (w v : Walk) (n m : Node) (ns : List Node) → relation_in (n ∷ m ∷ ns) ≡ None → emit_both_nodes link w n m ≡ Some v → emit_nodes link w (n ∷ m ∷ ns) ≡ emit_nodes link v ns
+both_walked : (link : Link) (w v : Walk) (n m : Node) (ns : List Node) → relation_in (n ∷ m ∷ ns) ≡ None → emit_both_nodes link w n m ≡ Some v
+    → emit_nodes link w (n ∷ m ∷ ns) ≡ emit_nodes link v ns
 both_walked link w v (Node.Compare Equal) (Node.Literal k) (Node.Load p s ∷ Node.Literal i ∷ ns) none e = never _ (sym none)
-both_walked link w v (Node.Apply o) (Node.Literal k) ns none e = ap (λ x. emit_nodes link (or_walk x (emit_node link (emit_node link w (Node.Apply o)) (Node.Literal k))) ns) e
+both_walked link w v (Node.Apply o) (Node.Literal k) ns none e =
+    ap (λ x. emit_nodes link (or_walk x (emit_node link (emit_node link w (Node.Apply o)) (Node.Literal k))) ns) e
 both_walked link w v (Node.Compare c) (Node.Literal k) ns none e = ap (λ x. emit_nodes link (or_walk x w) ns) e
 both_walked link w v (Node.Load p s) (Node.Literal k) ns none e = ap (λ x. emit_nodes link (or_walk x w) ns) e
 both_walked link w v _ _ ns none e = never v e
 
-one_walked : (link : Link) (w : Walk) (n m : Node) (ns : List Node) → emit_both_nodes link w n m ≡ None → emit_nodes link w (n ∷ m ∷ ns) ≡ emit_nodes link (emit_node link w n) (m ∷ ns)
-one_walked link w (Node.Apply o) (Node.Literal k) ns e = ap (λ x. emit_nodes link (or_walk x (emit_node link (emit_node link w (Node.Apply o)) (Node.Literal k))) ns) e
+one_walked : (link : Link) (w : Walk) (n m : Node) (ns : List Node) → emit_both_nodes link w n m ≡ None → emit_nodes link w (n ∷ m ∷ ns) ≡ emit_nodes
+    link (emit_node link w n) (m ∷ ns)
+one_walked link w (Node.Apply o) (Node.Literal k) ns e =
+    ap (λ x. emit_nodes link (or_walk x (emit_node link (emit_node link w (Node.Apply o)) (Node.Literal k))) ns) e
 one_walked link w (Node.Compare c) (Node.Literal k) ns e = never _ (sym e)
 one_walked link w (Node.Load p s) (Node.Literal k) ns e = never _ (sym e)
 one_walked link w (Node.Compare Equal) _ ns e = refl
@@ -44,16 +53,20 @@ one_put : (ns : List Node) (j i : ℕ) (other : Node) → j ≡ suc i → j ≤ 
 one_put ns j i other e within =
     ap (λ k. reverse (take k ns)) e ∙ ap reverse (take-suc ns i other (omega arith)) ∙ reverse-append (take i ns) (get_or ns i other ∷ [])
 
-two_put : (ns : List Node) (j i h : ℕ) (other : Node) → j ≡ suc i → i ≡ suc h → j ≤ length ns → reverse (take j ns) ≡ get_or ns i other ∷ get_or ns h other ∷ reverse (take h ns)
+two_put : (ns : List Node) (j i h : ℕ) (other : Node) → j ≡ suc i → i ≡ suc h → j ≤ length ns → reverse (take j ns) ≡ get_or ns i other ∷ get_or ns h
+    other ∷ reverse (take h ns)
 two_put ns j i h other e f within = one_put ns j i other e within ∙ ap (λ xs. get_or ns i other ∷ xs) (one_put ns i h other f (omega arith))
 
-pub last_four : (ns : List Node) → 4 ≤ length ns → reverse ns ≡ get_or ns (length ns - 1) (Check Ether) ∷ get_or ns (length ns - 2) (Check Ether) ∷ get_or ns (length ns - 3) (Check Ether) ∷ get_or ns (length ns - 4) (Check Ether) ∷ reverse (take (length ns - 4) ns)
+pub last_four : (ns : List Node) → 4 ≤ length ns → reverse ns ≡ get_or ns (length ns - 1) (Check Ether) ∷ get_or ns (length ns - 2) (Check Ether) ∷
+    get_or ns (length ns - 3) (Check Ether) ∷ get_or ns (length ns - 4) (Check Ether) ∷ reverse (take (length ns - 4) ns)
 last_four ns l =
     ap reverse (sym (take_all (length ns) ns (omega arith)))
     ∙ two_put ns (length ns) (length ns - 1) (length ns - 2) (Check Ether) (omega arith) (omega arith) (omega arith)
-    ∙ ap (λ xs. get_or ns (length ns - 1) (Check Ether) ∷ get_or ns (length ns - 2) (Check Ether) ∷ xs) (two_put ns (length ns - 2) (length ns - 3) (length ns - 4) (Check Ether) (omega arith) (omega arith) (omega arith))
+    ∙ ap (λ xs. get_or ns (length ns - 1) (Check Ether) ∷ get_or ns (length ns - 2) (Check Ether) ∷ xs)
+    (two_put ns (length ns - 2) (length ns - 3) (length ns - 4) (Check Ether) (omega arith) (omega arith) (omega arith))
 
-pub relation_put : (link : Link) (ns : List Node) (j : ℕ) (w : Walk) (e : Entry) → 4 ≤ length (take j ns) → j ≤ length ns → relation_in (reverse (take j ns)) ≡ Some e → emit_nodes link (emit_member link e w) (reverse (take (j - 4) ns)) ≡ emit_nodes link w (reverse (take j ns))
+pub relation_put : (link : Link) (ns : List Node) (j : ℕ) (w : Walk) (e : Entry) → 4 ≤ length (take j ns) → j ≤ length ns
+    → relation_in (reverse (take j ns)) ≡ Some e → emit_nodes link (emit_member link e w) (reverse (take (j - 4) ns)) ≡ emit_nodes link w (reverse (take j ns))
 relation_put link ns j w e some within is =
     let other = Node.Check Ether in
     let long = length-take j ns in
@@ -66,21 +79,28 @@ relation_put link ns j w e some within is =
 abbrev left_walk : Link → List Node → ℕ → Walk → Walk
 left_walk link ns k w = emit_nodes link w (reverse (take k ns))
 
-pub first_put : (link : Link) (ns : List Node) (left : ℕ) (w : Walk) → 0 < left → left ≤ length ns → left - 1 ≡ 0 → left_walk link ns (left - 1) (emit_node link w (get_or ns (left - 1) (Check Ether))) ≡ left_walk link ns left w
+pub first_put : (link : Link) (ns : List Node) (left : ℕ) (w : Walk) → 0 < left → left ≤ length ns → left - 1 ≡ 0 → left_walk link ns (left - 1)
+    (emit_node link w (get_or ns (left - 1) (Check Ether))) ≡ left_walk link ns left w
 first_put link ns (suc zero) w some within first =
     sym (ap (emit_nodes link w) (one_put ns (suc zero) zero (Check Ether) refl within) ∙ last_walked link w (get_or ns zero (Check Ether)))
 first_put link ns _ w some within first = absurd (omega arith)
 
-pub node_put : (link : Link) (ns : List Node) (left : ℕ) (w : Walk) → 0 < left - 1 → left ≤ length ns → emit_both_nodes link w (get_or ns (left - 1) (Check Ether)) (get_or ns (left - 1 - 1) (Check Ether)) ≡ None → left_walk link ns (left - 1) (emit_node link w (get_or ns (left - 1) (Check Ether))) ≡ left_walk link ns left w
+pub node_put : (link : Link) (ns : List Node) (left : ℕ) (w : Walk) → 0 < left - 1 → left ≤ length ns → emit_both_nodes link w
+    (get_or ns (left - 1) (Check Ether)) (get_or ns (left - 1 - 1) (Check Ether)) ≡ None → left_walk link ns (left - 1)
+    (emit_node link w (get_or ns (left - 1) (Check Ether))) ≡ left_walk link ns left w
 node_put link ns left w some within none =
     let one = one_put ns (left - 1) (left - 1 - 1) (Check Ether) (omega arith) (omega arith) in
     let two = two_put ns left (left - 1) (left - 1 - 1) (Check Ether) (omega arith) (omega arith) within in
-    sym (ap (emit_nodes link w) two ∙ one_walked link w (get_or ns (left - 1) (Check Ether)) (get_or ns (left - 1 - 1) (Check Ether)) (reverse (take (left - 1 - 1) ns)) none ∙ ap (emit_nodes link (emit_node link w (get_or ns (left - 1) (Check Ether)))) (sym one))
+    sym (ap (emit_nodes link w) two ∙ one_walked link w (get_or ns (left - 1) (Check Ether)) (get_or ns (left - 1 - 1) (Check Ether))
+    (reverse (take (left - 1 - 1) ns)) none ∙ ap (emit_nodes link (emit_node link w (get_or ns (left - 1) (Check Ether)))) (sym one))
 
-pub both_put : (link : Link) (ns : List Node) (left : ℕ) (w v : Walk) → 0 < left - 1 → left ≤ length ns → relation_in (reverse (take left ns)) ≡ None → emit_both_nodes link w (get_or ns (left - 1) (Check Ether)) (get_or ns (left - 1 - 1) (Check Ether)) ≡ Some v → left_walk link ns (left - 1 - 1) v ≡ left_walk link ns left w
+pub both_put : (link : Link) (ns : List Node) (left : ℕ) (w v : Walk) → 0 < left - 1 → left ≤ length ns → relation_in (reverse (take left ns)) ≡ None
+    → emit_both_nodes link w (get_or ns (left - 1) (Check Ether)) (get_or ns (left - 1 - 1) (Check Ether)) ≡ Some v → left_walk link ns (left - 1 - 1)
+    v ≡ left_walk link ns left w
 both_put link ns left w v some within none both =
     let two = two_put ns left (left - 1) (left - 1 - 1) (Check Ether) (omega arith) (omega arith) within in
-    sym (ap (emit_nodes link w) two ∙ both_walked link w v (get_or ns (left - 1) (Check Ether)) (get_or ns (left - 1 - 1) (Check Ether)) (reverse (take (left - 1 - 1) ns)) (ap relation_in (sym two) ∙ none) both)
+    sym (ap (emit_nodes link w) two ∙ both_walked link w v (get_or ns (left - 1) (Check Ether)) (get_or ns (left - 1 - 1) (Check Ether))
+    (reverse (take (left - 1 - 1) ns)) (ap relation_in (sym two) ∙ none) both)
 
 -- of what is left after each way to emit the last nodes
 pub ruleset node_steps = (first_put, node_put, both_put, relation_put)

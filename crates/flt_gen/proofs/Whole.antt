@@ -1,5 +1,10 @@
 -- The wide code of an expression decides it, within its bounds; and so does what replaces it.
-use Rattle.flt_gen.proofs.Common.{◌≡◌, ℕ, ◌+◌, ◌-◌, ◌*◌, ◌≤◌, List, [], ◌∷◌, length, drop, take, true, false, cond, Some, refl, sym, ap, ◌∙◌, subst, arith, fold, length-drop, ◌≢◌, ◌↔◌, reverse, All-cons, All-drop, All-nil, sum_by-take-drop, Insn, ReturnConstant, answer_of, IsValidUnlessLong, is_branch, JUMP, HasNoJump, IsShort, start, valid_if_short, faultless_drop, ends_drop, answer_drop, machine_answers, Node, tests_of, nodes_of, words_of, bound_of, expr_nodes, is_unfilled, some_primitive, Expression, empty, truth, Link, MatchResult, Yes, plain, IsProgramOf, short_bound_of, holds, with_folded, folded_expression, no_group, grouped_formula, returns_code, expression_code, program_code, emit_nodes, start_walk, insns_of}
+use Rattle.flt_gen.proofs.Common.{◌≡◌, ℕ, ◌+◌, ◌-◌, ◌*◌, ◌≤◌, List, [], ◌∷◌, length, drop, take, true, false, cond, Some, refl, sym, ap, ◌∙◌, subst, arith}
+use Rattle.flt_gen.proofs.Common.{fold, length-drop, ◌≢◌, ◌↔◌, reverse, All-cons, All-drop, All-nil, sum_by-take-drop, Insn, ReturnConstant, answer_of}
+use Rattle.flt_gen.proofs.Common.{IsValidUnlessLong, is_branch, JUMP, HasNoJump, IsShort, start, valid_if_short, faultless_drop, ends_drop, answer_drop}
+use Rattle.flt_gen.proofs.Common.{machine_answers, Node, tests_of, nodes_of, words_of, bound_of, expr_nodes, is_unfilled, some_primitive, Expression, empty}
+use Rattle.flt_gen.proofs.Common.{truth, Link, MatchResult, Yes, plain, IsProgramOf, short_bound_of, holds, with_folded, folded_expression, no_group}
+use Rattle.flt_gen.proofs.Common.{grouped_formula, returns_code, expression_code, program_code, emit_nodes, start_walk, insns_of}
 use Rattle.flt_gen.proofs.Folded.{expression_folded, nodes_folded}
 use Rattle.flt_gen.proofs.Grouping.{kept_none, grouped_stands}
 use Rattle.flt_gen.proofs.Exclusive.{or_no}
@@ -34,7 +39,8 @@ returns_sound : Sound returns_code
 unfolding fault_of operation_of
 returns_sound = record {
   valid = record { faultless = (refl, (refl, tt)); ends = refl };
-  no_jump = All-cons (λ i. i.code ≢ JUMP) (plain ReturnConstant 262144) (plain ReturnConstant 0 ∷ []) (λ e. absurd (omega arith)) (All-cons (λ i. i.code ≢ JUMP) (plain ReturnConstant 0) [] (λ e. absurd (omega arith)) (All-nil (λ i. i.code ≢ JUMP)));
+  no_jump = All-cons (λ i. i.code ≢ JUMP) (plain ReturnConstant 262144) (plain ReturnConstant 0 ∷ []) (λ e. absurd (omega arith))
+      (All-cons (λ i. i.code ≢ JUMP) (plain ReturnConstant 0) [] (λ e. absurd (omega arith)) (All-nil (λ i. i.code ≢ JUMP)));
 }
 
 no_branches : branches returns_code ≡ 0
@@ -54,19 +60,24 @@ pick_right Yes = (λ h. refl, λ e z. absurd (omega arith))
 pick_right _ = (λ h. absurd (h refl), λ e. cc)
 
 -- how the code of an expression stands on the two returns, and where it leads
-fits : (link : Link) (e : Expression) → some_primitive is_unfilled e ≡ false → words_of e ≤ 16 → FitsBy true returns_code (expression_code link e) (4 * tests_of e + 6 * nodes_of e) (6 * (tests_of e + nodes_of e))
-fits link empty filled few = more_by true _ _ (omega arith) (omega arith) (record { grows = none_by true returns_sound; entry = record { low = omega arith; upper_bound = omega arith } })
+fits : (link : Link) (e : Expression) → some_primitive is_unfilled e ≡ false → words_of e ≤ 16 → FitsBy true returns_code (expression_code link e)
+    (4 * tests_of e + 6 * nodes_of e) (6 * (tests_of e + nodes_of e))
+fits link empty filled few = more_by true _ _ (omega arith) (omega arith)
+    (record { grows = none_by true returns_sound; entry = record { low = omega arith; upper_bound = omega arith } })
 fits link (truth a) filled few =
     let s = grouped_stands link a no_group kept_none filled in
     more_by true _ _ (omega (arith, s.tests_fit, s.nodes_fit)) (omega (arith, s.tests_fit, s.nodes_fit))
-    (emitted_by true link (grouped_formula link no_group a) 2 1 returns_code (omega (arith, s.words_fit)) s.searches returns_sound (record { low = omega arith; upper_bound = omega arith }) (record { low = omega arith; upper_bound = omega arith }))
+    (emitted_by true link (grouped_formula link no_group a) 2 1 returns_code (omega (arith, s.words_fit)) s.searches returns_sound
+    (record { low = omega arith; upper_bound = omega arith }) (record { low = omega arith; upper_bound = omega arith }))
 
-leads : (link : Link) (e : Expression) → some_primitive is_unfilled e ≡ false → words_of e ≤ 16 → (p : List ℕ) (n : ℕ) → Leads p n HasWords (expression_code link e).code (expression_code link e).entry (pick (holds e link p n) 262144 0)
+leads : (link : Link) (e : Expression) → some_primitive is_unfilled e ≡ false → words_of e ≤ 16 → (p : List ℕ) (n : ℕ)
+    → Leads p n HasWords (expression_code link e).code (expression_code link e).entry (pick (holds e link p n) 262144 0)
 leads link empty filled few p n = hit_leads p n
 leads link (truth a) filled few p n =
     let s = grouped_stands link a no_group kept_none filled in
     leads_to p n (ap (λ r. pick r 262144 0) (s.reads_are p n ∙ or_no _))
-    (emitted_leads p n link (grouped_formula link no_group a) 2 1 262144 0 returns_code (omega (arith, s.words_fit)) s.searches (hit_leads p n) (miss_leads p n))
+    (emitted_leads p n link (grouped_formula link no_group a) 2 1 262144 0 returns_code (omega (arith, s.words_fit)) s.searches (hit_leads p n)
+    (miss_leads p n))
 
 -- what is left of code
 branches_drop : (c : List Insn) (k : ℕ) → branches (drop k c) ≤ branches c
@@ -108,7 +119,9 @@ folded_code code e link h = record {
 }
 
 -- such code with the same answers in its place, which is no longer and has no more branches
-replaced_code : (new old : List Insn) (e : Expression) (link : Link) → IsCodeOf old e link → HasNoJump new → length new ≤ length old → branches new ≤ branches old → ((p : List ℕ) (n answer : ℕ) → answer_of old p n 0 start ≡ Some answer → answer_of new p n 0 start ≡ Some answer) → IsCodeOf new e link
+replaced_code : (new old : List Insn) (e : Expression) (link : Link) → IsCodeOf old e link → HasNoJump new → length new ≤ length old
+    → branches new ≤ branches old → ((p : List ℕ) (n answer : ℕ) → answer_of old p n 0 start ≡ Some answer → answer_of new p n 0 start ≡ Some answer)
+    → IsCodeOf new e link
 replaced_code new old e link h no_jump shorter fewer runs = record {
   no_jump = no_jump;
   short = omega (arith, h.short);
@@ -116,7 +129,9 @@ replaced_code new old e link h no_jump shorter fewer runs = record {
   decides = λ p n. let d = h.decides p n in record { answer = d.answer; answered = runs p n d.answer d.answered; right = d.right };
 }
 
-made : (link : Link) (e : Expression) (walked folded tree : List Node) (wide : List Insn) → some_primitive is_unfilled e ≡ false → words_of e ≤ 16 → walked ≡ folded → reverse folded ≡ fold with_folded [] tree → tree ≡ expr_nodes e → wide ≡ insns_of (emit_nodes link start_walk (reverse walked)) → IsMadeOf wide e link
+made : (link : Link) (e : Expression) (walked folded tree : List Node) (wide : List Insn) → some_primitive is_unfilled e ≡ false → words_of e ≤ 16
+    → walked ≡ folded → reverse folded ≡ fold with_folded [] tree → tree ≡ expr_nodes e
+    → wide ≡ insns_of (emit_nodes link start_walk (reverse walked)) → IsMadeOf wide e link
 made link e walked folded tree wide filled few w f n c =
     let d = folded_expression e in
     let h = expression_folded e in
@@ -124,14 +139,16 @@ made link e walked folded tree wide filled few w f n c =
     record { is = folded_code wide e link m.is; valid = m.valid }
   where
     same : wide ≡ program_code link (folded_expression e)
-    same = c ∙ ap (λ ns. insns_of (emit_nodes link start_walk ns)) (ap reverse w ∙ f ∙ ap (fold with_folded []) n ∙ nodes_folded e) ∙ expression_walked link (folded_expression e)
+    same = c ∙ ap (λ ns. insns_of (emit_nodes link start_walk ns)) (ap reverse w ∙ f ∙ ap (fold with_folded []) n ∙ nodes_folded e)
+        ∙ expression_walked link (folded_expression e)
 
 -- after a round of the optimiser
 once_more : (link : Link) (e : Expression) (code short : List Insn) → bound_of e ≤ 32768 → IsRound short code → IsMadeOf code e link → IsMadeOf short e link
 once_more link e code short within r m =
     let t = r.threads in
     let s = r.shortens in
-    let is = replaced_code r.moved code e link m.is (t.no_jump m.is.no_jump) (omega (arith, t.same_length)) (omega (arith, t.branches)) (λ p n answer was. t.runs p n ∙ was) in
+    let is = replaced_code r.moved code e link m.is (t.no_jump m.is.no_jump) (omega (arith, t.same_length)) (omega (arith, t.branches))
+    (λ p n answer was. t.runs p n ∙ was) in
     let v = parts short (s.valid (valid_if_short r.moved (t.sound m.valid) (omega (arith, is.bounded)))) in
     record {
       is = replaced_code short r.moved e link is (s.no_jump is.no_jump) s.shorter s.fewer (λ p n answer i.
@@ -142,12 +159,16 @@ once_more link e code short within r m =
     }
 
 -- and after two
-pub made_short : (link : Link) (e : Expression) (walked folded tree : List Node) (wide once short : List Insn) → some_primitive is_unfilled e ≡ false → words_of e ≤ 16 → bound_of e ≤ 32768 → walked ≡ folded → reverse folded ≡ fold with_folded [] tree → tree ≡ expr_nodes e → wide ≡ insns_of (emit_nodes link start_walk (reverse walked)) → IsRound once wide → IsRound short once → IsMadeOf short e link
+pub made_short : (link : Link) (e : Expression) (walked folded tree : List Node) (wide once short : List Insn) → some_primitive is_unfilled e ≡ false
+    → words_of e ≤ 16 → bound_of e ≤ 32768 → walked ≡ folded → reverse folded ≡ fold with_folded [] tree → tree ≡ expr_nodes e
+    → wide ≡ insns_of (emit_nodes link start_walk (reverse walked)) → IsRound once wide → IsRound short once → IsMadeOf short e link
 made_short link e walked folded tree wide once short filled few within w f n c r r' =
     once_more link e once short within r' (once_more link e wide once within r (made link e walked folded tree wide filled few w f n c))
 
 -- what is laid out of it keeps every promise
-pub laid_program : (new code : List Insn) (e : Expression) (link : Link) → ((p : List ℕ) (n : ℕ) → answer_of new p n 0 start ≡ answer_of code p n 0 start) → length new ≤ length code + 2 * branches code → IsMadeOf code e link → IsProgramOf new e link
+pub laid_program : (new code : List Insn) (e : Expression) (link : Link)
+    → ((p : List ℕ) (n : ℕ) → answer_of new p n 0 start ≡ answer_of code p n 0 start) → length new ≤ length code + 2 * branches code
+    → IsMadeOf code e link → IsProgramOf new e link
 laid_program new code e link same at_most m = record {
   bounded = omega (arith, m.is.bounded);
   decides = λ p n.
@@ -156,10 +177,12 @@ laid_program new code e link same at_most m = record {
       record { answer = d.answer; count = r.met; answered = r.answered; upper_bound = omega (arith, r.upper_bound); right = d.right };
 }
 
-pub laid_valid : (new code : List Insn) (e : Expression) (link : Link) → bound_of e ≤ 32768 → length new ≤ length code + 2 * branches code → (IsValidUnlessLong code → length new ≤ 32768 → IsValid new) → IsMadeOf code e link → IsValid new
+pub laid_valid : (new code : List Insn) (e : Expression) (link : Link) → bound_of e ≤ 32768 → length new ≤ length code + 2 * branches code
+    → (IsValidUnlessLong code → length new ≤ 32768 → IsValid new) → IsMadeOf code e link → IsValid new
 laid_valid new code e link within at_most valid m = valid m.valid (omega (arith, m.is.bounded))
 
-pub laid_short : (new code : List Insn) (e : Expression) (link : Link) → short_bound_of e ≤ 256 → (HasNoJump code → length code ≤ 256 → IsShort new (length code)) → IsMadeOf code e link → IsShort new (short_bound_of e)
+pub laid_short : (new code : List Insn) (e : Expression) (link : Link) → short_bound_of e ≤ 256
+    → (HasNoJump code → length code ≤ 256 → IsShort new (length code)) → IsMadeOf code e link → IsShort new (short_bound_of e)
 laid_short new code e link few short m =
     let s = short m.is.no_jump (omega (arith, m.is.short)) in
     record { no_jump = s.no_jump; short = omega (arith, m.is.short, s.short) }

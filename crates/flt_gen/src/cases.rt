@@ -1,30 +1,27 @@
 //! Lists of MAC addresses, of addresses and networks of IPv6, and of protocol numbers, each on one
 //! side, and of relations of one accessor, as decision trees: the first words are compared by
 //! halves, and then the next ones. Each test loads its word; `flt_short` leaves out repeated loads.
-//! Hosts of IPv6 on either side that have the first two words in common are a tree for each side.
 
-ghost use Rattle.std.specs.Prelude.{◌≡◌, drop, length, reverse, OnOk, count_by, nat_lt};
+ghost use Rattle.std.specs.Prelude.{◌≡◌, drop, length, OnOk, count_by, nat_lt};
 ghost use Rattle.flt_gen.specs.inside.Cases.{case_of, same_words, key_of, insert_case, case_front};
 ghost use Rattle.flt_gen.specs.inside.Cases.{case_tests, lowest, reach, word_test, keeps, all_keep};
 ghost use Rattle.flt_gen.specs.inside.Cases.{test_at, from_test, middle, is_parted, chain};
 ghost use Rattle.flt_gen.specs.inside.{Emits.Emits, Code.emit_all, Code.emit_formula};
 ghost use Rattle.flt_gen.specs.inside.Emitted.{needed_tests};
-ghost use Rattle.flt_gen.specs.inside.Cases.{decision, cases_formula, either_ip6, sides_decision};
-ghost use Rattle.flt_gen.specs.inside.Cases.{few_of, unasked, asked, share_third};
+ghost use Rattle.flt_gen.specs.inside.Cases.{decision, cases_formula, few_of};
 ghost use Rattle.flt_gen.specs.inside.Emits.{EmitsFormula};
 
-use crate::address::{ip6_test, ip6_tests, is_idle, last_test};
+use crate::address::{ip6_test, is_idle, last_test};
 use crate::code::{Code, Targets};
 use crate::elementary::{
     Elementary, FieldTest, FrameKind, has_ip_proto, has_ip6_proto, kind_test, network_offset,
 };
-use crate::group::Entry;
 use crate::number::emit_protocol_tests;
 use crate::protocol::mac_tests;
 use crate::relation::{Relation, relation_test};
 use cap_octet::Link;
 use flt_ast::{CompleteQualifiers, Direction, Value};
-use flt_words::{Comparison, Join, Protocol, Side, ValueType};
+use flt_words::{Comparison, Protocol, Side, ValueType};
 use std::alloc::{AllocError, Allocator};
 
 /// How many cases of several words are compared one after the other, at most. Each half of more
@@ -42,15 +39,8 @@ const LONG_LIST: usize = 40;
 /// at least, so the tests between halves make a list longer by 5 % at most.
 const MOST_IN_TURN: usize = 40;
 
-/// How many hosts of either side are, at most: with fewer, both trees might have more tests than
-/// the hosts have one after the other.
-const FEW_HOSTS: usize = 6;
-
 /// How often cases are halved, or all have the same word, at most.
 const MOST_DECISIONS: usize = 64;
-
-/// An address of IPv6 divided by this is its first two words.
-const LAST_WORDS: u128 = 0x1_0000_0000_0000_0000;
 
 /// A value that is compared word by word.
 #[derive(Clone, Copy)]
@@ -58,8 +48,6 @@ pub enum Case {
     Mac(u64),
     /// An address of IPv6, with the length of its prefix where not all of its bits count.
     Ip6(Option<u32>, u128),
-    /// An address of IPv6 that may be the source or the destination.
-    EitherIp6(u128),
     IpProto(u32),
     Ip6Proto(u32),
     Relation(Relation),
@@ -73,8 +61,8 @@ enum Bound {
     Exactly(u32),
 }
 
-/// A value with its qualifiers as a case: an address of one side, a host of IPv6 on either side, or
-/// a protocol of IPv4 or of IPv6. `None` for any other.
+/// A value with its qualifiers as a case: an address of one side, or a protocol of IPv4 or of IPv6.
+/// `None` for any other.
 pub fn case_of(qualifiers: CompleteQualifiers, value: Value) -> Option<Case>
     ensures { result
         ≡ case_of qualifiers.value_type qualifiers.protocol qualifiers.direction value }
@@ -83,9 +71,6 @@ pub fn case_of(qualifiers: CompleteQualifiers, value: Value) -> Option<Case>
         (ValueType::Host, Direction::One(_), Value::Mac(address)) => Some(Case::Mac(address)),
         (ValueType::Host, Direction::One(_), Value::Ip6(address, _)) => {
             Some(Case::Ip6(None, address))
-        }
-        (ValueType::Host, Direction::Both(Join::Or), Value::Ip6(address, _)) => {
-            Some(Case::EitherIp6(address))
         }
         (ValueType::Net, Direction::One(_), Value::Ip6(address, prefix)) => {
             Some(Case::Ip6(prefix, address))
@@ -99,8 +84,7 @@ pub fn case_of(qualifiers: CompleteQualifiers, value: Value) -> Option<Case>
     }
 }
 
-/// Whether both are compared in the same words, of which hosts on either side have the first two in
-/// common.
+/// Whether both are compared in the same words.
 pub fn same_words(one: Case, other: Case) -> bool
     ensures { result ≡ same_words one other }
 {
@@ -109,7 +93,6 @@ pub fn same_words(one: Case, other: Case) -> bool
         | (Case::Ip6(_, _), Case::Ip6(_, _))
         | (Case::IpProto(_), Case::IpProto(_))
         | (Case::Ip6Proto(_), Case::Ip6Proto(_)) => true,
-        (Case::EitherIp6(one), Case::EitherIp6(other)) => one / LAST_WORDS == other / LAST_WORDS,
         (Case::Relation(one), Case::Relation(other)) => {
             one.protocol == other.protocol && one.size == other.size && one.index == other.index
         }
@@ -123,7 +106,7 @@ pub fn key_of(case: Case) -> u128
 {
     match case {
         Case::Mac(address) => address.into(),
-        Case::Ip6(_, address) | Case::EitherIp6(address) => address,
+        Case::Ip6(_, address) => address,
         Case::IpProto(number) | Case::Ip6Proto(number) => number.into(),
         Case::Relation(relation) => relation.number.into(),
     }
@@ -160,7 +143,6 @@ fn word_test(link: Link, direction: Direction, case: Case, word: usize) -> Optio
             Some(mac_tests(at, address)[word])
         }
         (Case::Ip6(prefix, address), 0..=3) => Some(ip6_test(prefix, address, ip6_at, word as u32)),
-        (Case::EitherIp6(address), 0..=3) => Some(ip6_test(None, address, ip6_at, word as u32)),
         (Case::IpProto(number), 0) => Some(has_ip_proto(link, number)),
         (Case::Ip6Proto(number), 0) => Some(has_ip6_proto(link, number)),
         (Case::Relation(relation), 0) => Some(relation_test(link, relation)),
@@ -283,15 +265,6 @@ fn is_parted(link: Link, direction: Direction, word: usize, cases: &[Case], at: 
         && all_keep(link, direction, word, Bound::From(number), &cases[at..])
 }
 
-/// Whether hosts of either side have the third word in common.
-fn share_third(link: Link, cases: &[Case]) -> bool
-    ensures { result ≡ share_third link cases.now }
-{
-    let side = Direction::One(Side::Source);
-    let third = lowest(test_at(link, side, 2, cases, 0));
-    all_keep(link, side, 2, Bound::Exactly(third), cases)
-}
-
 /// How many of some cases with the words of this one are compared one after the other, at most.
 fn few_of(one: Case, count: usize) -> usize
     ensures { result ≡ few_of one count }
@@ -394,113 +367,6 @@ impl<A: Allocator> Code<A> {
         self.emit_elementary(from_test(test, number), Targets { yes, no })
     }
 
-    /// Emits if the source is that of one of some hosts, in the words that may differ, and the
-    /// third word of the destination isn't that of one in front of it.
-    fn emit_unasked(
-        &mut self,
-        link: Link,
-        entries: &[Entry],
-        to: Targets,
-    ) -> Result<usize, AllocError>
-        ensures { EmitsFormula link (unasked link (reverse entries.now)) to self.old result
-            self.new }
-    {
-        let start = network_offset(link);
-        let mut at = to.yes;
-        for entry in entries {
-            if let Entry::Value(_, Value::Ip6(address, _)) = *entry {
-                let source = ip6_tests(None, address, start + 8);
-                let third = ip6_test(None, address, start + 24, 2);
-                let no = self.emit_elementary(third, Targets { yes: to.no, no: at })?;
-                at = self.emit_tests(false, &source[2..], Targets { yes: to.yes, no })?;
-            }
-        }
-        Ok(at)
-    }
-
-    /// Emits what is asked of the destination if the source is that of one of some hosts, of which
-    /// `address` is the first: as much as tests of the hosts in front of it read of the destination
-    /// has to be captured.
-    fn emit_asked(
-        &mut self,
-        link: Link,
-        address: u128,
-        share_third: bool,
-        entries: &[Entry],
-        to: Targets,
-    ) -> Result<usize, AllocError>
-        ensures { EmitsFormula link (asked link address share_third (reverse entries.now)) to
-            self.old result self.new }
-    {
-        let words = ip6_tests(None, address, network_offset(link) + 24);
-        let yes = to.yes;
-        let last = self.emit_tests(false, &words[3..], Targets { yes, no: yes })?;
-        if share_third {
-            return self.emit_tests(false, &words[..3], Targets { yes: last, no: yes });
-        }
-        let at = self.emit_unasked(link, entries, Targets { yes, no: last })?;
-        self.emit_tests(false, &words[..2], Targets { yes: at, no: yes })
-    }
-
-    /// Emits if either side is one of some hosts of IPv6, which have the first two words in common.
-    /// The first in the expression is `address`.
-    fn emit_either_ip6(
-        &mut self,
-        link: Link,
-        address: u128,
-        cases: &[Case],
-        entries: &[Entry],
-        to: Targets,
-    ) -> Result<usize, AllocError>
-        ensures { EmitsFormula link (either_ip6 link address cases.now (reverse entries.now)) to
-            self.old result self.new }
-    {
-        let start = network_offset(link);
-        let source = ip6_tests(None, address, start + 8);
-        let destination = ip6_tests(None, address, start + 24);
-        let (yes, no) = (to.yes, to.no);
-        let side = Direction::One(Side::Destination);
-        let found = self.emit_decision(MOST_DECISIONS, FEW_HOSTS, link, side, 2, cases, to)?;
-        let other = self.emit_tests(false, &destination[..2], Targets { yes: found, no })?;
-        let shared = share_third(link, cases);
-        let to = Targets { yes, no: other };
-        let asked = self.emit_asked(link, address, shared, entries, to)?;
-        let yes = self.emit_tests(false, &source[2..], Targets { yes, no: asked })?;
-        let side = Direction::One(Side::Source);
-        let to = Targets { yes, no: other };
-        let yes = self.emit_decision(MOST_DECISIONS, FEW_HOSTS, link, side, 2, cases, to)?;
-        self.emit_tests(false, &source[..2], Targets { yes, no: other })
-    }
-
-    /// Emits cases with the words of one, which are these entries; `key` is that of the first in
-    /// the expression.
-    fn emit_cases_like(
-        &mut self,
-        link: Link,
-        direction: Direction,
-        key: u128,
-        one: Case,
-        cases: &[Case],
-        entries: &[Entry],
-        to: Targets,
-    ) -> Result<usize, AllocError>
-        ensures { EmitsFormula link
-            (sides_decision link direction key one cases.now (reverse entries.now)) to self.old
-            result self.new }
-    {
-        let few = few_of(one, cases.len());
-        match one {
-            Case::EitherIp6(_) => self.emit_either_ip6(link, key, cases, entries, to),
-            Case::Mac(_)
-            | Case::Ip6(_, _)
-            | Case::IpProto(_)
-            | Case::Ip6Proto(_)
-            | Case::Relation(_) => {
-                self.emit_decision(MOST_DECISIONS, few, link, direction, 0, cases, to)
-            }
-        }
-    }
-
     /// Emits the tests in front of cases with the words of this one: the frames they may be in,
     /// or the tests that an accessor needs.
     fn emit_front(&mut self, link: Link, case: Case, to: Targets) -> Result<usize, AllocError>
@@ -508,7 +374,7 @@ impl<A: Allocator> Code<A> {
     {
         let kind = match case {
             Case::Mac(_) => FrameKind::Ethernet,
-            Case::Ip6(_, _) | Case::EitherIp6(_) | Case::Ip6Proto(_) => FrameKind::Ip6,
+            Case::Ip6(_, _) | Case::Ip6Proto(_) => FrameKind::Ip6,
             Case::IpProto(_) => FrameKind::Ip,
             Case::Relation(relation) => {
                 return emit_protocol_tests(self, link, relation.protocol, to);
@@ -517,25 +383,22 @@ impl<A: Allocator> Code<A> {
         self.emit_elementary(kind_test(link, kind), to)
     }
 
-    /// Emits cases, which are these entries, after the tests in front of them. `key` is the first's
-    /// in the expression. Returns the place where the code begins.
+    /// Emits cases after the tests in front of them. Returns the place where the code begins.
     pub fn emit_cases(
         &mut self,
         link: Link,
         direction: Direction,
-        key: u128,
         cases: &[Case],
-        entries: &[Entry],
         to: Targets,
     ) -> Result<usize, AllocError>
-        ensures { EmitsFormula link
-            (cases_formula link direction key cases.now (reverse entries.now)) to self.old result
+        ensures { EmitsFormula link (cases_formula link direction cases.now) to self.old result
             self.new }
     {
         let [first, ..] = cases else {
             return Ok(to.no);
         };
-        let yes = self.emit_cases_like(link, direction, key, *first, cases, entries, to)?;
+        let few = few_of(*first, cases.len());
+        let yes = self.emit_decision(MOST_DECISIONS, few, link, direction, 0, cases, to)?;
         self.emit_front(link, *first, Targets { yes, no: to.no })
     }
 }

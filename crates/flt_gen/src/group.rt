@@ -14,7 +14,7 @@ ghost use Rattle.flt_gen.specs.inside.Group.{has_networks, case_goes_with, with_
 ghost use Rattle.flt_gen.specs.inside.Group.{larger_by, entry_formula};
 
 use crate::address::Hosts;
-use crate::cases::{Case, case_of, key_of, put_case, same_words};
+use crate::cases::{Case, case_of, put_case, same_words};
 use crate::code::{Code, Targets};
 use crate::elementary::Interval;
 use crate::intervals::{Numbers, Room};
@@ -64,8 +64,6 @@ pub struct Group<A: Allocator> {
     all: Vec<Interval, A>,
     /// The members that are compared word by word, which ascend; the others have numbers.
     cases: Vec<Case, A>,
-    /// The number by which the value that stands first ascends among them.
-    first_key: u128,
     /// The members, of which the first in the expression is the latest.
     entries: Stack<Entry, A>,
     room: Room<A>,
@@ -82,7 +80,6 @@ impl<A: Allocator> Model for Group<A> {
       first = g.first;
       all = g.all.items;
       cases = g.cases.items;
-      first_key = g.first_key;
       entries = g.entries;
     } };
 }
@@ -98,14 +95,16 @@ fn same_type(one: ValueType, other: ValueType) -> bool
     }
 }
 
-/// Whether both have no protocol, or the same of `ip`, `tcp` and `udp`. Any other counts as never
-/// the same: it isn't looked for together.
+/// Whether both have no protocol, or the same of `ip`, `arp`, `rarp`, `tcp` and `udp`. Any other
+/// counts as never the same: it isn't looked for together.
 fn same_protocol(one: Option<Protocol>, other: Option<Protocol>) -> bool
     ensures { result ≡ same_protocol one other }
 {
     match (one, other) {
         (None, None) => true,
         (Some(Protocol::Ip), Some(Protocol::Ip)) => true,
+        (Some(Protocol::Arp), Some(Protocol::Arp)) => true,
+        (Some(Protocol::Rarp), Some(Protocol::Rarp)) => true,
         (Some(Protocol::Tcp), Some(Protocol::Tcp)) => true,
         (Some(Protocol::Udp), Some(Protocol::Udp)) => true,
         _ => false,
@@ -186,7 +185,6 @@ impl<A: Allocator> Group<A> {
         self.first = Interval { low: 0, high: 0 };
         self.all.clear();
         self.cases.clear();
-        self.first_key = 0;
         self.entries.clear();
     }
 
@@ -246,7 +244,6 @@ impl<A: Allocator> Group<A> {
         put_case(&mut self.cases, case)?;
         self.entries.push(entry)?;
         self.qualifiers = qualifiers;
-        self.first_key = key_of(case);
         Ok(true)
     }
 
@@ -308,9 +305,7 @@ impl<A: Allocator> Group<A> {
             return code.emit_rows(link, self.entries.entries(), to);
         }
         if !self.cases.is_empty() {
-            let direction = self.qualifiers.direction;
-            let (key, entries) = (self.first_key, self.entries.entries());
-            return code.emit_cases(link, direction, key, &self.cases, entries, to);
+            return code.emit_cases(link, self.qualifiers.direction, &self.cases, to);
         }
         let has_networks = self.has_networks();
         let numbers = self.room.numbers(has_networks, self.first, &self.all)?;
@@ -391,7 +386,6 @@ impl<A: Allocator + Clone> Group<A> {
             first: Interval { low: 0, high: 0 },
             all: Vec::new(alloc.clone()?),
             cases: Vec::new(alloc.clone()?),
-            first_key: 0,
             entries: Stack::new(alloc.clone()?),
             room: Room::new(alloc)?,
         })

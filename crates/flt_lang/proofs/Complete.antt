@@ -1,5 +1,11 @@
 -- What the grammar reads, the machine reads.
-use Rattle.flt_lang.proofs.Common.{◌≡◌, ◌≢◌, ℕ, ◌+◌, ◌<◌, ◌≤◌, List, [], ◌∷◌, refl, sym, ap, ◌∙◌, subst, ◌⊎◌, inl, inr, ⊎_elim, arith, Option, Some, None, true, lit≤, Protocol, Operator, Divide, Join, TokenKind, Value, Node, Frame, Operand, NumberTree, literal, TruthTree, bare, Expression, no_mask, prefix, ReadsValue, number, level, is_accessor, stands_alone, has_casts, Number, of_literal, of_len, of_name, enclosed, of_load, of_sized_load, minus, single, chain, Truth, of_check, of_cast, of_protocol_cast, of_sized, of_valued, of_bare, relation, denial, enclosed_truth, term, terms, IsReadAs, no_tokens, all_tokens, ◌>>=◌, precedence, operand_precedence, token_precedence, next_precedence, as_number, as_truth, as_sort, fill_frame, run, nodes_of_tokens, enclosed_operand, number_with_prefix, next_of, after_operand, IsLoose, number_onto, truth_onto, expr_onto}
+use Rattle.flt_lang.proofs.Common.{◌≡◌, ◌≢◌, ℕ, ◌+◌, ◌<◌, ◌≤◌, List, [], ◌∷◌, refl, sym, ap, ◌∙◌, subst, ◌⊎◌, inl, inr, ⊎_elim, arith, Option, Some, None, true}
+use Rattle.flt_lang.proofs.Common.{lit≤, Protocol, Operator, Divide, Join, TokenKind, Value, Node, Frame, Operand, NumberTree, literal, TruthTree, bare}
+use Rattle.flt_lang.proofs.Common.{Expression, no_mask, prefix, ReadsValue, number, level, is_accessor, stands_alone, has_casts, Number, of_literal, of_len}
+use Rattle.flt_lang.proofs.Common.{of_name, enclosed, of_load, of_sized_load, minus, single, chain, Truth, of_check, of_cast, of_protocol_cast, of_sized}
+use Rattle.flt_lang.proofs.Common.{of_valued, of_bare, relation, denial, enclosed_truth, term, terms, IsReadAs, no_tokens, all_tokens, ◌>>=◌, precedence}
+use Rattle.flt_lang.proofs.Common.{operand_precedence, token_precedence, next_precedence, as_number, as_truth, as_sort, fill_frame, run, nodes_of_tokens}
+use Rattle.flt_lang.proofs.Common.{enclosed_operand, number_with_prefix, next_of, after_operand, IsLoose, number_onto, truth_onto, expr_onto}
 use Rattle.flt_lang.proofs.Reducing.{le_true, le_false, reduce_stays}
 use Rattle.flt_lang.proofs.Valued.{IsNoMask, no_mask_at, plain_runs, value_runs, valued_runs}
 use Rattle.flt_lang.proofs.ValuesBack.{level_small}
@@ -17,12 +23,14 @@ tight_operand (frame.Apply o) fs h = omega arith
 tight_operand _ fs h = absurd (omega arith)
 
 -- after a frame that the next token makes take its operand, no value goes on
-no_prefix : (x : Operand) (ts : List TokenKind) (f : Frame) (fs : List Frame) (d : List Node) → precedence f ≤ next_precedence ts → after_operand ts (f ∷ fs) x d ≡ next_of ts (f ∷ fs) x d
+no_prefix : (x : Operand) (ts : List TokenKind) (f : Frame) (fs : List Frame) (d : List Node) → precedence f ≤ next_precedence ts
+    → after_operand ts (f ∷ fs) x d ≡ next_of ts (f ∷ fs) x d
 no_prefix (operand.Plain n) (token.Operator Divide ∷ token.Number m ∷ ts) f fs d h = rw (le_false 1 (operand_precedence (f ∷ fs)) (tight_operand f fs h)) refl
 no_prefix _ _ f fs d h = refl
 
 -- a frame that binds as tightly as the next token takes the operand
-take_frame : (f : Frame) (fs : List Frame) (x y : Operand) (d e : List Node) (ts : List TokenKind) → precedence f ≤ next_precedence ts → fill_frame f x d ≡ Some (y, e) → number_with_prefix y ts ≡ None → run ts 0 (f ∷ fs) (Some x) d ≡ run ts 0 fs (Some y) e
+take_frame : (f : Frame) (fs : List Frame) (x y : Operand) (d e : List Node) (ts : List TokenKind) → precedence f ≤ next_precedence ts
+    → fill_frame f x d ≡ Some (y, e) → number_with_prefix y ts ≡ None → run ts 0 (f ∷ fs) (Some x) d ≡ run ts 0 fs (Some y) e
 take_frame f fs x y d e [] h filled other = rw (le_true (precedence f) 8 h, filled)
 take_frame f fs x y d e (t ∷ ts) h filled other =
     ap (λ r. r >>= λ r. run ts r.0 r.1.0 r.1.1 r.1.2) (no_prefix x (t ∷ ts) f fs d h) ∙ rw (le_true (precedence f) (token_precedence t) h, filled, other) refl
@@ -33,7 +41,9 @@ loose m [] some other h = tt
 loose m (frame.Negate ∷ fs) some other h = absurd (omega arith)
 loose m _ some other h = omega arith
 
-operator_step : (o : Operator) (ts : List TokenKind) (fs : List Frame) (x : Operand) (d e : List Node) → level o + 1 ≤ operand_precedence fs → as_number x d ≡ Some e → number_with_prefix x (token.Operator o ∷ ts) ≡ None → run (token.Operator o ∷ ts) 0 fs (Some x) d ≡ run ts 0 (frame.Apply o ∷ fs) None e
+operator_step : (o : Operator) (ts : List TokenKind) (fs : List Frame) (x : Operand) (d e : List Node) → level o + 1 ≤ operand_precedence fs
+    → as_number x d ≡ Some e → number_with_prefix x (token.Operator o ∷ ts) ≡ None → run (token.Operator o ∷ ts) 0 fs (Some x) d ≡ run ts 0
+    (frame.Apply o ∷ fs) None e
 operator_step o ts fs x d e h is_num other =
     let is_loose = loose (level o + 1) fs (omega arith) (λ e. absurd (omega (arith, level_small o))) h in
     rw (other, reduce_stays (level o + 1) fs x d is_loose, le_true (level o + 1) (operand_precedence fs) h, is_num)
@@ -48,13 +58,25 @@ no_prefix_at (token.Operator o) ts (operand.Plain n) h = absurd h
 no_prefix_at _ ts (operand.Plain n) h = refl
 no_prefix_at t ts _ h = refl
 
-comparison_step : (c : Comparison) (ts : List TokenKind) (fs : List Frame) (x : Operand) (d e : List Node) → 6 ≤ operand_precedence fs → as_number x d ≡ Some e → run (token.Comparison c ∷ ts) 0 fs (Some x) d ≡ run ts 0 (frame.Compare c ∷ fs) None e
+comparison_step : (c : Comparison) (ts : List TokenKind) (fs : List Frame) (x : Operand) (d e : List Node) → 6 ≤ operand_precedence fs
+    → as_number x d ≡ Some e → run (token.Comparison c ∷ ts) 0 fs (Some x) d ≡ run ts 0 (frame.Compare c ∷ fs) None e
 comparison_step c ts fs x d e h is_num =
-    rw (no_prefix_at (token.Comparison c) ts x tt, reduce_stays 5 fs x d (loose 5 fs (lit≤ tt) (λ e. absurd (omega arith)) (omega arith)), le_true 5 (operand_precedence fs) (omega arith), is_num)
+    rw (
+      no_prefix_at (token.Comparison c) ts x tt,
+      reduce_stays 5 fs x d (loose 5 fs (lit≤ tt) (λ e. absurd (omega arith)) (omega arith)),
+      le_true 5 (operand_precedence fs) (omega arith),
+      is_num,
+    )
 
-join_step : (j : Join) (ts : List TokenKind) (fs : List Frame) (x : Operand) (d e : List Node) → 7 ≤ operand_precedence fs → as_truth x d ≡ Some e → run (token.Join j ∷ ts) 0 fs (Some x) d ≡ run ts 0 (frame.Join j ∷ fs) None e
+join_step : (j : Join) (ts : List TokenKind) (fs : List Frame) (x : Operand) (d e : List Node) → 7 ≤ operand_precedence fs → as_truth x d ≡ Some e
+    → run (token.Join j ∷ ts) 0 fs (Some x) d ≡ run ts 0 (frame.Join j ∷ fs) None e
 join_step j ts fs x d e h truth =
-    rw (no_prefix_at (token.Join j) ts x tt, reduce_stays 7 fs x d (loose 7 fs (lit≤ tt) (λ e. absurd (omega arith)) h), le_true 7 (operand_precedence fs) h, truth)
+    rw (
+      no_prefix_at (token.Join j) ts x tt,
+      reduce_stays 7 fs x d (loose 7 fs (lit≤ tt) (λ e. absurd (omega arith)) h),
+      le_true 7 (operand_precedence fs) h,
+      truth,
+    )
 
 -- the machine comes from the tokens ts with nothing read to rest with an operand that is the
 -- number, or the truth
@@ -64,7 +86,8 @@ record Reaches (s : Sort) (ts : List TokenKind) (fs : List Frame) (d : List Node
   runs : run ts 0 fs None d ≡ run rest 0 fs (Some operand) nodes
   value : as_sort s operand nodes ≡ Some e
 
-close_step : (ts : List TokenKind) (fs : List Frame) (x : Operand) (d : List Node) → run (token.Close ∷ ts) 0 (frame.Open ∷ fs) (Some x) d ≡ run ts 0 fs (Some (enclosed_operand x)) d
+close_step : (ts : List TokenKind) (fs : List Frame) (x : Operand) (d : List Node) → run (token.Close ∷ ts) 0 (frame.Open ∷ fs) (Some x) d ≡ run ts 0
+    fs (Some (enclosed_operand x)) d
 close_step ts fs (operand.Plain n) d = refl
 close_step ts fs _ d = refl
 
@@ -73,14 +96,17 @@ enclosed_value Sort.Number (operand.Plain n) d = refl
 enclosed_value Sort.Truth (operand.Plain n) d = refl
 enclosed_value _ _ d = refl
 
-bracket_step : (p : Protocol) (ts : List TokenKind) (fs : List Frame) (x : Operand) (d e : List Node) → as_number x d ≡ Some e → run (token.CloseBracket ∷ ts) 0 (frame.Load p ∷ fs) (Some x) d ≡ run ts 0 fs (Some operand.Number) (node.Load p 1 ∷ e)
+bracket_step : (p : Protocol) (ts : List TokenKind) (fs : List Frame) (x : Operand) (d e : List Node) → as_number x d ≡ Some e
+    → run (token.CloseBracket ∷ ts) 0 (frame.Load p ∷ fs) (Some x) d ≡ run ts 0 fs (Some operand.Number) (node.Load p 1 ∷ e)
 bracket_step p ts fs x d e is_num = rw (no_prefix_at token.CloseBracket ts x tt, is_num)
 
-colon_step : (p : Protocol) (n : ℕ) (ts : List TokenKind) (fs : List Frame) (x : Operand) (d e : List Node) → as_number x d ≡ Some e → run (token.Colon ∷ token.Number n ∷ token.CloseBracket ∷ ts) 0 (frame.Load p ∷ fs) (Some x) d ≡ run ts 0 fs (Some operand.Number) (node.Load p n ∷ e)
+colon_step : (p : Protocol) (n : ℕ) (ts : List TokenKind) (fs : List Frame) (x : Operand) (d e : List Node) → as_number x d ≡ Some e
+    → run (token.Colon ∷ token.Number n ∷ token.CloseBracket ∷ ts) 0 (frame.Load p ∷ fs) (Some x) d ≡ run ts 0 fs (Some operand.Number) (node.Load p n ∷ e)
 colon_step p n ts fs x d e is_num = rw (no_prefix_at token.Colon (token.Number n ∷ token.CloseBracket ∷ ts) x tt, is_num)
 
 -- where a bracket may follow
-load_step : (p : Protocol) (ts : List TokenKind) (fs : List Frame) (d : List Node) → is_accessor p ≡ true → run (token.Protocol p ∷ token.OpenBracket ∷ ts) 0 fs None d ≡ run ts 0 (frame.Load p ∷ fs) None d
+load_step : (p : Protocol) (ts : List TokenKind) (fs : List Frame) (d : List Node) → is_accessor p ≡ true
+    → run (token.Protocol p ∷ token.OpenBracket ∷ ts) 0 fs None d ≡ run ts 0 (frame.Load p ∷ fs) None d
 load_step p ts fs d h = rw h refl
 
 -- a plain number with a division by a number is a value, and else an operator is an operator
@@ -102,22 +128,28 @@ record IsLiteral (m : ℕ) (b : NumberTree) (rest here : List TokenKind) : Type 
   tree : b ≡ literal m
   left : rest ≡ here
 
-literal_first : {k : ℕ} {ts rest : List TokenKind} {b : NumberTree} → Number k ts b rest → (m : ℕ) (here : List TokenKind) → k ≡ 0 → ts ≡ token.Number m ∷ here → IsLiteral m b rest here
+literal_first : {k : ℕ} {ts rest : List TokenKind} {b : NumberTree} → Number k ts b rest → (m : ℕ) (here : List TokenKind) → k ≡ 0
+    → ts ≡ token.Number m ∷ here → IsLiteral m b rest here
 literal_first of_literal m here unary tokens = record { tree = cc; left = cc }
 literal_first (single inner) m here unary tokens = absurd (omega arith)
 literal_first (chain left at_level right) m here unary tokens = absurd (omega arith)
 literal_first _ m here unary tokens = cc
 
-prefix_step : (n m : ℕ) (ts : List TokenKind) (fs : List Frame) (d : List Node) → 1 ≤ operand_precedence fs → run (token.Operator Divide ∷ token.Number m ∷ ts) 0 fs (Some (operand.Plain n)) d ≡ run ts 0 fs (Some (operand.Either n (Some m))) d
+prefix_step : (n m : ℕ) (ts : List TokenKind) (fs : List Frame) (d : List Node) → 1 ≤ operand_precedence fs
+    → run (token.Operator Divide ∷ token.Number m ∷ ts) 0 fs (Some (operand.Plain n)) d ≡ run ts 0 fs (Some (operand.Either n (Some m))) d
 prefix_step n m ts fs d h = rw (le_true 1 (operand_precedence fs) h)
 
 -- a number and a length after it, read as a value
-as_prefix : (o : Operator) (ts mid rest : List TokenKind) (fs : List Frame) (d e nodes : List Node) (x : Operand) (b : NumberTree) → run ts 0 fs None d ≡ run (token.Operator o ∷ mid) 0 fs (Some x) nodes → as_number x nodes ≡ Some e → Number (level o) mid b rest → 1 ≤ operand_precedence fs → IsPrefix o mid x → Reaches Sort.Number ts fs d (node.Apply o ∷ number_onto b e) rest
+as_prefix : (o : Operator) (ts mid rest : List TokenKind) (fs : List Frame) (d e nodes : List Node) (x : Operand) (b : NumberTree)
+    → run ts 0 fs None d ≡ run (token.Operator o ∷ mid) 0 fs (Some x) nodes → as_number x nodes ≡ Some e → Number (level o) mid b rest
+    → 1 ≤ operand_precedence fs → IsPrefix o mid x → Reaches Sort.Number ts fs d (node.Apply o ∷ number_onto b e) rest
 as_prefix o ts mid rest fs d e nodes x b runs is_num right roomy is =
     let unary : level o ≡ 0 = ap level is.divides in
     let lit = literal_first right is.len_of is.rest unary is.tokens in
-    let here : run (token.Operator o ∷ mid) 0 fs (Some x) nodes ≡ run (token.Operator Divide ∷ token.Number is.len_of ∷ is.rest) 0 fs (Some (operand.Plain is.number)) nodes = cc (is.divides, is.tokens, is.plain) in
-    let there : run is.rest 0 fs (Some (operand.Either is.number (Some is.len_of))) nodes ≡ run rest 0 fs (Some (operand.Either is.number (Some is.len_of))) nodes = cc (lit.left) in
+    let here : run (token.Operator o ∷ mid) 0 fs (Some x) nodes ≡ run (token.Operator Divide ∷ token.Number is.len_of ∷ is.rest) 0 fs
+    (Some (operand.Plain is.number)) nodes = cc (is.divides, is.tokens, is.plain) in
+    let there : run is.rest 0 fs (Some (operand.Either is.number (Some is.len_of))) nodes ≡ run rest 0 fs
+    (Some (operand.Either is.number (Some is.len_of))) nodes = cc (lit.left) in
     let front : ◌≡◌ {A = Option (List Node)} (Some (node.Literal is.number ∷ nodes)) (Some e) = ap (λ y. as_number y nodes) (sym is.plain) ∙ is_num in
     let whole : number_onto (literal is.len_of) e ≡ number_onto b e = ap (λ t. number_onto t e) (sym lit.tree) in
     record {
@@ -127,19 +159,37 @@ as_prefix o ts mid rest fs d e nodes x b runs is_num right roomy is =
       value = cc (front, whole, is.divides);
     }
 
-reads_number : {k : ℕ} {ts rest : List TokenKind} {a : NumberTree} → Number k ts a rest → (fs : List Frame) (d : List Node) → k ≤ operand_precedence fs → k ≤ next_precedence rest → IsNoMask rest → Reaches Sort.Number ts fs d (number_onto a d) rest
-reads_number (of_literal {n = n} {rest = rest}) fs d roomy reaches unmasked = record { operand = operand.Plain n; nodes = d; runs = plain_runs n rest fs d unmasked; value = refl }
+reads_number : {k : ℕ} {ts rest : List TokenKind} {a : NumberTree} → Number k ts a rest → (fs : List Frame) (d : List Node) → k ≤ operand_precedence
+    fs → k ≤ next_precedence rest → IsNoMask rest → Reaches Sort.Number ts fs d (number_onto a d) rest
+reads_number (of_literal {n = n} {rest = rest}) fs d roomy reaches unmasked =
+    record { operand = operand.Plain n; nodes = d; runs = plain_runs n rest fs d unmasked; value = refl }
 reads_number of_len fs d roomy reaches unmasked = record { operand = operand.Number; nodes = node.Len ∷ d; runs = refl; value = refl }
 reads_number of_name fs d roomy reaches unmasked = record { operand = operand.Number; nodes = node.Named _ ∷ d; runs = refl; value = refl }
 reads_number (enclosed {rest = rest} inner) fs d roomy reaches unmasked =
     let r = reads_number inner (frame.Open ∷ fs) d (lit≤ tt) (lit≤ tt) tt in
-    record { operand = enclosed_operand r.operand; nodes = r.nodes; runs = r.runs ∙ close_step rest fs r.operand r.nodes; value = enclosed_value Sort.Number r.operand r.nodes ∙ r.value }
+    record {
+      operand = enclosed_operand r.operand;
+      nodes = r.nodes;
+      runs = r.runs ∙ close_step rest fs r.operand r.nodes;
+      value =
+          enclosed_value Sort.Number r.operand r.nodes ∙ r.value;
+    }
 reads_number (of_load {p = p} {ts = ts} {rest = rest} accessor inner) fs d roomy reaches unmasked =
     let r = reads_number inner (frame.Load p ∷ fs) d (lit≤ tt) (lit≤ tt) tt in
-    record { operand = operand.Number; nodes = _; runs = load_step p ts fs d accessor ∙ r.runs ∙ bracket_step p rest fs r.operand r.nodes _ r.value; value = refl }
+    record {
+      operand = operand.Number;
+      nodes = _;
+      runs = load_step p ts fs d accessor ∙ r.runs ∙ bracket_step p rest fs r.operand r.nodes _ r.value;
+      value = refl;
+    }
 reads_number (of_sized_load {p = p} {n = n} {ts = ts} {rest = rest} accessor inner) fs d roomy reaches unmasked =
     let r = reads_number inner (frame.Load p ∷ fs) d (lit≤ tt) (lit≤ tt) tt in
-    record { operand = operand.Number; nodes = _; runs = load_step p ts fs d accessor ∙ r.runs ∙ colon_step p n rest fs r.operand r.nodes _ r.value; value = refl }
+    record {
+      operand = operand.Number;
+      nodes = _;
+      runs = load_step p ts fs d accessor ∙ r.runs ∙ colon_step p n rest fs r.operand r.nodes _ r.value;
+      value = refl;
+    }
 reads_number (minus inner) fs d roomy reaches unmasked =
     let r = reads_number inner (frame.Negate ∷ fs) d (lit≤ tt) reaches unmasked in
     record { operand = operand.Number; nodes = _; runs = r.runs ∙ take_frame frame.Negate fs _ _ _ _ _ reaches (rw r.value refl) refl; value = refl }
@@ -148,17 +198,20 @@ reads_number (chain {k = k} {ts = ts} {mid = mid} {rest = rest} {a = a} {b = b} 
     let l = reads_number left fs d roomy (omega arith) tt in
     let r = reads_number right (frame.Apply o ∷ fs) (number_onto a d) (omega arith) (omega arith) unmasked in
     ⊎_elim
-    (λ is. as_prefix o ts mid rest fs d (number_onto a d) l.nodes l.operand b l.runs l.value (subst (λ i. Number i mid b rest) (sym at_level) right) (omega arith) is)
+    (λ is. as_prefix o ts mid rest fs d (number_onto a d) l.nodes l.operand b l.runs l.value (subst (λ i. Number i mid b rest) (sym at_level) right)
+    (omega arith) is)
     (λ other. record {
       operand = operand.Number;
       nodes = node.Apply o ∷ number_onto b (number_onto a d);
-      runs = l.runs ∙ operator_step o mid fs l.operand l.nodes (number_onto a d) (omega arith) l.value other ∙ r.runs ∙ take_frame (frame.Apply o) fs r.operand operand.Number r.nodes (node.Apply o ∷ number_onto b (number_onto a d)) rest (omega arith) (rw r.value refl) refl;
+      runs = l.runs ∙ operator_step o mid fs l.operand l.nodes (number_onto a d) (omega arith) l.value other ∙ r.runs ∙ take_frame (frame.Apply o) fs
+          r.operand operand.Number r.nodes (node.Apply o ∷ number_onto b (number_onto a d)) rest (omega arith) (rw r.value refl) refl;
       value = refl;
     })
     (prefix_or_not o mid l.operand)
 
 -- a protocol with what may follow a truth after it is a check
-check_runs : (p : Protocol) (rest : List TokenKind) (fs : List Frame) (d : List Node) → stands_alone p ≡ true → 6 ≤ next_precedence rest → run (token.Protocol p ∷ rest) 0 fs None d ≡ run rest 0 fs (Some operand.Truth) (node.Check p ∷ d)
+check_runs : (p : Protocol) (rest : List TokenKind) (fs : List Frame) (d : List Node) → stands_alone p ≡ true → 6 ≤ next_precedence rest
+    → run (token.Protocol p ∷ rest) 0 fs None d ≡ run rest 0 fs (Some operand.Truth) (node.Check p ∷ d)
 check_runs p [] fs d is h = rw is refl
 check_runs p (token.Join j ∷ ts) fs d is h = rw is refl
 check_runs p (token.Close ∷ ts) fs d is h = rw is refl
@@ -167,21 +220,33 @@ check_runs p (token.Colon ∷ ts) fs d is h = rw is refl
 check_runs p (token.Operator o ∷ ts) fs d is h = absurd (omega (arith, level_small o))
 check_runs p (_ ∷ ts) fs d is h = absurd (omega arith)
 
-cast_runs : (p : Protocol) (c : Cast) (rest : List TokenKind) (fs : List Frame) (d : List Node) → has_casts p ≡ true → run (token.Protocol p ∷ token.Cast c ∷ rest) 0 fs None d ≡ run rest 0 fs (Some operand.Truth) (node.Cast (Some p) c ∷ d)
+cast_runs : (p : Protocol) (c : Cast) (rest : List TokenKind) (fs : List Frame) (d : List Node) → has_casts p ≡ true
+    → run (token.Protocol p ∷ token.Cast c ∷ rest) 0 fs None d ≡ run rest 0 fs (Some operand.Truth) (node.Cast (Some p) c ∷ d)
 cast_runs p c rest fs d is = rw is refl
 
-not_step : (ts : List TokenKind) (fs : List Frame) (d : List Node) → 6 ≤ operand_precedence fs → run (token.Not ∷ ts) 0 fs None d ≡ run ts 0 (frame.Not ∷ fs) None d
+not_step : (ts : List TokenKind) (fs : List Frame) (d : List Node) → 6 ≤ operand_precedence fs → run (token.Not ∷ ts) 0 fs None d ≡ run ts 0
+    (frame.Not ∷ fs) None d
 not_step ts fs d h = rw (le_true 6 (operand_precedence fs) h)
 
-whole_truth : {ts rest : List TokenKind} {fs : List Frame} {d e : List Node} → run ts 0 fs None d ≡ run rest 0 fs (Some operand.Truth) e → Reaches Sort.Truth ts fs d e rest
+whole_truth : {ts rest : List TokenKind} {fs : List Frame} {d e : List Node} → run ts 0 fs None d ≡ run rest 0 fs (Some operand.Truth) e
+    → Reaches Sort.Truth ts fs d e rest
 whole_truth runs = record { operand = operand.Truth; nodes = _; runs = runs; value = refl }
 
-reads_bare : {ts rest : List TokenKind} {v : Value} → ReadsValue ts v rest → (fs : List Frame) (d : List Node) → 6 ≤ operand_precedence fs → 6 ≤ next_precedence rest → Reaches Sort.Truth ts fs d (truth_onto (bare v) d) rest
-reads_bare (number {n = n} {rest = rest} no_mask) fs d roomy reaches = record { operand = operand.Plain n; nodes = d; runs = plain_runs n rest fs d (no_mask_at rest (omega arith)); value = refl }
-reads_bare (number {n = n} {rest = rest} (prefix {m = m})) fs d roomy reaches = record { operand = operand.Either n (Some m); nodes = d; runs = prefix_step n m rest fs d (omega arith); value = refl }
+reads_bare : {ts rest : List TokenKind} {v : Value} → ReadsValue ts v rest → (fs : List Frame) (d : List Node) → 6 ≤ operand_precedence fs
+    → 6 ≤ next_precedence rest → Reaches Sort.Truth ts fs d (truth_onto (bare v) d) rest
+reads_bare (number {n = n} {rest = rest} no_mask) fs d roomy reaches =
+    record { operand = operand.Plain n; nodes = d; runs = plain_runs n rest fs d (no_mask_at rest (omega arith)); value = refl }
+reads_bare (number {n = n} {rest = rest} (prefix {m = m})) fs d roomy reaches = record {
+  operand = operand.Either n (Some m);
+  nodes = d;
+  runs =
+      prefix_step n m rest fs d (omega arith);
+  value = refl;
+}
 reads_bare v fs d roomy reaches = whole_truth (value_runs v refl fs d reaches)
 
-reads_truth : {k : ℕ} {ts rest : List TokenKind} {a : TruthTree} → Truth k ts a rest → (fs : List Frame) (d : List Node) → k + 6 ≤ operand_precedence fs → k + 6 ≤ next_precedence rest → Reaches Sort.Truth ts fs d (truth_onto a d) rest
+reads_truth : {k : ℕ} {ts rest : List TokenKind} {a : TruthTree} → Truth k ts a rest → (fs : List Frame) (d : List Node) → k + 6 ≤ operand_precedence
+    fs → k + 6 ≤ next_precedence rest → Reaches Sort.Truth ts fs d (truth_onto a d) rest
 reads_truth (of_check {p = p} {rest = rest} is) fs d roomy reaches = whole_truth (check_runs p rest fs d is reaches)
 reads_truth of_cast fs d roomy reaches = whole_truth refl
 reads_truth (of_protocol_cast {p = p} {c = c} {rest = rest} is) fs d roomy reaches = whole_truth (cast_runs p c rest fs d is)
@@ -194,15 +259,28 @@ reads_truth (relation {c = c} {mid = mid} {rest = rest} {a = a} {b = b} left rig
     record {
       operand = operand.Truth;
       nodes = node.Compare c ∷ number_onto b (number_onto a d);
-      runs = l.runs ∙ comparison_step c mid fs l.operand l.nodes (number_onto a d) roomy l.value ∙ r.runs ∙ take_frame (frame.Compare c) fs r.operand operand.Truth r.nodes (node.Compare c ∷ number_onto b (number_onto a d)) rest (omega arith) (rw r.value refl) refl;
+      runs = l.runs ∙ comparison_step c mid fs l.operand l.nodes (number_onto a d) roomy l.value ∙ r.runs ∙ take_frame (frame.Compare c) fs r.operand
+          operand.Truth r.nodes (node.Compare c ∷ number_onto b (number_onto a d)) rest (omega arith) (rw r.value refl) refl;
       value = refl;
     }
 reads_truth (denial {ts = ts} {rest = rest} {a = a} inner) fs d roomy reaches =
     let r = reads_truth inner (frame.Not ∷ fs) d (lit≤ tt) reaches in
-    record { operand = operand.Truth; nodes = node.Not ∷ truth_onto a d; runs = not_step ts fs d roomy ∙ r.runs ∙ take_frame frame.Not fs r.operand operand.Truth r.nodes (node.Not ∷ truth_onto a d) rest reaches (rw r.value refl) refl; value = refl }
+    record {
+      operand = operand.Truth;
+      nodes = node.Not ∷ truth_onto a d;
+      runs = not_step ts fs d roomy ∙ r.runs ∙ take_frame frame.Not fs r.operand
+          operand.Truth r.nodes (node.Not ∷ truth_onto a d) rest reaches (rw r.value refl) refl;
+      value = refl;
+    }
 reads_truth (enclosed_truth {rest = rest} inner) fs d roomy reaches =
     let r = reads_truth inner (frame.Open ∷ fs) d (lit≤ tt) (lit≤ tt) in
-    record { operand = enclosed_operand r.operand; nodes = r.nodes; runs = r.runs ∙ close_step rest fs r.operand r.nodes; value = enclosed_value Sort.Truth r.operand r.nodes ∙ r.value }
+    record {
+      operand = enclosed_operand r.operand;
+      nodes = r.nodes;
+      runs = r.runs ∙ close_step rest fs r.operand r.nodes;
+      value =
+          enclosed_value Sort.Truth r.operand r.nodes ∙ r.value;
+    }
 reads_truth (term inner) fs d roomy reaches = reads_truth inner fs d (omega arith) (omega arith)
 reads_truth (terms {mid = mid} {rest = rest} {a = a} {b = b} {j = j} left right) fs d roomy reaches =
     let l = reads_truth left fs d roomy (lit≤ tt) in
@@ -210,7 +288,8 @@ reads_truth (terms {mid = mid} {rest = rest} {a = a} {b = b} {j = j} left right)
     record {
       operand = operand.Truth;
       nodes = node.Join j ∷ truth_onto b (truth_onto a d);
-      runs = l.runs ∙ join_step j mid fs l.operand l.nodes (truth_onto a d) roomy l.value ∙ r.runs ∙ take_frame (frame.Join j) fs r.operand operand.Truth r.nodes (node.Join j ∷ truth_onto b (truth_onto a d)) rest reaches (rw r.value refl) refl;
+      runs = l.runs ∙ join_step j mid fs l.operand l.nodes (truth_onto a d) roomy l.value ∙ r.runs ∙ take_frame (frame.Join j) fs r.operand
+          operand.Truth r.nodes (node.Join j ∷ truth_onto b (truth_onto a d)) rest reaches (rw r.value refl) refl;
       value = refl;
     }
 

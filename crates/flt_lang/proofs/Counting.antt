@@ -1,5 +1,8 @@
 -- Counts over the nodes are counts over the tree; and a division by 0 stands right after the 0.
-use Rattle.flt_lang.proofs.Common.{◌≡◌, ℕ, ◌+◌, ◌≤◌, List, [], ◌∷◌, refl, sym, ap, ◌∙◌, arith, sum_by, fold, max, lit≤, Node, NumberTree, load, negated, applied, TruthTree, compared, denied, joined, Expression, empty, truth, number_nodes, truth_nodes, expr_nodes, tree_of, IsTree, number_tests, truth_tests, tests_of, number_size, truth_size, nodes_of, number_words, truth_words, words_of, node_tests, node_size, climb, Bool, false, ◌||◌, any_primitive, some_primitive, some_zero_divisor}
+use Rattle.flt_lang.proofs.Common.{◌≡◌, ℕ, ◌+◌, ◌≤◌, List, [], ◌∷◌, refl, sym, ap, ◌∙◌, arith, sum_by, fold, max, lit≤, Node, NumberTree, load, negated}
+use Rattle.flt_lang.proofs.Common.{applied, TruthTree, compared, denied, joined, Expression, empty, truth, number_nodes, truth_nodes, expr_nodes, tree_of}
+use Rattle.flt_lang.proofs.Common.{IsTree, number_tests, truth_tests, tests_of, number_size, truth_size, nodes_of, number_words, truth_words, words_of}
+use Rattle.flt_lang.proofs.Common.{node_tests, node_size, climb, Bool, false, ◌||◌, any_primitive, some_primitive, some_zero_divisor}
 use Rattle.std.proofs.{Math.Bool.or_assoc, Math.Bool.or-false, lemmas.List.Sums.sum_by-cons}
 use Rattle.flt_ast.specs.Checks.{is_zero, has_zero_divisor, divides_by_zero}
 use Rattle.flt_ast.specs.declared.node.Node.TheVariants as node
@@ -7,13 +10,28 @@ use Rattle.flt_ast.specs.declared.node.Node.TheVariants as node
 sum_number_tests : (a : NumberTree) (rest : List Node) → sum_by node_tests (number_nodes a rest) ≡ number_tests a + sum_by node_tests rest
 sum_number_tests (load p s a) rest = omega (arith, sum_number_tests a (node.Load p s ∷ rest), sum_by-cons node_tests (node.Load p s) rest)
 sum_number_tests (negated a) rest = omega (arith, sum_number_tests a (node.Negate ∷ rest), sum_by-cons node_tests node.Negate rest)
-sum_number_tests (applied o a b) rest = omega (arith, sum_number_tests a (number_nodes b (node.Apply o ∷ rest)), sum_number_tests b (node.Apply o ∷ rest), sum_by-cons node_tests (node.Apply o) rest)
+sum_number_tests (applied o a b) rest = omega (
+  arith,
+  sum_number_tests a (number_nodes b (node.Apply o ∷ rest)),
+  sum_number_tests b (node.Apply o ∷ rest),
+  sum_by-cons node_tests (node.Apply o) rest,
+)
 sum_number_tests _ rest = rw sum_by-cons (omega arith)
 
 sum_truth_tests : (a : TruthTree) (rest : List Node) → sum_by node_tests (truth_nodes a rest) ≡ truth_tests a + sum_by node_tests rest
-sum_truth_tests (compared c a b) rest = omega (arith, sum_number_tests a (number_nodes b (node.Compare c ∷ rest)), sum_number_tests b (node.Compare c ∷ rest), sum_by-cons node_tests (node.Compare c) rest)
+sum_truth_tests (compared c a b) rest = omega (
+  arith,
+  sum_number_tests a (number_nodes b (node.Compare c ∷ rest)),
+  sum_number_tests b (node.Compare c ∷ rest),
+  sum_by-cons node_tests (node.Compare c) rest,
+)
 sum_truth_tests (denied a) rest = omega (arith, sum_truth_tests a (node.Not ∷ rest), sum_by-cons node_tests node.Not rest)
-sum_truth_tests (joined j a b) rest = omega (arith, sum_truth_tests a (truth_nodes b (node.Join j ∷ rest)), sum_truth_tests b (node.Join j ∷ rest), sum_by-cons node_tests (node.Join j) rest)
+sum_truth_tests (joined j a b) rest = omega (
+  arith,
+  sum_truth_tests a (truth_nodes b (node.Join j ∷ rest)),
+  sum_truth_tests b (node.Join j ∷ rest),
+  sum_by-cons node_tests (node.Join j) rest,
+)
 sum_truth_tests _ rest = rw sum_by-cons (omega arith)
 
 sum_expr_tests : (e : Expression) → sum_by node_tests (expr_nodes e) ≡ tests_of e
@@ -26,13 +44,28 @@ tests_whole items whole = ap (λ l. sum_by node_tests l) (sym whole) ∙ sum_exp
 sum_number_sizes : (a : NumberTree) (rest : List Node) → sum_by node_size (number_nodes a rest) ≡ number_size a + sum_by node_size rest
 sum_number_sizes (load p s a) rest = omega (arith, sum_number_sizes a (node.Load p s ∷ rest), sum_by-cons node_size (node.Load p s) rest)
 sum_number_sizes (negated a) rest = omega (arith, sum_number_sizes a (node.Negate ∷ rest), sum_by-cons node_size node.Negate rest)
-sum_number_sizes (applied o a b) rest = omega (arith, sum_number_sizes a (number_nodes b (node.Apply o ∷ rest)), sum_number_sizes b (node.Apply o ∷ rest), sum_by-cons node_size (node.Apply o) rest)
+sum_number_sizes (applied o a b) rest = omega (
+  arith,
+  sum_number_sizes a (number_nodes b (node.Apply o ∷ rest)),
+  sum_number_sizes b (node.Apply o ∷ rest),
+  sum_by-cons node_size (node.Apply o) rest,
+)
 sum_number_sizes _ rest = rw sum_by-cons (omega arith)
 
 sum_truth_sizes : (a : TruthTree) (rest : List Node) → sum_by node_size (truth_nodes a rest) ≡ truth_size a + sum_by node_size rest
-sum_truth_sizes (compared c a b) rest = omega (arith, sum_number_sizes a (number_nodes b (node.Compare c ∷ rest)), sum_number_sizes b (node.Compare c ∷ rest), sum_by-cons node_size (node.Compare c) rest)
+sum_truth_sizes (compared c a b) rest = omega (
+  arith,
+  sum_number_sizes a (number_nodes b (node.Compare c ∷ rest)),
+  sum_number_sizes b (node.Compare c ∷ rest),
+  sum_by-cons node_size (node.Compare c) rest,
+)
 sum_truth_sizes (denied a) rest = omega (arith, sum_truth_sizes a (node.Not ∷ rest), sum_by-cons node_size node.Not rest)
-sum_truth_sizes (joined j a b) rest = omega (arith, sum_truth_sizes a (truth_nodes b (node.Join j ∷ rest)), sum_truth_sizes b (node.Join j ∷ rest), sum_by-cons node_size (node.Join j) rest)
+sum_truth_sizes (joined j a b) rest = omega (
+  arith,
+  sum_truth_sizes a (truth_nodes b (node.Join j ∷ rest)),
+  sum_truth_sizes b (node.Join j ∷ rest),
+  sum_by-cons node_size (node.Join j) rest,
+)
 sum_truth_sizes _ rest = rw sum_by-cons (omega arith)
 
 sum_expr_sizes : (e : Expression) → sum_by node_size (expr_nodes e) ≡ nodes_of e
@@ -50,13 +83,15 @@ climb_number : (a : NumberTree) (h m : ℕ) (rest : List Node) → fold climb (h
 climb_number (load p s a) h m rest = climb_number a h m (node.Load p s ∷ rest) ∙ moved_to _ _ _ _ rest refl (omega arith)
 climb_number (negated a) h m rest = climb_number a h m (node.Negate ∷ rest) ∙ moved_to _ _ _ _ rest refl (omega arith)
 climb_number (applied o a b) h m rest =
-    climb_number a h m (number_nodes b (node.Apply o ∷ rest)) ∙ climb_number b (h + 1) _ (node.Apply o ∷ rest) ∙ moved_to _ _ _ _ rest (omega arith) (omega arith)
+    climb_number a h m (number_nodes b (node.Apply o ∷ rest)) ∙ climb_number b (h + 1) _ (node.Apply o ∷ rest) ∙ moved_to _ _ _ _ rest (omega arith)
+    (omega arith)
 climb_number _ h m rest = moved_to _ _ _ _ rest refl (omega arith)
 
 -- a truth goes up to one more than its words, and leaves nothing
 climb_truth : (a : TruthTree) (m : ℕ) (rest : List Node) → 1 ≤ m → fold climb (0, m) (truth_nodes a rest) ≡ fold climb (0, max m (1 + truth_words a)) rest
 climb_truth (compared c a b) m rest some =
-    climb_number a 0 m (number_nodes b (node.Compare c ∷ rest)) ∙ climb_number b (0 + 1) _ (node.Compare c ∷ rest) ∙ moved_to _ _ _ _ rest (omega arith) (omega arith)
+    climb_number a 0 m (number_nodes b (node.Compare c ∷ rest)) ∙ climb_number b (0 + 1) _ (node.Compare c ∷ rest)
+    ∙ moved_to _ _ _ _ rest (omega arith) (omega arith)
 climb_truth (denied a) m rest some = climb_truth a m (node.Not ∷ rest) some ∙ moved_to _ _ _ _ rest refl (omega arith)
 climb_truth (joined j a b) m rest some =
     climb_truth a m (truth_nodes b (node.Join j ∷ rest)) some ∙ climb_truth b _ (node.Join j ∷ rest) (omega arith) ∙ moved_to _ _ _ _ rest refl (omega arith)
@@ -70,19 +105,24 @@ pub climb_whole : (items : List Node) → IsTree items → fold climb (0, 1) ite
 climb_whole items whole = ap (λ l. fold climb (0, 1) l) (sym whole) ∙ climb_expr (tree_of items)
 
 -- a divisor that is 0
-number_zero : (a : NumberTree) (q : Bool) (rest : List Node) → some_zero_divisor q (number_nodes a rest) ≡ (has_zero_divisor a || some_zero_divisor (is_zero a) rest)
+number_zero : (a : NumberTree) (q : Bool) (rest : List Node) → some_zero_divisor q (number_nodes a rest) ≡
+    (has_zero_divisor a || some_zero_divisor (is_zero a) rest)
 number_zero (load p s a) q rest = number_zero a q (node.Load p s ∷ rest)
 number_zero (negated a) q rest = number_zero a q (node.Negate ∷ rest)
 number_zero (applied o a b) q rest =
-    number_zero a q (number_nodes b (node.Apply o ∷ rest)) ∙ ap (λ r. has_zero_divisor a || r) (number_zero b (is_zero a) (node.Apply o ∷ rest)) ∙ rw (or_assoc, or_assoc) refl
+    number_zero a q (number_nodes b (node.Apply o ∷ rest)) ∙ ap (λ r. has_zero_divisor a || r) (number_zero b (is_zero a) (node.Apply o ∷ rest))
+    ∙ rw (or_assoc, or_assoc) refl
 number_zero _ q rest = refl
 
-truth_zero : (a : TruthTree) (q : Bool) (rest : List Node) → some_zero_divisor q (truth_nodes a rest) ≡ (any_primitive divides_by_zero a || some_zero_divisor false rest)
+truth_zero : (a : TruthTree) (q : Bool) (rest : List Node) → some_zero_divisor q (truth_nodes a rest) ≡
+    (any_primitive divides_by_zero a || some_zero_divisor false rest)
 truth_zero (compared c a b) q rest =
-    number_zero a q (number_nodes b (node.Compare c ∷ rest)) ∙ ap (λ r. has_zero_divisor a || r) (number_zero b (is_zero a) (node.Compare c ∷ rest)) ∙ rw or_assoc refl
+    number_zero a q (number_nodes b (node.Compare c ∷ rest)) ∙ ap (λ r. has_zero_divisor a || r) (number_zero b (is_zero a) (node.Compare c ∷ rest))
+    ∙ rw or_assoc refl
 truth_zero (denied a) q rest = truth_zero a q (node.Not ∷ rest)
 truth_zero (joined j a b) q rest =
-    truth_zero a q (truth_nodes b (node.Join j ∷ rest)) ∙ ap (λ r. any_primitive divides_by_zero a || r) (truth_zero b false (node.Join j ∷ rest)) ∙ rw or_assoc refl
+    truth_zero a q (truth_nodes b (node.Join j ∷ rest)) ∙ ap (λ r. any_primitive divides_by_zero a || r) (truth_zero b false (node.Join j ∷ rest))
+    ∙ rw or_assoc refl
 truth_zero _ q rest = refl
 
 expr_zero : (e : Expression) → some_zero_divisor false (expr_nodes e) ≡ some_primitive divides_by_zero e

@@ -1,6 +1,13 @@
 -- A fault of some node is a fault of some primitive; and the nodes and faults of a tree whose
 -- values inherit, and of one that is completed.
-use Rattle.flt_lang.proofs.Common.{◌≡◌, ℕ, List, [], ◌∷◌, refl, sym, ap, ◌∙◌, Bool, true, false, not, ◌||◌, list_any, Protocol, Operator, Node, NumberTree, literal, len, named, load, negated, applied, TruthTree, valued, qualified, compared, denied, joined, Expression, empty, truth, number_nodes, truth_nodes, expr_nodes, is_size, has_wrong_size, is_misfit, is_out_of_range, has_bits_past_mask, any_primitive, some_primitive, tree_fault, is_misfit_node, is_out_of_range_node, has_bits_past_mask_node, nodes_fault, map, Qualifiers, tree_of, tree_back, IsTree, latest, with_inherited, complete, only_host, expr_inherited, fill_expression, completed_node, inherited_nodes, ◌&&◌, is_some, Option, Some, None, unwrap_or, Direction, Value, fit_of, is_misfit_fit, is_proto, is_either, type_or_host, completed_qualifiers, is_unfilled, first_fault, fill_fault, IsResolved, or_parts, or_from, Join}
+use Rattle.flt_lang.proofs.Common.{◌≡◌, ℕ, List, [], ◌∷◌, refl, sym, ap, ◌∙◌, Bool, true, false, not, ◌||◌, list_any, Protocol, Operator, Node, NumberTree}
+use Rattle.flt_lang.proofs.Common.{literal, len, named, load, negated, applied, TruthTree, valued, qualified, compared, denied, joined, Expression, empty}
+use Rattle.flt_lang.proofs.Common.{truth, number_nodes, truth_nodes, expr_nodes, is_size, has_wrong_size, is_misfit, is_out_of_range, has_bits_past_mask}
+use Rattle.flt_lang.proofs.Common.{any_primitive, some_primitive, tree_fault, is_misfit_node, is_out_of_range_node, has_bits_past_mask_node, nodes_fault, map}
+use Rattle.flt_lang.proofs.Common.{Qualifiers, tree_of, tree_back, IsTree, latest, with_inherited, complete, only_host, expr_inherited, fill_expression}
+use Rattle.flt_lang.proofs.Common.{completed_node, inherited_nodes, ◌&&◌, is_some, Option, Some, None, unwrap_or, Direction, Value, fit_of, is_misfit_fit}
+use Rattle.flt_lang.proofs.Common.{is_proto, is_either, type_or_host, completed_qualifiers, is_unfilled, first_fault, fill_fault, IsResolved, or_parts, or_from}
+use Rattle.flt_lang.proofs.Common.{Join}
 use Rattle.std.proofs.Math.Bool.{or_assoc, or-false}
 use Rattle.flt_ast.specs.declared.node.Node.TheVariants as node
 use Rattle.flt_ast.specs.declared.qualifiers.Direction.TheVariants as direction
@@ -17,10 +24,12 @@ record Agrees (g : Node → Bool) (f : TruthTree → Bool) : Type 0 where
   denials : g node.Not ≡ false
   joins : (j : Join) → g (node.Join j) ≡ false
 
-any_nodes : (g : Node → Bool) (f : TruthTree → Bool) → Agrees g f → (a : TruthTree) (rest : List Node) → list_any g (truth_nodes a rest) ≡ (any_primitive f a || list_any g rest)
+any_nodes : (g : Node → Bool) (f : TruthTree → Bool) → Agrees g f → (a : TruthTree) (rest : List Node) → list_any g (truth_nodes a rest) ≡
+    (any_primitive f a || list_any g rest)
 any_nodes g f s (denied a) rest = any_nodes g f s a (node.Not ∷ rest) ∙ rw s.denials refl
 any_nodes g f s (joined j a b) rest =
-    any_nodes g f s a (truth_nodes b (node.Join j ∷ rest)) ∙ ap (λ r. any_primitive f a || r) (any_nodes g f s b (node.Join j ∷ rest) ∙ rw (s.joins j) refl) ∙ sym (or_assoc (any_primitive f a) (any_primitive f b) (list_any g rest))
+    any_nodes g f s a (truth_nodes b (node.Join j ∷ rest)) ∙ ap (λ r. any_primitive f a || r) (any_nodes g f s b (node.Join j ∷ rest)
+    ∙ rw (s.joins j) refl) ∙ sym (or_assoc (any_primitive f a) (any_primitive f b) (list_any g rest))
 any_nodes g f s a rest = s.primitives a rest refl
 
 some_node : (g : Node → Bool) (f : TruthTree → Bool) → Agrees g f → (e : Expression) → list_any g (expr_nodes e) ≡ some_primitive f e
@@ -28,39 +37,51 @@ some_node g f s empty = refl
 some_node g f s (truth a) = any_nodes g f s a [] ∙ or-false (any_primitive f a)
 
 -- no number has a fault
-number_free : (g : Node → Bool) → ((n : ℕ) → g (node.Literal n) ≡ false) → ((n : ℕ) → g (node.Named n) ≡ false) → g node.Len ≡ false → ((p : Protocol) (z : ℕ) → g (node.Load p z) ≡ false) → g node.Negate ≡ false → ((o : Operator) → g (node.Apply o) ≡ false) → (a : NumberTree) (rest : List Node) → list_any g (number_nodes a rest) ≡ list_any g rest
+number_free : (g : Node → Bool) → ((n : ℕ) → g (node.Literal n) ≡ false) → ((n : ℕ) → g (node.Named n) ≡ false) → g node.Len ≡ false
+    → ((p : Protocol) (z : ℕ) → g (node.Load p z) ≡ false) → g node.Negate ≡ false → ((o : Operator) → g (node.Apply o) ≡ false)
+    → (a : NumberTree) (rest : List Node) → list_any g (number_nodes a rest) ≡ list_any g rest
 number_free g l v m p n o (literal k) rest = rw (l k) refl
 number_free g l v m p n o len rest = rw m refl
 number_free g l v m p n o (named k) rest = rw (v k) refl
 number_free g l v m p n o (load q z a) rest = number_free g l v m p n o a (node.Load q z ∷ rest) ∙ rw (p q z) refl
 number_free g l v m p n o (negated a) rest = number_free g l v m p n o a (node.Negate ∷ rest) ∙ rw n refl
-number_free g l v m p n o (applied i a b) rest = number_free g l v m p n o a (number_nodes b (node.Apply i ∷ rest)) ∙ number_free g l v m p n o b (node.Apply i ∷ rest) ∙ rw (o i) refl
+number_free g l v m p n o (applied i a b) rest = number_free g l v m p n o a (number_nodes b (node.Apply i ∷ rest)) ∙ number_free g l v m p n o b
+    (node.Apply i ∷ rest) ∙ rw (o i) refl
 
-misfit_primitive : (a : TruthTree) (rest : List Node) → is_primitive a ≡ true → list_any is_misfit_node (truth_nodes a rest) ≡ (is_misfit a || list_any is_misfit_node rest)
+misfit_primitive : (a : TruthTree) (rest : List Node) → is_primitive a ≡ true → list_any is_misfit_node (truth_nodes a rest) ≡
+    (is_misfit a || list_any is_misfit_node rest)
 misfit_primitive (compared c a b) rest h =
-    number_free is_misfit_node (λ _. refl) (λ _. refl) refl (λ _ _. refl) refl (λ _. refl) a (number_nodes b (node.Compare c ∷ rest)) ∙ number_free is_misfit_node (λ _. refl) (λ _. refl) refl (λ _ _. refl) refl (λ _. refl) b (node.Compare c ∷ rest)
+    number_free is_misfit_node (λ _. refl) (λ _. refl) refl (λ _ _. refl) refl (λ _. refl) a (number_nodes b (node.Compare c ∷ rest))
+    ∙ number_free is_misfit_node (λ _. refl) (λ _. refl) refl (λ _ _. refl) refl (λ _. refl) b (node.Compare c ∷ rest)
 misfit_primitive (denied a) rest h = cc
 misfit_primitive (joined j a b) rest h = cc
 misfit_primitive _ rest h = refl
 
-past_primitive : (a : TruthTree) (rest : List Node) → is_primitive a ≡ true → list_any has_bits_past_mask_node (truth_nodes a rest) ≡ (has_bits_past_mask a || list_any has_bits_past_mask_node rest)
+past_primitive : (a : TruthTree) (rest : List Node) → is_primitive a ≡ true → list_any has_bits_past_mask_node (truth_nodes a rest) ≡
+    (has_bits_past_mask a || list_any has_bits_past_mask_node rest)
 past_primitive (compared c a b) rest h =
-    number_free has_bits_past_mask_node (λ _. refl) (λ _. refl) refl (λ _ _. refl) refl (λ _. refl) a (number_nodes b (node.Compare c ∷ rest)) ∙ number_free has_bits_past_mask_node (λ _. refl) (λ _. refl) refl (λ _ _. refl) refl (λ _. refl) b (node.Compare c ∷ rest)
+    number_free has_bits_past_mask_node (λ _. refl) (λ _. refl) refl (λ _ _. refl) refl (λ _. refl) a (number_nodes b (node.Compare c ∷ rest))
+    ∙ number_free has_bits_past_mask_node (λ _. refl) (λ _. refl) refl (λ _ _. refl) refl (λ _. refl) b (node.Compare c ∷ rest)
 past_primitive (denied a) rest h = cc
 past_primitive (joined j a b) rest h = cc
 past_primitive _ rest h = refl
 
 -- the sizes of accessors
-number_sizes : (a : NumberTree) (rest : List Node) → list_any is_out_of_range_node (number_nodes a rest) ≡ (has_wrong_size a || list_any is_out_of_range_node rest)
-number_sizes (load p s a) rest = number_sizes a (node.Load p s ∷ rest) ∙ sym (or_assoc (has_wrong_size a) (not (is_size s)) (list_any is_out_of_range_node rest))
+number_sizes : (a : NumberTree) (rest : List Node) → list_any is_out_of_range_node (number_nodes a rest) ≡
+    (has_wrong_size a || list_any is_out_of_range_node rest)
+number_sizes (load p s a) rest = number_sizes a (node.Load p s ∷ rest)
+    ∙ sym (or_assoc (has_wrong_size a) (not (is_size s)) (list_any is_out_of_range_node rest))
 number_sizes (negated a) rest = number_sizes a (node.Negate ∷ rest)
 number_sizes (applied o a b) rest =
-    number_sizes a (number_nodes b (node.Apply o ∷ rest)) ∙ ap (λ r. has_wrong_size a || r) (number_sizes b (node.Apply o ∷ rest)) ∙ sym (or_assoc (has_wrong_size a) (has_wrong_size b) (list_any is_out_of_range_node rest))
+    number_sizes a (number_nodes b (node.Apply o ∷ rest)) ∙ ap (λ r. has_wrong_size a || r) (number_sizes b (node.Apply o ∷ rest))
+    ∙ sym (or_assoc (has_wrong_size a) (has_wrong_size b) (list_any is_out_of_range_node rest))
 number_sizes _ rest = refl
 
-range_primitive : (a : TruthTree) (rest : List Node) → is_primitive a ≡ true → list_any is_out_of_range_node (truth_nodes a rest) ≡ (is_out_of_range a || list_any is_out_of_range_node rest)
+range_primitive : (a : TruthTree) (rest : List Node) → is_primitive a ≡ true → list_any is_out_of_range_node (truth_nodes a rest) ≡
+    (is_out_of_range a || list_any is_out_of_range_node rest)
 range_primitive (compared c a b) rest h =
-    number_sizes a (number_nodes b (node.Compare c ∷ rest)) ∙ ap (λ r. has_wrong_size a || r) (number_sizes b (node.Compare c ∷ rest)) ∙ sym (or_assoc (has_wrong_size a) (has_wrong_size b) (list_any is_out_of_range_node rest))
+    number_sizes a (number_nodes b (node.Compare c ∷ rest)) ∙ ap (λ r. has_wrong_size a || r) (number_sizes b (node.Compare c ∷ rest))
+    ∙ sym (or_assoc (has_wrong_size a) (has_wrong_size b) (list_any is_out_of_range_node rest))
 range_primitive (denied a) rest h = cc
 range_primitive (joined j a b) rest h = cc
 range_primitive _ rest h = refl
@@ -80,7 +101,8 @@ number_inherited (negated a) q rest = number_inherited a q _
 number_inherited (applied o a b) q rest = number_inherited a q _ ∙ ap (number_nodes a) (number_inherited b q _)
 number_inherited _ q rest = refl
 
-truth_inherited : (a : TruthTree) (q : Qualifiers) (rest : List Node) → inherited_nodes q (truth_nodes a rest) ≡ truth_nodes (with_inherited q a) (inherited_nodes (latest q a) rest)
+truth_inherited : (a : TruthTree) (q : Qualifiers) (rest : List Node) → inherited_nodes q (truth_nodes a rest) ≡ truth_nodes (with_inherited q a)
+    (inherited_nodes (latest q a) rest)
 truth_inherited (compared c a b) q rest = number_inherited a q _ ∙ ap (number_nodes a) (number_inherited b q _)
 truth_inherited (denied a) q rest = truth_inherited a q _
 truth_inherited (joined j a b) q rest = truth_inherited a q _ ∙ ap (truth_nodes (with_inherited q a)) (truth_inherited b (latest q a) _)
@@ -110,8 +132,10 @@ expr_completed (truth a) = truth_completed (with_inherited only_host a) []
 pub inherited_whole : (items news : List Node) → IsTree items → news ≡ inherited_nodes only_host items → news ≡ expr_nodes (expr_inherited (tree_of items))
 inherited_whole items news whole same = same ∙ ap (inherited_nodes only_host) (sym whole) ∙ expr_is_inherited (tree_of items)
 
-pub filled_whole : (items mid news : List Node) → IsTree items → mid ≡ inherited_nodes only_host items → news ≡ map completed_node mid → news ≡ expr_nodes (fill_expression (tree_of items))
-filled_whole items mid news whole inherits completes = completes ∙ ap (map completed_node) (inherited_whole items mid whole inherits) ∙ expr_completed (tree_of items)
+pub filled_whole : (items mid news : List Node) → IsTree items → mid ≡ inherited_nodes only_host items → news ≡ map completed_node mid
+    → news ≡ expr_nodes (fill_expression (tree_of items))
+filled_whole items mid news whole inherits completes = completes ∙ ap (map completed_node) (inherited_whole items mid whole inherits)
+    ∙ expr_completed (tree_of items)
 
 -- the nodes of a tree are that tree
 pub nodes_are_tree : (e : Expression) (news : List Node) → news ≡ expr_nodes e → IsTree news
@@ -122,7 +146,8 @@ tree_is e news same = ap tree_of same ∙ tree_back e
 
 -- the faults of a filled tree
 -- what holds of no primitive holds of none of the completed tree
-completed_keeps : (f : TruthTree → Bool) → ((q : Qualifiers) (v : Value) → f (valued q v) ≡ false → f (qualified (completed_qualifiers q) v) ≡ false) → (a : TruthTree) → any_primitive f a ≡ false → any_primitive f (complete a) ≡ false
+completed_keeps : (f : TruthTree → Bool) → ((q : Qualifiers) (v : Value) → f (valued q v) ≡ false → f (qualified (completed_qualifiers q) v) ≡ false)
+    → (a : TruthTree) → any_primitive f a ≡ false → any_primitive f (complete a) ≡ false
 completed_keeps f keeps (valued q v) h = keeps q v h
 completed_keeps f keeps (denied a) h = completed_keeps f keeps a h
 completed_keeps f keeps (joined j a b) h =
@@ -130,7 +155,8 @@ completed_keeps f keeps (joined j a b) h =
     or_from (any_primitive f (complete a)) (any_primitive f (complete b)) (completed_keeps f keeps a left) (completed_keeps f keeps b right)
 completed_keeps f keeps _ h = h
 
-filled_keeps : (f : TruthTree → Bool) → ((q : Qualifiers) (v : Value) → f (valued q v) ≡ false → f (qualified (completed_qualifiers q) v) ≡ false) → (e : Expression) → some_primitive f (expr_inherited e) ≡ false → some_primitive f (fill_expression e) ≡ false
+filled_keeps : (f : TruthTree → Bool) → ((q : Qualifiers) (v : Value) → f (valued q v) ≡ false → f (qualified (completed_qualifiers q) v) ≡ false)
+    → (e : Expression) → some_primitive f (expr_inherited e) ≡ false → some_primitive f (fill_expression e) ≡ false
 filled_keeps f keeps empty h = h
 filled_keeps f keeps (truth a) h = completed_keeps f keeps (with_inherited only_host a) h
 
@@ -158,7 +184,8 @@ no_fault _ _ _ h = cc
 
 pub filled_resolved : (e : Expression) → fill_fault e ≡ None → IsResolved (fill_expression e)
 filled_resolved e h =
-    let (m, r, p) = no_fault (some_primitive is_misfit (expr_inherited e)) (some_primitive is_out_of_range (expr_inherited e)) (some_primitive has_bits_past_mask (expr_inherited e)) h in
+    let (m, r, p) = no_fault (some_primitive is_misfit (expr_inherited e)) (some_primitive is_out_of_range (expr_inherited e))
+    (some_primitive has_bits_past_mask (expr_inherited e)) h in
     record {
       is_filled = none_bare_of e;
       fits = filled_keeps is_misfit (λ q v h. undirected (is_misfit_fit (fit_of (type_or_host q) v q.protocol)) (is_proto (type_or_host q)) q.direction h) e m;
@@ -167,6 +194,7 @@ filled_resolved e h =
     }
 
 -- the fault that the loops find
-pub found_fault : (items mid : List Node) (e : Expression) → IsTree items → tree_of items ≡ e → mid ≡ inherited_nodes only_host items → nodes_fault mid ≡ fill_fault e
+pub found_fault : (items mid : List Node) (e : Expression) → IsTree items → tree_of items ≡ e → mid ≡ inherited_nodes only_host items
+    → nodes_fault mid ≡ fill_fault e
 found_fault items mid e whole is inherits =
     ap nodes_fault (inherited_whole items mid whole inherits) ∙ fault_is (expr_inherited (tree_of items)) ∙ ap fill_fault is

@@ -1,16 +1,19 @@
 -- One turn of the loop that lets tight frames take the operand.
-use Rattle.flt_lang.proofs.Common.{◌≡◌, ℕ, ◌≤◌, ◌<◌, List, [], ◌∷◌, refl, Some, None, true, false, nat_le, arith, le-leb, Node, Frame, Operand, precedence, fill_frame, reduce, IsLoose}
+use Rattle.flt_lang.proofs.Common.{◌≡◌, ℕ, ◌≤◌, ◌<◌, List, [], ◌∷◌, refl, Some, None, true, false, nat_le, arith, le-leb, Node, Frame, Operand, precedence}
+use Rattle.flt_lang.proofs.Common.{fill_frame, reduce, IsLoose}
 use Rattle.std.proofs.lemmas.Bool.Decides.{nat_tests}
 
 pub le_true : (m n : ℕ) → m ≤ n → nat_le m n ≡ true
 le_true m n h = le-leb m n h
 
 -- a tight frame takes it
-pub reduce_taken : (m : ℕ) (f : Frame) (gs fs : List Frame) (x y : Operand) (d e : List Node) → gs ≡ f ∷ fs → precedence f ≤ m → fill_frame f x d ≡ Some (y, e) → reduce m gs x d ≡ reduce m fs y e
+pub reduce_taken : (m : ℕ) (f : Frame) (gs fs : List Frame) (x y : Operand) (d e : List Node) → gs ≡ f ∷ fs → precedence f ≤ m
+    → fill_frame f x d ≡ Some (y, e) → reduce m gs x d ≡ reduce m fs y e
 reduce_taken m f gs fs x y d e is h filled = rw (is, le_true (precedence f) m h, filled) refl
 
 -- or can't
-pub reduce_failed : (m : ℕ) (f : Frame) (gs fs : List Frame) (x : Operand) (d : List Node) → gs ≡ f ∷ fs → precedence f ≤ m → fill_frame f x d ≡ None → reduce m gs x d ≡ None
+pub reduce_failed : (m : ℕ) (f : Frame) (gs fs : List Frame) (x : Operand) (d : List Node) → gs ≡ f ∷ fs → precedence f ≤ m → fill_frame f x d ≡ None
+    → reduce m gs x d ≡ None
 reduce_failed m f gs fs x d is h filled = rw (is, le_true (precedence f) m h, filled) refl
 
 pub le_false : (m n : ℕ) → n < m → nat_le m n ≡ false

@@ -1,6 +1,12 @@
 -- A value, with what stands before it or with nothing, as tokens and as the machine reads it. A
 -- number alone waits, since it may be arithmetic.
-use Rattle.flt_lang.proofs.Common.{◌≡◌, ℕ, suc, zero, ◌+◌, ◌-◌, ◌<◌, ◌≤◌, List, [], ◌∷◌, length, drop, refl, sym, ap, ◌∙◌, arith, is_some, ◌||◌, Option, Some, None, Bool, true, false, drop-drop, Protocol, Divide, Side, Source, Destination, ValueType, TokenKind, Direction, Qualifiers, NetMask, Value, Node, Frame, Operand, ReadsProtocol, no_protocol, protocol, ReadsDirection, no_direction, one_side, source_first, destination_first, ReadsType, no_type, of_type, ReadsQualifiers, qualifiers, is_written, ReadsMask, no_mask, prefix, dotted_mask, ReadsValue, number, dotted, ip6, ip6_prefix, mac, range, starts_value, protocol_of, direction_of, type_of, qualifiers_of, mask_of, value_of, ◌>>=◌, next_precedence, State, begin, run, valued_of, valued_or, primitive, with_frames, bare_of}
+use Rattle.flt_lang.proofs.Common.{◌≡◌, ℕ, suc, zero, ◌+◌, ◌-◌, ◌<◌, ◌≤◌, List, [], ◌∷◌, length, drop, refl, sym, ap, ◌∙◌, arith, is_some, ◌||◌, Option, Some}
+use Rattle.flt_lang.proofs.Common.{None, Bool, true, false, drop-drop, Protocol, Divide, Side, Source, Destination, ValueType, TokenKind, Direction, Qualifiers}
+use Rattle.flt_lang.proofs.Common.{NetMask, Value, Node, Frame, Operand, ReadsProtocol, no_protocol, protocol, ReadsDirection, no_direction, one_side}
+use Rattle.flt_lang.proofs.Common.{source_first, destination_first, ReadsType, no_type, of_type, ReadsQualifiers, qualifiers, is_written, ReadsMask, no_mask}
+use Rattle.flt_lang.proofs.Common.{prefix, dotted_mask, ReadsValue, number, dotted, ip6, ip6_prefix, mac, range, starts_value, protocol_of, direction_of}
+use Rattle.flt_lang.proofs.Common.{type_of, qualifiers_of, mask_of, value_of, ◌>>=◌, next_precedence, State, begin, run, valued_of, valued_or, primitive}
+use Rattle.flt_lang.proofs.Common.{with_frames, bare_of}
 use Rattle.flt_lang.proofs.ValuesBack.{carried, type_back, direction_back, qualifiers_back, ends_protocol, value_back}
 use Rattle.flt_words.specs.declared.token.TokenKind.TheVariants as token
 use Rattle.flt_ast.specs.declared.value.Value.TheVariants as value
@@ -66,7 +72,8 @@ front (qualifiers no_protocol no_direction no_type) w h = cc
 front (qualifiers no_protocol no_direction of_type) w h = refl
 front (qualifiers no_protocol _ k) w h = refl
 
-begin_with_protocol : (p : Protocol) (ts : List TokenKind) (fs : List Frame) (d : List Node) → ends_protocol ts ≡ true → begin (token.Protocol p ∷ ts) fs d ≡ with_frames fs (primitive (token.Protocol p ∷ ts) d)
+begin_with_protocol : (p : Protocol) (ts : List TokenKind) (fs : List Frame) (d : List Node) → ends_protocol ts ≡ true → begin (token.Protocol p ∷ ts)
+    fs d ≡ with_frames fs (primitive (token.Protocol p ∷ ts) d)
 begin_with_protocol p (token.OpenBracket ∷ ts) fs d h = cc
 begin_with_protocol p (token.Cast c ∷ ts) fs d h = cc
 begin_with_protocol p _ fs d h = refl
@@ -80,7 +87,8 @@ run_skip _ zero fs x d = refl
 run_skip [] (suc k) fs x d = refl
 run_skip (t ∷ ts) (suc k) fs x d = run_skip ts k fs x d
 
-pub run_begins : (ts : List TokenKind) (fs : List Frame) (d : List Node) (k : ℕ) (s : State) → 0 < length ts → begin ts fs d ≡ Some (k, s) → run ts 0 fs None d ≡ run (drop (suc k) ts) 0 s.0 s.1 s.2
+pub run_begins : (ts : List TokenKind) (fs : List Frame) (d : List Node) (k : ℕ) (s : State) → 0 < length ts → begin ts fs d ≡ Some (k, s)
+    → run ts 0 fs None d ≡ run (drop (suc k) ts) 0 s.0 s.1 s.2
 run_begins [] fs d k s h e = absurd (omega arith)
 run_begins (t ∷ ts) fs d k s h e = rw e (run_skip ts k s.0 s.1 s.2)
 
@@ -96,15 +104,19 @@ used_is : {ts rest : List TokenKind} (s : IsSuffix ts rest) → length rest < le
 used_is s shorter = omega (arith, s.long, shorter)
 
 -- what begins with all that stands before the rest goes on there
-runs_past : {ts rest : List TokenKind} → IsSuffix ts rest → length rest < length ts → (fs : List Frame) (d e : List Node) (x : Option Operand) → begin ts fs d ≡ Some (length ts - length rest - 1, (fs, x, e)) → run ts 0 fs None d ≡ run rest 0 fs x e
+runs_past : {ts rest : List TokenKind} → IsSuffix ts rest → length rest < length ts → (fs : List Frame) (d e : List Node) (x : Option Operand)
+    → begin ts fs d ≡ Some (length ts - length rest - 1, (fs, x, e)) → run ts 0 fs None d ≡ run rest 0 fs x e
 runs_past {ts} {rest} s shorter fs d e x begun = run_begins ts fs d _ _ (omega (arith, shorter)) begun ∙ rw (used_is s shorter, s.drops) refl
 
-pub valued_runs : {ts mid rest : List TokenKind} {q : Qualifiers} {v : Value} → ReadsQualifiers ts q mid → is_written q ≡ true → ReadsValue mid v rest → (fs : List Frame) (d : List Node) → 6 ≤ next_precedence rest → run ts 0 fs None d ≡ run rest 0 fs (Some operand.Truth) (node.Valued q v ∷ d)
+pub valued_runs : {ts mid rest : List TokenKind} {q : Qualifiers} {v : Value} → ReadsQualifiers ts q mid → is_written q ≡ true → ReadsValue mid v rest
+    → (fs : List Frame) (d : List Node) → 6 ≤ next_precedence rest → run ts 0 fs None d ≡ run rest 0 fs (Some operand.Truth) (node.Valued q v ∷ d)
 valued_runs {ts = ts} {mid = mid} {rest = rest} {q = q} {v = v} qs w vs fs d h =
     let value_is = value_back vs h in
     let qualifiers_are = qualifiers_back qs value_is.1 in
-    let found : valued_of ts ≡ Some (q, v, length ts - length rest - 1) = ap (λ r. value_of r.1 >>= λ x. Some (r.0, x.0, length ts - length x.1 - 1)) qualifiers_are ∙ ap (λ o. o >>= λ x. Some (q, x.0, length ts - length x.1 - 1)) value_is.0 in
-    let begun : begin ts fs d ≡ Some (length ts - length rest - 1, (fs, Some operand.Truth, node.Valued q v ∷ d)) = begin_front ts fs d (front qs w value_is.1) ∙ ap (λ o. with_frames fs (valued_or o ts d)) found in
+    let found : valued_of ts ≡ Some (q, v, length ts - length rest - 1) = ap (λ r. value_of r.1 >>= λ x. Some (r.0, x.0, length ts - length x.1 - 1))
+    qualifiers_are ∙ ap (λ o. o >>= λ x. Some (q, x.0, length ts - length x.1 - 1)) value_is.0 in
+    let begun : begin ts fs d ≡ Some (length ts - length rest - 1, (fs, Some operand.Truth, node.Valued q v ∷ d)) =
+    begin_front ts fs d (front qs w value_is.1) ∙ ap (λ o. with_frames fs (valued_or o ts d)) found in
     runs_past (whole_suffix qs vs) (whole_some qs vs) fs d _ _ begun
 
 protocol_sound : (ts : List TokenKind) → ReadsProtocol ts (protocol_of ts).0 (protocol_of ts).1
@@ -125,7 +137,8 @@ type_sound _ = no_type
 pub qualifiers_sound : (ts : List TokenKind) → ReadsQualifiers ts (qualifiers_of ts).0 (qualifiers_of ts).1
 qualifiers_sound ts = qualifiers (protocol_sound ts) (direction_sound (protocol_of ts).1) (type_sound (direction_of (protocol_of ts).1).1)
 
-value_moved : (ts : List TokenKind) (r s : Value × List TokenKind) → ReadsValue ts r.0 r.1 → ◌≡◌ {A = Option (Value × List TokenKind)} (Some r) (Some s) → ReadsValue ts s.0 s.1
+value_moved : (ts : List TokenKind) (r s : Value × List TokenKind) → ReadsValue ts r.0 r.1 → ◌≡◌ {A = Option (Value × List TokenKind)} (Some r)
+    (Some s) → ReadsValue ts s.0 s.1
 value_moved ts r s v same = carried (λ (r : Value × List TokenKind). ReadsValue ts r.0 r.1) v same
 
 mask_sound : (ts : List TokenKind) → ReadsMask ts (mask_of ts).0 (mask_of ts).1
@@ -135,7 +148,8 @@ mask_sound _ = no_mask
 
 pub value_sound : (ts : List TokenKind) (r : Value × List TokenKind) → value_of ts ≡ Some r → ReadsValue ts r.0 r.1
 value_sound (token.Number n ∷ ts) r h = value_moved _ (value.Number n (mask_of ts).0, (mask_of ts).1) r (number (mask_sound ts)) h
-value_sound (token.Dotted a p ∷ ts) r h = value_moved _ (value.Dotted (record { address = a; parts = p }) (mask_of ts).0, (mask_of ts).1) r (dotted (mask_sound ts)) h
+value_sound (token.Dotted a p ∷ ts) r h = value_moved _ (value.Dotted (record { address = a; parts = p }) (mask_of ts).0, (mask_of ts).1) r
+    (dotted (mask_sound ts)) h
 value_sound (token.Ip6 a ∷ token.Operator Divide ∷ token.Number m ∷ ts) r h = value_moved _ (value.Ip6 a (Some m), ts) r ip6_prefix h
 value_sound (token.Ip6 a ∷ ts) r h = value_moved _ (value.Ip6 a None, ts) r ip6 h
 value_sound (token.Mac a ∷ ts) r h = value_moved _ (value.Mac a, ts) r mac h
@@ -152,7 +166,8 @@ pub side_written : (s : Side) (ts : List TokenKind) → is_written (qualifiers_o
 side_written s ts = ap (λ b. b || is_some (type_of (direction_of (token.Side s ∷ ts)).1).0) (side_some s ts)
 
 -- what is left of a qualified value
-pub left_after : (t : TokenKind) (ts mid rest : List TokenKind) (q : Qualifiers) (v : Value) → ReadsQualifiers (t ∷ ts) q mid → ReadsValue mid v rest → drop (length (t ∷ ts) - length rest - 1) ts ≡ rest
+pub left_after : (t : TokenKind) (ts mid rest : List TokenKind) (q : Qualifiers) (v : Value) → ReadsQualifiers (t ∷ ts) q mid → ReadsValue mid v rest
+    → drop (length (t ∷ ts) - length rest - 1) ts ≡ rest
 left_after t ts mid rest q v qs vs =
     let suffix = whole_suffix qs vs in
     ap (λ k. drop k (t ∷ ts)) (used_is suffix (whole_some qs vs)) ∙ suffix.drops
@@ -172,10 +187,13 @@ begin_value (token.Number n ∷ token.Mask ∷ token.Dotted a p ∷ ts) fs d h =
 begin_value _ fs d h = cc
 
 -- such a value is read
-pub value_runs : {ts rest : List TokenKind} {v : Value} → ReadsValue ts v rest → is_value_front ts ≡ true → (fs : List Frame) (d : List Node) → 6 ≤ next_precedence rest → run ts 0 fs None d ≡ run rest 0 fs (Some operand.Truth) (node.Bare v ∷ d)
+pub value_runs : {ts rest : List TokenKind} {v : Value} → ReadsValue ts v rest → is_value_front ts ≡ true → (fs : List Frame) (d : List Node)
+    → 6 ≤ next_precedence rest → run ts 0 fs None d ≡ run rest 0 fs (Some operand.Truth) (node.Bare v ∷ d)
 value_runs {ts = ts} {rest = rest} {v = v} vs is fs d h =
-    let found : bare_of ts d ≡ Some (length ts - length rest - 1, Some operand.Truth, node.Bare v ∷ d) = ap (λ o. o >>= λ r. Some (length ts - length r.1 - 1, Some operand.Truth, node.Bare r.0 ∷ d)) (value_back vs h).0 in
-    let begun : begin ts fs d ≡ Some (length ts - length rest - 1, (fs, Some operand.Truth, node.Bare v ∷ d)) = begin_value ts fs d is ∙ ap (λ o. with_frames fs o) found in
+    let found : bare_of ts d ≡ Some (length ts - length rest - 1, Some operand.Truth, node.Bare v ∷ d) =
+    ap (λ o. o >>= λ r. Some (length ts - length r.1 - 1, Some operand.Truth, node.Bare r.0 ∷ d)) (value_back vs h).0 in
+    let begun : begin ts fs d ≡ Some (length ts - length rest - 1, (fs, Some operand.Truth, node.Bare v ∷ d)) = begin_value ts fs d is
+    ∙ ap (λ o. with_frames fs o) found in
     runs_past (value_suffix vs) (value_some vs) fs d _ _ begun
 
 -- no mask stands here
@@ -188,7 +206,8 @@ no_mask_at (token.Mask ∷ ts) h = absurd (omega arith)
 no_mask_at _ h = tt
 
 -- a number alone waits
-pub plain_runs : (n : ℕ) (rest : List TokenKind) (fs : List Frame) (d : List Node) → IsNoMask rest → run (token.Number n ∷ rest) 0 fs None d ≡ run rest 0 fs (Some (operand.Plain n)) d
+pub plain_runs : (n : ℕ) (rest : List TokenKind) (fs : List Frame) (d : List Node) → IsNoMask rest → run (token.Number n ∷ rest) 0 fs None d ≡ run
+    rest 0 fs (Some (operand.Plain n)) d
 plain_runs n (token.Mask ∷ ts) fs d h = absurd h
 plain_runs n _ fs d h = refl
 

@@ -1,5 +1,8 @@
 -- What stands before a value, and the value, are read from the left as far as they go.
-use Rattle.flt_lang.proofs.Common.{◌≡◌, ◌≤◌, List, ◌∷◌, refl, subst, arith, lit≤, Option, Some, None, Bool, true, Protocol, Operator, Side, Source, Destination, ValueType, TokenKind, Direction, Qualifiers, NetMask, Value, ReadsProtocol, no_protocol, protocol, ReadsDirection, no_direction, one_side, ReadsType, no_type, of_type, ReadsQualifiers, qualifiers, ReadsMask, no_mask, ReadsValue, number, dotted, ip6, starts_value, protocol_of, direction_of, type_of, qualifiers_of, mask_of, value_of, level, next_precedence}
+use Rattle.flt_lang.proofs.Common.{◌≡◌, ◌≤◌, List, ◌∷◌, refl, subst, arith, lit≤, Option, Some, None, Bool, true, Protocol, Operator, Side, Source, Destination}
+use Rattle.flt_lang.proofs.Common.{ValueType, TokenKind, Direction, Qualifiers, NetMask, Value, ReadsProtocol, no_protocol, protocol, ReadsDirection}
+use Rattle.flt_lang.proofs.Common.{no_direction, one_side, ReadsType, no_type, of_type, ReadsQualifiers, qualifiers, ReadsMask, no_mask, ReadsValue, number}
+use Rattle.flt_lang.proofs.Common.{dotted, ip6, starts_value, protocol_of, direction_of, type_of, qualifiers_of, mask_of, value_of, level, next_precedence}
 use Rattle.flt_words.specs.declared.token.Operator.TheVariants as operator
 use Rattle.flt_words.specs.declared.token.TokenKind.TheVariants as token
 use Rattle.flt_ast.specs.declared.qualifiers.Direction.TheVariants as direction
@@ -48,11 +51,13 @@ protocol_none : (ts : List TokenKind) → ends_protocol ts ≡ true → protocol
 protocol_none (token.Protocol p ∷ ts) h = cc
 protocol_none _ h = refl
 
-pub type_back : {ts rest : List TokenKind} {k : Option ValueType} → ReadsType ts k rest → starts_value rest ≡ true → (type_of ts ≡ (k, rest)) × (ends_direction ts ≡ true)
+pub type_back : {ts rest : List TokenKind} {k : Option ValueType} → ReadsType ts k rest → starts_value rest ≡ true → (type_of ts ≡ (k, rest))
+    × (ends_direction ts ≡ true)
 type_back (no_type {ts = ts}) h = (type_none ts h, value_ends_direction ts h)
 type_back of_type h = (refl, refl)
 
-pub direction_back : {ts rest : List TokenKind} {d : Option Direction} → ReadsDirection ts d rest → ends_direction rest ≡ true → (direction_of ts ≡ (d, rest)) × (ends_protocol ts ≡ true)
+pub direction_back : {ts rest : List TokenKind} {d : Option Direction} → ReadsDirection ts d rest → ends_direction rest ≡ true
+    → (direction_of ts ≡ (d, rest)) × (ends_protocol ts ≡ true)
 direction_back (no_direction {ts = ts}) h = (direction_none ts h, direction_ends_protocol ts h)
 direction_back (one_side {s = s} {ts = ts}) h = (side_alone s ts h, refl)
 direction_back _ h = (refl, refl)
@@ -74,7 +79,8 @@ mask_back (no_mask {ts = token.Mask ∷ ts}) h = absurd (omega arith)
 mask_back (no_mask {ts = _}) h = refl
 mask_back _ h = refl
 
-pub value_back : {ts rest : List TokenKind} {v : Value} → ReadsValue ts v rest → 6 ≤ next_precedence rest → (value_of ts ≡ Some (v, rest)) × (starts_value ts ≡ true)
+pub value_back : {ts rest : List TokenKind} {v : Value} → ReadsValue ts v rest → 6 ≤ next_precedence rest → (value_of ts ≡ Some (v, rest))
+    × (starts_value ts ≡ true)
 value_back (number m) h = (rw (mask_back m h) refl, refl)
 value_back (dotted m) h = (rw (mask_back m h) refl, refl)
 value_back (ip6 {rest = token.Operator o ∷ ts}) h = absurd (omega (arith, level_small o))

@@ -1,5 +1,11 @@
 -- What is known holds of the packet and of the registers.
-use Rattle.flt_short.proofs.Common.{◌≡◌, ℕ, zero, suc, ◌+◌, ◌≤◌, List, [], ◌∷◌, length, true, false, Option, Some, None, sym, ap, ◌∙◌, subst, arith, ◌⊎◌, inl, inr, ◌==◌, if◌then◌else◌, slice_set, nat_tests, State, Operation, Insn, Next, Goes, does, goes_on_or_rejects, compute, LoadIndirect, Field, Held, IndexValue, Known, same_optional, same_index, same_load, same_field, claims_nothing, allows, Implies, JoinsClaims, same_held, common_index, holds_field, known_after, masked_held, held_at, and_parts, field_at, index_number, loaded, loaded_at, masked, value_of, IsThere, is_said, Says, HeldHolds, IndexHolds, Holds, HoldsAt, LearnsEqual, Learns, Test, JumpIf, Constant, operand_value, test_holds, bit_and, not, Bool, refl, JoinsBy, JoinsFact, JoinsFacts, Arrives}
+use Rattle.flt_short.proofs.Common.{◌≡◌, ℕ, zero, suc, ◌+◌, ◌≤◌, List, [], ◌∷◌, length, true, false, Option, Some, None, sym, ap, ◌∙◌, subst, arith, ◌⊎◌, inl}
+use Rattle.flt_short.proofs.Common.{inr, ◌==◌, if◌then◌else◌, slice_set, nat_tests, State, Operation, Insn, Next, Goes, does, goes_on_or_rejects, compute}
+use Rattle.flt_short.proofs.Common.{LoadIndirect, Field, Held, IndexValue, Known, same_optional, same_index, same_load, same_field, claims_nothing, allows}
+use Rattle.flt_short.proofs.Common.{Implies, JoinsClaims, same_held, common_index, holds_field, known_after, masked_held, held_at, and_parts, field_at}
+use Rattle.flt_short.proofs.Common.{index_number, loaded, loaded_at, masked, value_of, IsThere, is_said, Says, HeldHolds, IndexHolds, Holds, HoldsAt}
+use Rattle.flt_short.proofs.Common.{LearnsEqual, Learns, Test, JumpIf, Constant, operand_value, test_holds, bit_and, not, Bool, refl, JoinsBy, JoinsFact}
+use Rattle.flt_short.proofs.Common.{JoinsFacts, Arrives}
 use Rattle.std.proofs.Common.{◌<◌, ◌&&◌, ◌%◌, ◌^◌, All, get_or, take}
 use Rattle.std.proofs.Math.Bool.{not-not}
 use Rattle.std.proofs.lemmas.List.{take_more_set, take_all}
@@ -22,11 +28,13 @@ same_masks a b e = grind (arith, nat_tests)
 pub same_indexes : (x y : IndexValue) → same_index x y ≡ true → x ≡ y
 same_indexes x y e = grind (arith, nat_tests)
 
-same_loaded : (p : List ℕ) (n : ℕ) (f g : Field) → same_load f g ≡ true → loaded (operation_of f.code) p n f.index f.k ≡ loaded (operation_of g.code) p n g.index g.k
+same_loaded : (p : List ℕ) (n : ℕ) (f g : Field) → same_load f g ≡ true → loaded (operation_of f.code) p n f.index f.k ≡ loaded (operation_of g.code)
+    p n g.index g.k
 same_loaded p n f g e =
     let q = and_parts (f.code == g.code && f.k == g.k) (same_index f.index g.index) e in
     let r = and_parts (f.code == g.code) (f.k == g.k) q.0 in
-    ap (λ c. loaded (operation_of c) p n f.index f.k) (numbers f.code g.code r.0) ∙ ap (λ x. loaded (operation_of g.code) p n x f.k) (same_indexes f.index g.index q.1) ∙ ap (loaded (operation_of g.code) p n g.index) (numbers f.k g.k r.1)
+    ap (λ c. loaded (operation_of c) p n f.index f.k) (numbers f.code g.code r.0) ∙ ap (λ x. loaded (operation_of g.code) p n x f.k)
+    (same_indexes f.index g.index q.1) ∙ ap (loaded (operation_of g.code) p n g.index) (numbers f.k g.k r.1)
 
 pub same_value : (p : List ℕ) (n : ℕ) (f g : Field) → same_field f g ≡ true → value_of p n f ≡ value_of p n g
 same_value p n f g e =
@@ -34,7 +42,8 @@ same_value p n f g e =
     ap (λ m. masked m (loaded (operation_of f.code) p n f.index f.k)) (same_masks f.mask g.mask q.1) ∙ ap (masked g.mask) (same_loaded p n f g q.0)
 
 -- what a fact claims of its field
-pub claimed : (p : List ℕ) (n : ℕ) (x : Fact) (f : Field) (number : ℕ) → same_field x.field f ≡ true → Says p n x → value_of p n f ≡ Some number → allows x.claim number ≡ true
+pub claimed : (p : List ℕ) (n : ℕ) (x : Fact) (f : Field) (number : ℕ) → same_field x.field f ≡ true → Says p n x → value_of p n f ≡ Some number
+    → allows x.claim number ≡ true
 claimed p n x f number same h is = sym (ap (is_said x.claim) (same_value p n x.field f same ∙ is)) ∙ h
 
 implied : (c d : Claim) (o : Option ℕ) → Implies c d → is_said c o ≡ true → is_said d o ≡ true
@@ -42,7 +51,8 @@ implied c d None i h = i.1 h
 implied c d (Some n) i h = i.0 n h
 
 -- facts where two ways meet
-pub joined_one : (x : Fact) (ys : List Fact) (k : ℕ) (d : Fact) (claim : Claim) → k < length ys → same_field x.field (get_or ys k d).field ≡ true → JoinsClaims x.claim (get_or ys k d).claim claim → JoinsFact x ys (record { field = x.field; claim = claim })
+pub joined_one : (x : Fact) (ys : List Fact) (k : ℕ) (d : Fact) (claim : Claim) → k < length ys → same_field x.field (get_or ys k d).field ≡ true
+    → JoinsClaims x.claim (get_or ys k d).claim claim → JoinsFact x ys (record { field = x.field; claim = claim })
 joined_one x ys k d claim l same joins p n (inl h) = implied x.claim claim (value_of p n x.field) joins.0 h
 joined_one x ys k d claim l same joins p n (inr h) =
     let y = get_or ys k d in
@@ -52,7 +62,8 @@ joined_one x ys k d claim l same joins p n (inr h) =
 abbrev pub JoinedSoFar : List Fact → List Fact → List Fact → ℕ → Type 0
 JoinedSoFar first ys xs at = (p : List ℕ) (n : ℕ) → (All (Says p n) first → All (Says p n) xs) × (All (Says p n) ys → All (Says p n) (take at xs))
 
-pub joined_more : (first ys xs : List Fact) (at : ℕ) (d v : Fact) → at < length xs → JoinedSoFar first ys xs at → JoinsFact (get_or xs at d) ys v → JoinedSoFar first ys (slice_set xs at v) (at + 1)
+pub joined_more : (first ys xs : List Fact) (at : ℕ) (d v : Fact) → at < length xs → JoinedSoFar first ys xs at → JoinsFact (get_or xs at d) ys v
+    → JoinedSoFar first ys (slice_set xs at v) (at + 1)
 joined_more first ys xs at d v l h joins p n = (
   λ f. let now = (h p n).0 f in All-set (Says p n) xs at v (joins p n (inl (now at d l))) now,
   λ f. subst (All (Says p n)) (sym (take_more_set xs at v l)) (All-push (Says p n) (take at xs) v ((h p n).1 f) (joins p n (inr f))),
@@ -89,24 +100,28 @@ module _ (p : List ℕ) (len : ℕ) where
   pub same_holds : (g h : Held) (s : State) → same_held g h ≡ true → HeldHolds p len h s → HeldHolds p len g s
   same_holds g h s e x = grind (arith, nat_tests, same_value)
 
-  joins_held : (one other : Held) (s : State) → HeldHolds p len one s ⊎ HeldHolds p len other s → HeldHolds p len (if same_held one other then one else held.Unknown) s
+  joins_held : (one other : Held) (s : State) → HeldHolds p len one s ⊎ HeldHolds p len other s
+      → HeldHolds p len (if same_held one other then one else held.Unknown) s
   joins_held one other s h = grind (arith, same_holds)
 
   joins_index : (a b : IndexValue) (n : ℕ) → IndexHolds p a n ⊎ IndexHolds p b n → IndexHolds p (common_index a b) n
   joins_index a b n h = grind (arith, same_indexes)
 
   -- a load at X puts the same into A by what is known of X
-  pub loaded_by : (x : IndexValue) (n k v : ℕ) (w : Width) → IndexHolds p x n → field_at p (index_number p x) k w ≡ Some v → field p ((n + k) % 2 ^ 32) w ≡ Some v
+  pub loaded_by : (x : IndexValue) (n k v : ℕ) (w : Width) → IndexHolds p x n → field_at p (index_number p x) k w ≡ Some v
+      → field p ((n + k) % 2 ^ 32) w ≡ Some v
   loaded_by IndexValue.Unknown n k v w h e = cc
   loaded_by (IndexValue.HeaderLength m) n k v w h e = sym (ap (λ o. field_at p o k w) h) ∙ e
   loaded_by (IndexValue.Number m) n k v w h e = sym (ap (λ o. field_at p o k w) h) ∙ e
 
-  pub loads_at : (x : IndexValue) (i : Insn) (w : Width) (v : ℕ) (s : State) → operation_of i.code ≡ Some (LoadIndirect w) → IndexHolds p x s.index → field p ((s.index + i.k) % 2 ^ 32) w ≡ Some v → HeldHolds p len (held_at x i) (record s { accumulator = v })
+  pub loads_at : (x : IndexValue) (i : Insn) (w : Width) (v : ℕ) (s : State) → operation_of i.code ≡ Some (LoadIndirect w) → IndexHolds p x s.index
+      → field p ((s.index + i.k) % 2 ^ 32) w ≡ Some v → HeldHolds p len (held_at x i) (record s { accumulator = v })
   loads_at IndexValue.Unknown i w v s o h e = ap (λ op. loaded_at op p s.index i.k) o ∙ e
   loads_at (IndexValue.HeaderLength m) i w v s o h e = ap (λ op. loaded op p len (IndexValue.HeaderLength m) i.k) o ∙ ap (λ x. field_at p x i.k w) h ∙ e
   loads_at (IndexValue.Number m) i w v s o h e = ap (λ op. loaded op p len (IndexValue.Number m) i.k) o ∙ ap (λ x. field_at p x i.k w) h ∙ e
 
-  joins_by : (h : Held) (k came new : Known) (s : State) → JoinsBy h k came new → (HeldHolds p len h s × Holds p len k s) ⊎ Holds p len came s → Holds p len new s
+  joins_by : (h : Held) (k came new : Known) (s : State) → JoinsBy h k came new → (HeldHolds p len h s × Holds p len k s) ⊎ Holds p len came s
+      → Holds p len new s
   joins_by held.Unreached k came new s e d = elim d [ inl x ↦ absurd x.0 | inr y ↦ subst (λ z. Holds p len z s) (sym e) y ]
   joins_by h k came new s e d = record {
     a = subst (λ z. HeldHolds p len z s) (sym e.0) (joins_held h came.held s (elim d [ inl x ↦ inl x.0 | inr y ↦ inr y.a ]));
@@ -123,14 +138,17 @@ module _ (p : List ℕ) (len : ℕ) where
   After k (Goes far t) = (far ≡ 0) × Holds p len k t
   After k _ = Unit {0}
 
-  pub masks : (h : Held) (m v : ℕ) (s : State) → HeldHolds p len h s → compute AluOperation.And s.accumulator m ≡ Some v → HeldHolds p len (masked_held h m) (record s { accumulator = v })
+  pub masks : (h : Held) (m v : ℕ) (s : State) → HeldHolds p len h s → compute AluOperation.And s.accumulator m ≡ Some v
+      → HeldHolds p len (masked_held h m) (record s { accumulator = v })
   masks h m v s x e = grind arith
 
-  pub after : (op : Operation) (k : Known) (i : Insn) (s : State) → operation_of i.code ≡ Some op → goes_on_or_rejects op ≡ true → Holds p len k s → After (known_after (Some op) k i) (does op i p len s)
+  pub after : (op : Operation) (k : Known) (i : Insn) (s : State) → operation_of i.code ≡ Some op → goes_on_or_rejects op ≡ true → Holds p len k s
+      → After (known_after (Some op) k i) (does op i p len s)
   after op k i s e f y = grind (arith, masks, loads_at)
 
 -- a run that comes to a place with more known
-pub arrives : (seen : List Known) (place : ℕ) (k d new : Known) → place < length seen → JoinsBy (get_or seen place d).held (get_or seen place d) k new → Arrives k place seen (slice_set seen place new)
+pub arrives : (seen : List Known) (place : ℕ) (k d new : Known) → place < length seen → JoinsBy (get_or seen place d).held (get_or seen place d) k new
+    → Arrives k place seen (slice_set seen place new)
 arrives [] place k d new l j = absurd (omega arith)
 arrives (h ∷ seen) zero k d new l j = record { keeps = keeps; comes = λ p n s y. joins p n h k new s j (inr y) }
   where
@@ -152,20 +170,25 @@ arrives_nowhere (h ∷ seen) zero k l = absurd (omega arith)
 arrives_nowhere (h ∷ seen) (suc place) k l = record { keeps = λ p n q s x. x; comes = (arrives_nowhere seen place k (omega arith)).comes }
 
 -- what the outcome of a test shows of the field that A holds
-pub learns_equal : (k : Known) (i : Insn) (f : Field) (outcome : Bool) (new : Known) → operation_of i.code ≡ Some (JumpIf Test.Equal Constant) → k.held ≡ held.Field f → LearnsEqual k f i.k outcome new → Learns k i outcome new
+pub learns_equal : (k : Known) (i : Insn) (f : Field) (outcome : Bool) (new : Known) → operation_of i.code ≡ Some (JumpIf Test.Equal Constant)
+    → k.held ≡ held.Field f → LearnsEqual k f i.k outcome new → Learns k i outcome new
 learns_equal k i f outcome new o is learned p n s test operand e t h =
     let same : Some (JumpIf test operand) ≡ Some (JumpIf Test.Equal Constant) = sym e ∙ o in
     let equal : test ≡ Test.Equal = cc in
     let constant : operand ≡ Constant = cc in
     let holds : value_of p n f ≡ Some s.accumulator = subst (λ z. HeldHolds p n z s) is h.a in
-    learned p n s.accumulator s holds (sym (ap (λ u. test_holds u s.accumulator (operand_value operand i.k s.index)) equal ∙ ap (λ u. test_holds Test.Equal s.accumulator (operand_value u i.k s.index)) constant) ∙ t) h
+    learned p n s.accumulator s holds
+    (sym (ap (λ u. test_holds u s.accumulator (operand_value operand i.k s.index)) equal
+    ∙ ap (λ u. test_holds Test.Equal s.accumulator (operand_value u i.k s.index)) constant) ∙ t) h
 
-pub learns_bits : (k : Known) (i : Insn) (f : Field) (outcome : Bool) (new : Known) → operation_of i.code ≡ Some (JumpIf Test.AnyBit Constant) → masked_held k.held i.k ≡ held.Field f → LearnsEqual k f 0 (not outcome) new → Learns k i outcome new
+pub learns_bits : (k : Known) (i : Insn) (f : Field) (outcome : Bool) (new : Known) → operation_of i.code ≡ Some (JumpIf Test.AnyBit Constant)
+    → masked_held k.held i.k ≡ held.Field f → LearnsEqual k f 0 (not outcome) new → Learns k i outcome new
 learns_bits k i f outcome new o is learned p n s test operand e t h =
     let same : Some (JumpIf test operand) ≡ Some (JumpIf Test.AnyBit Constant) = sym e ∙ o in
     let any : test ≡ Test.AnyBit = cc in
     let constant : operand ≡ Constant = cc in
     let bits = bit_and s.accumulator i.k in
     let holds : value_of p n f ≡ Some bits = subst (λ z. HeldHolds p n z (record s { accumulator = bits })) is (masks p n k.held i.k bits s h.a refl) in
-    let shown : not (bits == 0) ≡ outcome = sym (ap (λ u. test_holds u s.accumulator (operand_value operand i.k s.index)) any ∙ ap (λ u. test_holds Test.AnyBit s.accumulator (operand_value u i.k s.index)) constant) ∙ t in
+    let shown : not (bits == 0) ≡ outcome = sym (ap (λ u. test_holds u s.accumulator (operand_value operand i.k s.index)) any
+    ∙ ap (λ u. test_holds Test.AnyBit s.accumulator (operand_value u i.k s.index)) constant) ∙ t in
     learned p n bits s holds (sym (not-not (bits == 0)) ∙ ap not shown) h

@@ -1,7 +1,13 @@
 -- Wide code that is laid out: how many instructions it becomes, and that a jump stands only for a
 -- target that is too far for its test; that it gives the answers of the wide code; and that code
 -- without a fault stays so.
-use Rattle.flt_short.proofs.Common.{◌≡◌, ℕ, ◌+◌, ◌-◌, ◌*◌, ◌<◌, ◌≤◌, List, [], ◌∷◌, length, true, cond, Option, Some, refl, sym, arith, ◌≢◌, nat_le, count_by, nat_tests, All-cons, All-head, All-tail, Insn, Operation, Jump, JumpIf, is_branch, JUMP, MOST_OFFSET, HasNoJump, IsShort, back_of_code, PlacedCode, with_offsets, with_test_by, with_insn, placed_code, laid_out, zero, suc, Bool, false, ap, ◌∙◌, inl, inr, ◌⊎◌, slice_get, if◌then◌else◌, IsNeeded, JumpsAreNeeded, with_jump, is_near, with_way, way, place_at, subst, ◌==◌, ◌&&◌, nat_lt, All, All-take, All-replicate, State, answer_of, emitted, with_noted_jump, jump_near, None, ReturnConstant, ReturnAccumulator, Test, Operand, does_if_known, test_holds, operand_value, answer_after, ends_in_return, Load, Compute, Memory, unless, fault_if_known, is_return, IsFaultless, IsValidUnlessLong, Constant, plain_both, known_step, length-drop}
+use Rattle.flt_short.proofs.Common.{◌≡◌, ℕ, ◌+◌, ◌-◌, ◌*◌, ◌<◌, ◌≤◌, List, [], ◌∷◌, length, true, cond, Option, Some, refl, sym, arith, ◌≢◌, nat_le, count_by}
+use Rattle.flt_short.proofs.Common.{nat_tests, All-cons, All-head, All-tail, Insn, Operation, Jump, JumpIf, is_branch, JUMP, MOST_OFFSET, HasNoJump, IsShort}
+use Rattle.flt_short.proofs.Common.{back_of_code, PlacedCode, with_offsets, with_test_by, with_insn, placed_code, laid_out, zero, suc, Bool, false, ap, ◌∙◌}
+use Rattle.flt_short.proofs.Common.{inl, inr, ◌⊎◌, slice_get, if◌then◌else◌, IsNeeded, JumpsAreNeeded, with_jump, is_near, with_way, way, place_at, subst, ◌==◌}
+use Rattle.flt_short.proofs.Common.{◌&&◌, nat_lt, All, All-take, All-replicate, State, answer_of, emitted, with_noted_jump, jump_near, None, ReturnConstant}
+use Rattle.flt_short.proofs.Common.{ReturnAccumulator, Test, Operand, does_if_known, test_holds, operand_value, answer_after, ends_in_return, Load, Compute}
+use Rattle.flt_short.proofs.Common.{Memory, unless, fault_if_known, is_return, IsFaultless, IsValidUnlessLong, Constant, plain_both, known_step, length-drop}
 use Rattle.std.proofs.lemmas.List.Sums.{count_by-le-length, sum_by-cons}
 use Rattle.std.specs.Prelude.{slice_index}
 use Rattle.flt_bpf.proofs.{Jumps.jump_later, Jumps.needed_put}
@@ -33,7 +39,8 @@ pub at_most : (wide : List Insn) → length (laid_out wide) ≤ length wide + 2 
 at_most [] = omega arith
 at_most (i ∷ is) =
     let g = emitted_grows (operation_of i.code) i (placed_code is) in
-    let more : count_by (λ j. is_branch (operation_of j.code)) (i ∷ is) ≡ cond (is_branch (operation_of i.code)) 1 0 + count_by (λ j. is_branch (operation_of j.code)) is = sum_by-cons (λ j. cond (is_branch (operation_of j.code)) 1 0) i is in
+    let more : count_by (λ j. is_branch (operation_of j.code)) (i ∷ is) ≡ cond (is_branch (operation_of i.code)) 1 0 + count_by
+    (λ j. is_branch (operation_of j.code)) is = sum_by-cons (λ j. cond (is_branch (operation_of j.code)) 1 0) i is in
     omega (arith, g.few, at_most is)
 
 -- three for each at most
@@ -46,7 +53,8 @@ pub ruleset room = (threefold, length-drop)
 plain_put : (i : Insn) (c : List Insn) → i.code ≢ JUMP → HasNoJump c → IsShort (i ∷ c) (length c + 1)
 plain_put i c other none = record { no_jump = All-cons (λ j. j.code ≢ JUMP) i c other none; short = omega arith }
 
-emitted_plain : (op : Option Operation) (i : Insn) (l : PlacedCode) → operation_of i.code ≡ op → i.code ≢ JUMP → HasNoJump l.code → length l.code ≤ 255 → IsShort (with_insn op i l).code (length l.code + 1)
+emitted_plain : (op : Option Operation) (i : Insn) (l : PlacedCode) → operation_of i.code ≡ op → i.code ≢ JUMP → HasNoJump l.code
+    → length l.code ≤ 255 → IsShort (with_insn op i l).code (length l.code + 1)
 unfolding with_test
 emitted_plain (Some (JumpIf t o)) i l e other none short =
     let near : (to : ℕ) → nat_le (length l.code - to) MOST_OFFSET ≡ true = λ to. grind (arith, nat_tests) in
@@ -58,17 +66,21 @@ pub short_stays : (wide : List Insn) → HasNoJump wide → length wide ≤ 256 
 short_stays [] none short = record { no_jump = none; short = omega arith }
 short_stays (i ∷ is) none short =
     let before = short_stays is (All-tail (λ j. j.code ≢ JUMP) i is none) (omega arith) in
-    let now = emitted_plain (operation_of i.code) i (placed_code is) refl (All-head (λ j. j.code ≢ JUMP) i is none) before.no_jump (omega (arith, before.short)) in
+    let now = emitted_plain (operation_of i.code) i (placed_code is) refl (All-head (λ j. j.code ≢ JUMP) i is none) before.no_jump
+    (omega (arith, before.short)) in
     record { no_jump = now.no_jump; short = omega (arith, now.short, before.short) }
 
 -- a jump at which the test in front goes on
-led : (all : List Insn) (b : Insn) (k place : ℕ) → slice_get all 0 ≡ Some b → is_branch (operation_of b.code) ≡ true → (1 + b.jt ≡ place) ⊎ (1 + b.jf ≡ place) → 1 + MOST_OFFSET < place + 1 + k → (jump : Insn) → Some (record { code = JUMP; jt = 0; jf = 0; k = k }) ≡ Some jump → IsNeeded all place jump
+led : (all : List Insn) (b : Insn) (k place : ℕ) → slice_get all 0 ≡ Some b → is_branch (operation_of b.code) ≡ true
+    → (1 + b.jt ≡ place) ⊎ (1 + b.jf ≡ place) → 1 + MOST_OFFSET < place + 1 + k → (jump : Insn)
+    → Some (record { code = JUMP; jt = 0; jf = 0; k = k }) ≡ Some jump → IsNeeded all place jump
 led all b k place there branches leads far jump e =
     let same : record { code = JUMP; jt = 0; jf = 0; k = k } ≡ jump = cc in
     subst (IsNeeded all place) same (record { from = 0; branch = b; there = there; branches = branches; leads = leads; far = far })
 
 -- a test and a jump for one of its ways
-needed_one : (c : List Insn) (i : Insn) (jt jf to : ℕ) → i.code ≢ JUMP → is_branch (operation_of i.code) ≡ true → (1 + jt ≡ 1) ⊎ (1 + jf ≡ 1) → MOST_OFFSET < length c - to → JumpsAreNeeded c → JumpsAreNeeded (with_offsets i jt jf ∷ with_jump to c)
+needed_one : (c : List Insn) (i : Insn) (jt jf to : ℕ) → i.code ≢ JUMP → is_branch (operation_of i.code) ≡ true → (1 + jt ≡ 1) ⊎ (1 + jf ≡ 1)
+    → MOST_OFFSET < length c - to → JumpsAreNeeded c → JumpsAreNeeded (with_offsets i jt jf ∷ with_jump to c)
 needed_one c i jt jf to other branches way far h = record { each = at }
   where
     all : List Insn
@@ -80,7 +92,9 @@ needed_one c i jt jf to other branches way far h = record { each = at }
     at (suc (suc place)) jump g e = jump_later (with_jump to c) _ (suc place) jump (jump_later c _ place jump (h.each place jump g e))
 
 -- a test and a jump for each of its ways
-needed_two : (c : List Insn) (i : Insn) (jt jf hit miss : ℕ) → i.code ≢ JUMP → is_branch (operation_of i.code) ≡ true → jt ≡ 0 → jf ≡ 1 → MOST_OFFSET < length c + 1 - hit → MOST_OFFSET < length c + 1 - miss → JumpsAreNeeded c → JumpsAreNeeded (with_offsets i jt jf ∷ with_jump hit (with_jump miss c))
+needed_two : (c : List Insn) (i : Insn) (jt jf hit miss : ℕ) → i.code ≢ JUMP → is_branch (operation_of i.code) ≡ true → jt ≡ 0 → jf ≡ 1
+    → MOST_OFFSET < length c + 1 - hit → MOST_OFFSET < length c + 1 - miss → JumpsAreNeeded c
+    → JumpsAreNeeded (with_offsets i jt jf ∷ with_jump hit (with_jump miss c))
 needed_two c i jt jf hit miss other branches zero_jt one_jf far_hit far_miss h = record { each = at }
   where
     all : List Insn
@@ -90,9 +104,12 @@ needed_two c i jt jf hit miss other branches zero_jt one_jf far_hit far_miss h =
     at zero jump g e = let same : with_offsets i jt jf ≡ jump = cc in absurd (other (ap (λ j. j.code) same ∙ e))
     at (suc zero) jump g e = led all (with_offsets i jt jf) (length (with_jump miss c) - hit) 1 refl branches (inl (omega arith)) (omega arith) jump g
     at (suc (suc zero)) jump g e = led all (with_offsets i jt jf) (length c - miss) 2 refl branches (inr (omega arith)) (omega arith) jump g
-    at (suc (suc (suc place))) jump g e = jump_later _ _ (suc (suc place)) jump (jump_later _ _ (suc place) jump (jump_later c _ place jump (h.each place jump g e)))
+    at (suc (suc (suc place))) jump g e = jump_later _ _ (suc (suc place)) jump
+        (jump_later _ _ (suc place) jump (jump_later c _ place jump (h.each place jump g e)))
 
-needed_test : (i : Insn) (hit miss : ℕ) (l : PlacedCode) → i.code ≢ JUMP → is_branch (operation_of i.code) ≡ true → JumpsAreNeeded l.code → (a b d : Bool) → d ≡ is_near l hit MOST_OFFSET → b ≡ is_near l miss (if d then MOST_OFFSET else MOST_OFFSET - 1) → a ≡ is_near (with_way b miss l) hit MOST_OFFSET → JumpsAreNeeded (with_test_by a b i hit miss l).code
+needed_test : (i : Insn) (hit miss : ℕ) (l : PlacedCode) → i.code ≢ JUMP → is_branch (operation_of i.code) ≡ true → JumpsAreNeeded l.code
+    → (a b d : Bool) → d ≡ is_near l hit MOST_OFFSET → b ≡ is_near l miss (if d then MOST_OFFSET else MOST_OFFSET - 1)
+    → a ≡ is_near (with_way b miss l) hit MOST_OFFSET → JumpsAreNeeded (with_test_by a b i hit miss l).code
 needed_test i hit miss l other branches h true true d ed eb ea = needed_put l.code _ other h
 needed_test i hit miss l other branches h false true d ed eb ea =
     let far : MOST_OFFSET < length l.code - hit = grind (arith, nat_tests) in
@@ -110,7 +127,8 @@ needed_test i hit miss l other branches h false false d ed eb ea =
     by true e = grind (arith, nat_tests)
     by false e = grind (arith, nat_tests)
 
-emitted_needed : (op : Option Operation) (i : Insn) (l : PlacedCode) → operation_of i.code ≡ op → i.code ≢ JUMP → JumpsAreNeeded l.code → JumpsAreNeeded (with_insn op i l).code
+emitted_needed : (op : Option Operation) (i : Insn) (l : PlacedCode) → operation_of i.code ≡ op → i.code ≢ JUMP → JumpsAreNeeded l.code
+    → JumpsAreNeeded (with_insn op i l).code
 unfolding with_test
 emitted_needed (Some (JumpIf t o)) i l e other h = needed_test i _ _ l other (ap is_branch e) h _ _ _ refl refl refl
 emitted_needed (Some Jump) i l e other h = absurd (other (sym (back_of_code i.code Jump e)))
@@ -128,7 +146,8 @@ unfolding step operation_of
 jumps to c p n s = refl
 
 -- past one more instruction, by how much code there is then
-pub later : (m : ℕ) (i : Insn) (c : List Insn) (to : ℕ) (p : List ℕ) (n : ℕ) (s : State) → m ≡ suc (length c) → to ≤ length c → answer_of (i ∷ c) p n (m - to) s ≡ answer_of c p n (length c - to) s
+pub later : (m : ℕ) (i : Insn) (c : List Insn) (to : ℕ) (p : List ℕ) (n : ℕ) (s : State) → m ≡ suc (length c) → to ≤ length c
+    → answer_of (i ∷ c) p n (m - to) s ≡ answer_of c p n (length c - to) s
 later m i c to p n s e l =
     let further : m - to ≡ suc (length c - to) = omega arith in
     ap (λ k. answer_of (i ∷ c) p n k s) further
@@ -146,7 +165,8 @@ stays c to l = record { within = l; some = λ h. h; same = λ p n s. refl }
 pub record Extends (l m : PlacedCode) : Type 0 where
   pub more : length l.code ≤ length m.code
   pub places : m.places ≡ l.places
-  pub same : (to : ℕ) (p : List ℕ) (n : ℕ) (s : State) → to ≤ length l.code → answer_of m.code p n (length m.code - to) s ≡ answer_of l.code p n (length l.code - to) s
+  pub same : (to : ℕ) (p : List ℕ) (n : ℕ) (s : State) → to ≤ length l.code → answer_of m.code p n (length m.code - to) s ≡ answer_of l.code p n
+      (length l.code - to) s
   pub ends : 0 < length l.code → ends_in_return m.code ≡ ends_in_return l.code
 
 one_more : (i : Insn) (l : PlacedCode) (noted : List PlacedJump) → Extends l (record { code = i ∷ l.code; places = l.places; jumps = noted })
@@ -157,7 +177,13 @@ one_more i l noted = record { more = omega arith; places = refl; same = λ to p 
     by (j ∷ c) some = refl
 
 both_more : {l m o : PlacedCode} → Extends l m → Extends m o → Extends l o
-both_more h g = record { more = omega (arith, h.more, g.more); places = g.places ∙ h.places; same = λ to p n s b. g.same to p n s (omega (arith, b, h.more)) ∙ h.same to p n s b; ends = λ some. g.ends (omega (arith, some, h.more)) ∙ h.ends some }
+both_more h g = record {
+  more = omega (arith, h.more, g.more);
+  places = g.places ∙ h.places;
+  same = λ to p n s b. g.same to p n s
+      (omega (arith, b, h.more)) ∙ h.same to p n s b;
+  ends = λ some. g.ends (omega (arith, some, h.more)) ∙ h.ends some;
+}
 
 pub way_more : (near : Bool) (to : ℕ) (l : PlacedCode) → Extends l (with_way near to l)
 way_more true to l = record { more = omega arith; places = refl; same = λ to p n s b. refl; ends = λ some. refl }
@@ -234,7 +260,8 @@ all_way : (near : Bool) (to : ℕ) (l : PlacedCode) → to ≤ length l.code →
 all_way true to l b h = h
 all_way false to l b h = all_jump to l b h
 
-all_test : (a b : Bool) (i : Insn) (hit miss : ℕ) (l : PlacedCode) → hit ≤ length l.code → miss ≤ length l.code → AllLead l → AllLead (with_test_by a b i hit miss l)
+all_test : (a b : Bool) (i : Insn) (hit miss : ℕ) (l : PlacedCode) → hit ≤ length l.code → miss ≤ length l.code → AllLead l
+    → AllLead (with_test_by a b i hit miss l)
 all_test a b i hit miss l lh lm h =
     all_put _ (with_way a hit _) (all_way a hit _ (omega (arith, lh, (way_more b miss l).more)) (all_way b miss l lm h))
 
@@ -250,7 +277,8 @@ way_leads true to l b = record { goes = stays l.code to b; inside = b }
 way_leads false to l b = jump_leads to l b
 
 -- a test's two places lead where they should
-pub test_leads : (a b : Bool) (hit miss : ℕ) (l : PlacedCode) → hit ≤ length l.code → miss ≤ length l.code → (let m = with_way b miss l in let c = (with_way a hit m).code in GoesTo c (way a hit m) hit × GoesTo c (way b miss l) miss)
+pub test_leads : (a b : Bool) (hit miss : ℕ) (l : PlacedCode) → hit ≤ length l.code → miss ≤ length l.code
+    → (let m = with_way b miss l in let c = (with_way a hit m).code in GoesTo c (way a hit m) hit × GoesTo c (way b miss l) miss)
 test_leads a b hit miss l lh lm =
     let m = with_way b miss l in
     ((way_leads a hit m (omega (arith, lh, (way_more b miss l).more))).goes, (keeps (way_more a hit m) _ (way_leads b miss l lm)).goes)
@@ -271,11 +299,15 @@ abbrev goes : Bool → ℕ → ℕ → ℕ
 goes b k m = if b then k else m
 
 -- what an instruction in front does, by its operation
-plain : (op : Option Operation) (i : Insn) (jt jf : ℕ) (c : List Insn) (p : List ℕ) (n : ℕ) (s : State) → operation_of i.code ≡ op → answer_of (with_offsets i jt jf ∷ c) p n 0 s ≡ answer_after (answer_of c p n) (does_if_known op (with_offsets i jt jf) p n s)
+plain : (op : Option Operation) (i : Insn) (jt jf : ℕ) (c : List Insn) (p : List ℕ) (n : ℕ) (s : State) → operation_of i.code ≡ op
+    → answer_of (with_offsets i jt jf ∷ c) p n 0 s ≡ answer_after (answer_of c p n) (does_if_known op (with_offsets i jt jf) p n s)
 plain op i jt jf c p n s e = ap (answer_after (answer_of c p n)) (known_step p n (with_offsets i jt jf) op s e)
 
 -- a test goes on at its places, however they are reached
-test_same : (a b : Bool) (i : Insn) (t : Test) (o : Operand) (l : PlacedCode) (is : List Insn) (p : List ℕ) (n : ℕ) (s : State) → operation_of i.code ≡ Some (JumpIf t o) → Lays l is → answer_of (with_test_by a b i (near_place l (place_at l i.jt)) (near_place l (place_at l i.jf)) l).code p n 0 s ≡ answer_of is p n (goes (test_holds t s.accumulator (operand_value o i.k s.index)) i.jt i.jf) s
+test_same : (a b : Bool) (i : Insn) (t : Test) (o : Operand) (l : PlacedCode) (is : List Insn) (p : List ℕ) (n : ℕ) (s : State)
+    → operation_of i.code ≡ Some (JumpIf t o) → Lays l is
+    → answer_of (with_test_by a b i (near_place l (place_at l i.jt)) (near_place l (place_at l i.jf)) l).code p n 0 s ≡ answer_of is p n
+    (goes (test_holds t s.accumulator (operand_value o i.k s.index)) i.jt i.jf) s
 test_same a b i t o l is p n s e h = plain (Some (JumpIf t o)) i _ _ c.code p n s e ∙ by (test_holds t s.accumulator (operand_value o i.k s.index))
   where
     hit : ℕ
@@ -288,14 +320,17 @@ test_same a b i t o l is p n s e h = plain (Some (JumpIf t o)) i _ _ c.code p n 
     c = with_way a hit (with_way b miss l)
 
     led : (place k : ℕ) → GoesTo c.code place (near_place l (place_at l k)) → answer_of c.code p n (length c.code - place) s ≡ answer_of is p n k s
-    led place k g = g.same p n s ∙ (both_more (way_more b miss l) (way_more a hit (with_way b miss l))).same _ p n s (near h k).within ∙ (near h k).same p n s ∙ h.arrives p n k s
+    led place k g = g.same p n s ∙ (both_more (way_more b miss l) (way_more a hit (with_way b miss l))).same _ p n s (near h k).within
+        ∙ (near h k).same p n s ∙ h.arrives p n k s
 
-    by : (d : Bool) → answer_of c.code p n (goes d (length c.code - way a hit (with_way b miss l)) (length c.code - way b miss l)) s ≡ answer_of is p n (goes d i.jt i.jf) s
+    by : (d : Bool) → answer_of c.code p n (goes d (length c.code - way a hit (with_way b miss l)) (length c.code - way b miss l)) s ≡ answer_of is p
+        n (goes d i.jt i.jf) s
     by true = led _ i.jt (test_leads a b hit miss l (near h i.jt).within (near h i.jf).within).0
     by false = led _ i.jf (test_leads a b hit miss l (near h i.jt).within (near h i.jf).within).1
 
 -- a wide instruction that is laid out does what it does in the wide code
-emitted_same : (op : Option Operation) (i : Insn) (l : PlacedCode) (is : List Insn) (p : List ℕ) (n : ℕ) (s : State) → operation_of i.code ≡ op → Lays l is → answer_of (with_insn op i l).code p n 0 s ≡ answer_after (answer_of is p n) (does_if_known op i p n s)
+emitted_same : (op : Option Operation) (i : Insn) (l : PlacedCode) (is : List Insn) (p : List ℕ) (n : ℕ) (s : State) → operation_of i.code ≡ op
+    → Lays l is → answer_of (with_insn op i l).code p n 0 s ≡ answer_after (answer_of is p n) (does_if_known op i p n s)
 unfolding with_test
 emitted_same None i l is p n s e h = plain None i 0 0 l.code p n s e
 emitted_same (Some Jump) i l is p n s e h = jumps _ l.code p n s ∙ h.arrives p n i.k s
@@ -303,7 +338,8 @@ emitted_same (Some (JumpIf t o)) i l is p n s e h = test_same _ _ i t o l is p n
 emitted_same (Some ReturnConstant) i l is p n s e h = plain _ i 0 0 l.code p n s e
 emitted_same (Some ReturnAccumulator) i l is p n s e h = plain _ i 0 0 l.code p n s e
 emitted_same (Some op) i l is p n s e h =
-    plain _ i 0 0 l.code p n s e ∙ plain_both p n (λ u v. answer_after (answer_of l.code p n) u ≡ answer_after (answer_of is p n) v) refl refl op (with_offsets i 0 0) i s refl (λ t. h.next p n t)
+    plain _ i 0 0 l.code p n s e ∙ plain_both p n (λ u v. answer_after (answer_of l.code p n) u ≡ answer_after (answer_of is p n) v) refl refl op
+    (with_offsets i 0 0) i s refl (λ t. h.next p n t)
 
 lays_put : (i : Insn) (l : PlacedCode) (is : List Insn) → Lays l is → Lays (put i l) (i ∷ is)
 unfolding step
@@ -337,7 +373,13 @@ lays_put i l is h = record { leads = all_emitted op i l h.inside h.leads; inside
     arrives p n (suc k) s = ap (λ to. answer_of m.code p n (length m.code - to) s) (kept k) ∙ more.same _ p n s (h.inside k) ∙ h.arrives p n k s
 
 pub lays : (wide : List Insn) → Lays (placed_code wide) wide
-lays [] = record { leads = All-replicate (Leads []) 4 _ (record { goes = stays [] 0 (omega arith); inside = omega arith }); inside = λ k. omega arith; some = λ k b. absurd (omega arith); next = λ p n s. refl; arrives = λ p n k s. refl }
+lays [] = record {
+  leads = All-replicate (Leads []) 4 _ (record { goes = stays [] 0 (omega arith); inside = omega arith });
+  inside = λ k. omega arith;
+  some = λ k b. absurd (omega arith);
+  next = λ p n s. refl;
+  arrives = λ p n k s. refl;
+}
 lays (i ∷ is) = lays_put i (placed_code is) is (lays is)
 
 pub same_answers : (wide : List Insn) (p : List ℕ) (n : ℕ) (s : State) → answer_of (laid_out wide) p n 0 s ≡ answer_of wide p n 0 s
@@ -350,7 +392,8 @@ jump_sound to c some within sound =
     let l : nat_lt (length c - to) (length c) ≡ true = grind (arith, nat_tests) in
     (ap (λ b. unless b JumpOut) l, sound)
 
-test_sound : (i : Insn) (t : Test) (o : Operand) (jt jf : ℕ) (c : List Insn) → operation_of i.code ≡ Some (JumpIf t o) → jt < length c → jf < length c → IsFaultless c → IsFaultless (with_offsets i jt jf ∷ c)
+test_sound : (i : Insn) (t : Test) (o : Operand) (jt jf : ℕ) (c : List Insn) → operation_of i.code ≡ Some (JumpIf t o) → jt < length c → jf < length c
+    → IsFaultless c → IsFaultless (with_offsets i jt jf ∷ c)
 unfolding fault_of
 test_sound i t o jt jf c e yes_in no_in sound = (grind (arith, nat_tests), sound)
 
@@ -358,20 +401,23 @@ way_sound : (near : Bool) (to : ℕ) (l : PlacedCode) → 0 < to → to ≤ leng
 way_sound true to l some within sound = sound
 way_sound false to l some within sound = jump_sound to l.code some within sound
 
-reached_sound : (a b : Bool) (i : Insn) (t : Test) (o : Operand) (hit miss : ℕ) (l : PlacedCode) → operation_of i.code ≡ Some (JumpIf t o) → 0 < hit → hit ≤ length l.code → 0 < miss → miss ≤ length l.code → IsFaultless l.code → IsFaultless (with_test_by a b i hit miss l).code
+reached_sound : (a b : Bool) (i : Insn) (t : Test) (o : Operand) (hit miss : ℕ) (l : PlacedCode) → operation_of i.code ≡ Some (JumpIf t o) → 0 < hit
+    → hit ≤ length l.code → 0 < miss → miss ≤ length l.code → IsFaultless l.code → IsFaultless (with_test_by a b i hit miss l).code
 reached_sound a b i t o hit miss l e some_hit hit_in some_miss miss_in sound =
     let q = test_leads a b hit miss l hit_in miss_in in
     test_sound i t o _ _ _ e (omega (arith, q.0.some some_hit, q.0.within)) (omega (arith, q.1.some some_miss, q.1.within))
     (way_sound a hit _ some_hit (omega (arith, hit_in, (way_more b miss l).more)) (way_sound b miss l some_miss miss_in sound))
 
-plain_sound : (op : Option Operation) (i : Insn) (c : List Insn) → operation_of i.code ≡ op → fault_if_known op (with_offsets i 0 0) (length c) ≡ None → IsFaultless c → IsFaultless (with_offsets i 0 0 ∷ c)
+plain_sound : (op : Option Operation) (i : Insn) (c : List Insn) → operation_of i.code ≡ op → fault_if_known op (with_offsets i 0 0) (length c) ≡ None
+    → IsFaultless c → IsFaultless (with_offsets i 0 0 ∷ c)
 unfolding fault_of
 plain_sound op i c e none sound = (ap (λ o. fault_if_known o (with_offsets i 0 0) (length c)) e ∙ none, sound)
 
 within_if : (k following : ℕ) → unless (nat_lt k following) JumpOut ≡ None → k < following
 within_if k following e = grind (arith, nat_tests)
 
-emitted_sound : (op : Option Operation) (i : Insn) (l : PlacedCode) (is : List Insn) → operation_of i.code ≡ op → fault_if_known op i (length is) ≡ None → Lays l is → IsFaultless l.code → IsFaultless (with_insn op i l).code
+emitted_sound : (op : Option Operation) (i : Insn) (l : PlacedCode) (is : List Insn) → operation_of i.code ≡ op → fault_if_known op i (length is) ≡
+    None → Lays l is → IsFaultless l.code → IsFaultless (with_insn op i l).code
 unfolding with_test
 emitted_sound None i l is e none h sound = cc
 emitted_sound (Some (Load register Memory)) i l is e none h sound = plain_sound _ i l.code e none sound
@@ -379,7 +425,8 @@ emitted_sound (Some (Compute operator Constant)) i l is e none h sound = plain_s
 emitted_sound (Some Jump) i l is e none h sound = jump_sound _ l.code (h.some i.k (within_if i.k (length is) none)) (h.inside i.k) sound
 emitted_sound (Some (JumpIf t o)) i l is e none h sound = inside (nat_lt i.jt (length is)) (nat_lt i.jf (length is)) refl refl none
   where
-    inside : (a b : _) → a ≡ nat_lt i.jt (length is) → b ≡ nat_lt i.jf (length is) → unless (a && b) JumpOut ≡ None → IsFaultless (with_insn (Some (JumpIf t o)) i l).code
+    inside : (a b : _) → a ≡ nat_lt i.jt (length is) → b ≡ nat_lt i.jf (length is) → unless (a && b) JumpOut ≡ None
+        → IsFaultless (with_insn (Some (JumpIf t o)) i l).code
     inside true true ea eb none' =
         let yes_in : i.jt < length is = grind (arith, nat_tests) in
         let no_in : i.jf < length is = grind (arith, nat_tests) in

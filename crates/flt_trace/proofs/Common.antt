@@ -1,5 +1,6 @@
 -- The names that most proofs here cite, passed on from one place. Declares nothing.
-pub use Rattle.std.proofs.Common.{◌≡◌, ℕ, zero, suc, ◌+◌, ◌-◌, ◌<◌, ◌≤◌, List, length, true, Option, Some, None, refl, sym, ap, ◌∙◌, subst, arith, slice_get, IsSomeAnd, ◌/◌, ◌%◌, ◌^◌, ◌∷◌, false, rules, tests, drop, ◌==◌, if◌then◌else◌, slice_set, ◌≢◌, [], length-set, below_more}
+pub use Rattle.std.proofs.Common.{◌≡◌, ℕ, zero, suc, ◌+◌, ◌-◌, ◌<◌, ◌≤◌, List, length, true, Option, Some, None, refl, sym, ap, ◌∙◌, subst, arith, slice_get}
+pub use Rattle.std.proofs.Common.{IsSomeAnd, ◌/◌, ◌%◌, ◌^◌, ◌∷◌, false, rules, tests, drop, ◌==◌, if◌then◌else◌, slice_set, ◌≢◌, [], length-set, below_more}
 pub use Rattle.std.proofs.lemmas.List.{drop-set}
 pub use Rattle.std.proofs.lemmas.Option.{slice_get_within, slice_get_past, slice_get-get_or}
 pub use Rattle.std.specs.Fmt.{digit_glyph, digits_onto}

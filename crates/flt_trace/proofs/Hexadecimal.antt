@@ -1,5 +1,6 @@
 -- Digits in base 16, from the last to the first.
-use Rattle.flt_trace.proofs.Common.{◌≡◌, ℕ, zero, suc, ◌+◌, ◌-◌, ◌/◌, ◌%◌, ◌^◌, ◌<◌, ◌≤◌, List, ◌∷◌, false, sym, ap, ◌∙◌, arith, tests, drop, length, slice_set, drop-set, digit_glyph, digits_onto}
+use Rattle.flt_trace.proofs.Common.{◌≡◌, ℕ, zero, suc, ◌+◌, ◌-◌, ◌/◌, ◌%◌, ◌^◌, ◌<◌, ◌≤◌, List, ◌∷◌, false, sym, ap, ◌∙◌, arith, tests, drop, length, slice_set}
+use Rattle.flt_trace.proofs.Common.{drop-set, digit_glyph, digits_onto}
 use Rattle.std.proofs.lemmas.Grind.{pow_more}
 
 -- one more digit of a number that has others
@@ -21,7 +22,8 @@ has_room zero n small more = omega (arith, small, more)
 has_room (suc s) n small more = omega arith
 
 -- a digit is put before the others
-pub put_more : (s n d : ℕ) (ds : List ℕ) → s < length ds → 1 ≤ s → 16 ≤ n → d ≡ digit_glyph false (n % 16) → digits_onto (57 + (s - 1)) 16 false (n / 16) (drop (s - 1 + 1) (slice_set ds s d)) ≡ digits_onto (57 + s) 16 false n (drop (s + 1) ds)
+pub put_more : (s n d : ℕ) (ds : List ℕ) → s < length ds → 1 ≤ s → 16 ≤ n → d ≡ digit_glyph false (n % 16) → digits_onto (57 + (s - 1)) 16 false
+    (n / 16) (drop (s - 1 + 1) (slice_set ds s d)) ≡ digits_onto (57 + s) 16 false n (drop (s + 1) ds)
 put_more s n d ds inside room more e =
     let at : s - 1 + 1 ≡ s = omega arith in
     let from : suc (57 + (s - 1)) ≡ 57 + s = omega arith in
@@ -32,7 +34,8 @@ put_more s n d ds inside room more e =
     ∙ ap (λ k. digits_onto k 16 false n (drop (s + 1) ds)) from
 
 -- the first digit is put before the others
-pub put_last : (s n d : ℕ) (ds : List ℕ) → s < length ds → n < 16 → d ≡ digit_glyph false n → drop s (slice_set ds s d) ≡ digits_onto (57 + s) 16 false n (drop (s + 1) ds)
+pub put_last : (s n d : ℕ) (ds : List ℕ) → s < length ds → n < 16 → d ≡ digit_glyph false n → drop s (slice_set ds s d) ≡ digits_onto (57 + s) 16
+    false n (drop (s + 1) ds)
 put_last s n d ds inside last e =
     let from : suc (56 + s) ≡ 57 + s = omega arith in
     drop-set ds s d inside

@@ -1,6 +1,12 @@
 -- Groups of digits, the parts of a text between separators, and the numbers of addresses. A text is
 -- one list of groups at most.
-use Rattle.flt_words.proofs.Common.{◌≡◌, ℕ, ◌^◌, ◌<◌, ◌≤◌, List, [], ◌∷◌, ◌++◌, length, refl, sym, ap, ◌∙◌, arith, false, ◌==◌, Result, Ok, Err, lit<, lit≤, MatchOption, pow-le-pow_right, nat_tests, digits_value-lt, AllByRecursion, join_with_byte, slice_split, AllDigits, IsNumeral, digits_value, Group, WordFault, AreGroups, IsGroup, group_value, separator_of, base_of, WritesNumber, is_word_sized, FindsMeaning, has, suc, zero, ◌+◌, ◌*◌, get_or, subst, add-one, map, pow-add, pow-suc, add_assoc, mul-le-mul_right, mul-lt-mul_of_pos_right, mul_assoc, pow-zero, number_push, Bor, number_from_digits, group_values, ◌-◌, ◌%◌, length-append, replicate, Some, number_after_append, number_lt, length-map, AllBelowBase, number_from_digits_after, AreIp6Ends, IsDotted, IsWholeAddress, ReadsGroups, or_parts, mul-mod_left}
+use Rattle.flt_words.proofs.Common.{◌≡◌, ℕ, ◌^◌, ◌<◌, ◌≤◌, List, [], ◌∷◌, ◌++◌, length, refl, sym, ap, ◌∙◌, arith, false, ◌==◌, Result, Ok, Err, lit<, lit≤}
+use Rattle.flt_words.proofs.Common.{MatchOption, pow-le-pow_right, nat_tests, digits_value-lt, AllByRecursion, join_with_byte, slice_split, AllDigits}
+use Rattle.flt_words.proofs.Common.{IsNumeral, digits_value, Group, WordFault, AreGroups, IsGroup, group_value, separator_of, base_of, WritesNumber}
+use Rattle.flt_words.proofs.Common.{is_word_sized, FindsMeaning, has, suc, zero, ◌+◌, ◌*◌, get_or, subst, add-one, map, pow-add, pow-suc, add_assoc}
+use Rattle.flt_words.proofs.Common.{mul-le-mul_right, mul-lt-mul_of_pos_right, mul_assoc, pow-zero, number_push, Bor, number_from_digits, group_values, ◌-◌}
+use Rattle.flt_words.proofs.Common.{◌%◌, length-append, replicate, Some, number_after_append, number_lt, length-map, AllBelowBase, number_from_digits_after}
+use Rattle.flt_words.proofs.Common.{AreIp6Ends, IsDotted, IsWholeAddress, ReadsGroups, or_parts, mul-mod_left}
 use Rattle.flt_words.proofs.Numbers.{digits_lack, same}
 use Rattle.std.specs.Result.{result_ok}
 use Rattle.std.proofs.lemmas.List.Splits.{join_with_byte-slice_split}
@@ -42,23 +48,28 @@ split_at c (b ∷ front) back lacks =
     let parts = or_parts (b == c) (has c front) lacks in
     rw (parts.0, split_at c front back parts.1) refl
 
-pub split_joined : (form : Group) (first : List ℕ) (groups : List (List ℕ)) → AllByRecursion (IsGroup form) (first ∷ groups) → slice_split (λ b. b == separator_of form) (join_with_byte (separator_of form) (first ∷ groups)) ≡ first ∷ groups
+pub split_joined : (form : Group) (first : List ℕ) (groups : List (List ℕ)) → AllByRecursion (IsGroup form) (first ∷ groups)
+    → slice_split (λ b. b == separator_of form) (join_with_byte (separator_of form) (first ∷ groups)) ≡ first ∷ groups
 split_joined form first [] each = split_none (separator_of form) first (group_lacks form first each.0)
 split_joined form first (second ∷ groups) each =
     split_at (separator_of form) first (join_with_byte (separator_of form) (second ∷ groups)) (group_lacks form first each.0)
     ∙ ap (λ parts. first ∷ parts) (split_joined form second groups each.1)
 
-parts_are : (form : Group) (text : List ℕ) (groups : List (List ℕ)) → text ≡ join_with_byte (separator_of form) groups → AllByRecursion (IsGroup form) groups → 0 < length text → groups ≡ slice_split (λ b. b == separator_of form) text
+parts_are : (form : Group) (text : List ℕ) (groups : List (List ℕ)) → text ≡ join_with_byte (separator_of form) groups → AllByRecursion (IsGroup form)
+    groups → 0 < length text → groups ≡ slice_split (λ b. b == separator_of form) text
 parts_are form text [] joined each some = absurd (omega (arith, ap length joined))
 parts_are form text (first ∷ groups) joined each some = sym (ap (slice_split (λ b. b == separator_of form)) joined ∙ split_joined form first groups each)
 
 -- the groups of a text are its parts
-pub groups_are_parts : {form : Group} {text : List ℕ} {groups : List (List ℕ)} → AreGroups form text groups → 0 < length text → groups ≡ slice_split (λ b. b == separator_of form) text
+pub groups_are_parts : {form : Group} {text : List ℕ} {groups : List (List ℕ)} → AreGroups form text groups → 0 < length text
+    → groups ≡ slice_split (λ b. b == separator_of form) text
 groups_are_parts {form} {text} {groups} are some = parts_are form text groups are.joined are.each some
 
 -- the answer at digits of which few are read
-pub small_answer : (digits : List ℕ) (most : ℕ) (r : Result ℕ WordFault) → most ≤ 4 → length digits ≤ most → FindsMeaning (WritesNumber 16 digits) is_word_sized r
-    → MatchOption (result_ok r) (IsNumeral 16 digits × (length digits ≤ most) → ⊥) (λ n. IsNumeral 16 digits × (length digits ≤ most) × (n ≡ digits_value 16 digits))
+pub small_answer : (digits : List ℕ) (most : ℕ) (r : Result ℕ WordFault) → most ≤ 4 → length digits ≤ most → FindsMeaning (WritesNumber 16 digits)
+    is_word_sized r
+    → MatchOption (result_ok r) (IsNumeral 16 digits × (length digits ≤ most) → ⊥) (λ n. IsNumeral 16 digits × (length digits ≤ most)
+    × (n ≡ digits_value 16 digits))
 small_answer digits most (Ok n) low upper_bound h = (h.0.numeral, upper_bound, sym h.0.value)
 small_answer digits most (Err fault.TooLarge) low upper_bound h =
     let below = small_hexadecimal digits most h.1.numeral.1 upper_bound in
@@ -79,7 +90,8 @@ pub each_pushed : (P : List ℕ → Type 0) (groups : List (List ℕ)) (g : List
 each_pushed P [] g each last = (last, tt)
 each_pushed P (h ∷ groups) g each last = (each.0, each_pushed P groups g each.1 last)
 
-values_pushed : (form : Group) (groups : List (List ℕ)) (g : List ℕ) → group_values form (groups ++ g ∷ []) ≡ group_values form groups ++ group_value form g ∷ []
+values_pushed : (form : Group) (groups : List (List ℕ)) (g : List ℕ) → group_values form (groups ++ g ∷ []) ≡ group_values form groups
+    ++ group_value form g ∷ []
 values_pushed form [] g = refl
 values_pushed form (h ∷ groups) g = ap (λ values. group_value form h ∷ values) (values_pushed form groups g)
 
@@ -88,7 +100,8 @@ now_pushed [] y = refl
 now_pushed (x ∷ ys) y = ap (λ rest. x.now ∷ rest) (now_pushed ys y)
 
 -- a part that is no group
-pub bad_part : {form : Group} {text digits : List ℕ} (k : ℕ) → 0 < length text → (k < length (parts_of form text)) × (digits ≡ get_or (parts_of form text) k digits) → (IsGroup form digits → ⊥)
+pub bad_part : {form : Group} {text digits : List ℕ} (k : ℕ) → 0 < length text → (k < length (parts_of form text))
+    × (digits ≡ get_or (parts_of form text) k digits) → (IsGroup form digits → ⊥)
     → (groups : List (List ℕ)) → AreGroups form text groups → length groups ≤ 8 → ⊥
 bad_part {form} {text} {digits} k some at bad groups are upper_bound =
     let same = groups_are_parts are some in
@@ -102,7 +115,8 @@ too_many {form} {text} k some within eight groups are upper_bound =
     let same = ap length (groups_are_parts are some) in omega arith
 
 -- no part was left
-pub all_read : {form : Group} {text : List ℕ} (groups : List (List ℕ)) → AllByRecursion (IsGroup form) groups → groups ≡ parts_of form text → AreGroups form text groups
+pub all_read : {form : Group} {text : List ℕ} (groups : List (List ℕ)) → AllByRecursion (IsGroup form) groups → groups ≡ parts_of form text
+    → AreGroups form text groups
 all_read {form} {text} groups each same = record {
   joined = sym (ap (join_with_byte (separator_of form)) same ∙ join_with_byte-slice_split (separator_of form) text);
   each = each;
@@ -120,22 +134,27 @@ base_fits group.Quad count h = pow-le-pow_right (lit< tt) {j = 8} (omega arith)
 base_fits _ count h = let most : 256 ^ (count + 1) ≤ 256 ^ 8 = pow-le-pow_right (lit< tt) {j = 8} (omega arith) in omega arith
 
 -- what reading one more part leaves
-pub value_pushed : (form : Group) (groups : List (List ℕ)) (g : List ℕ) (value digit : ℕ) → value ≡ number_from_digits (base_of form) (group_values form groups) → digit ≡ group_value form g
+pub value_pushed : (form : Group) (groups : List (List ℕ)) (g : List ℕ) (value digit : ℕ) → value ≡ number_from_digits (base_of form)
+    (group_values form groups) → digit ≡ group_value form g
     → value * base_of form + digit ≡ number_from_digits (base_of form) (group_values form (groups ++ g ∷ []))
 value_pushed form groups g value digit v d =
     let pushed = number_push (base_of form) (group_values form groups) (group_value form g) in
     rw (values_pushed form groups g, pushed, v, d) refl
 
-pub step_small : (form : Group) (digits : List ℕ) (value count digit base : ℕ) → base ≡ base_of form → IsGroup form digits × (digit ≡ group_value form digits) → value < base_of form ^ count → value * base + digit < base_of form ^ (count + 1)
-step_small form digits value count digit base same g small = rw (same, g.1) (below_next (base_of form) count value (group_value form digits) small (group_below form digits g.0))
+pub step_small : (form : Group) (digits : List ℕ) (value count digit base : ℕ) → base ≡ base_of form → IsGroup form digits
+    × (digit ≡ group_value form digits) → value < base_of form ^ count → value * base + digit < base_of form ^ (count + 1)
+step_small form digits value count digit base same g small = rw (same, g.1) (below_next (base_of form) count value (group_value form digits) small
+    (group_below form digits g.0))
 
-pub step_fits : (form : Group) (digits : List ℕ) (value count digit base : ℕ) → base ≡ base_of form → IsGroup form digits × (digit ≡ group_value form digits) → value < base_of form ^ count → count < 8 → value * base + digit < 2 ^ 128
+pub step_fits : (form : Group) (digits : List ℕ) (value count digit base : ℕ) → base ≡ base_of form → IsGroup form digits
+    × (digit ≡ group_value form digits) → value < base_of form ^ count → count < 8 → value * base + digit < 2 ^ 128
 step_fits form digits value count digit base same g small upper_bound =
     let below = step_small form digits value count digit base same g small in
     let fits = base_fits form count upper_bound in
     omega arith
 
-pub step_value : (form : Group) (seen : List (List ℕ)) (digits : List ℕ) (value digit base : ℕ) → base ≡ base_of form → IsGroup form digits × (digit ≡ group_value form digits) → value ≡ number_from_digits (base_of form) (group_values form seen)
+pub step_value : (form : Group) (seen : List (List ℕ)) (digits : List ℕ) (value digit base : ℕ) → base ≡ base_of form → IsGroup form digits
+    × (digit ≡ group_value form digits) → value ≡ number_from_digits (base_of form) (group_values form seen)
     → value * base + digit ≡ number_from_digits (base_of form) (group_values form (seen ++ digits ∷ []))
 step_value form seen digits value digit base same g v = rw same (value_pushed form seen digits value digit v g.1)
 
@@ -168,7 +187,8 @@ some_joined : (form : Group) (first : List ℕ) (groups : List (List ℕ)) → I
 some_joined form first [] g = group_some form first g
 some_joined form first (second ∷ groups) g = simp length-append (omega (arith, group_some form first g))
 
-none_in_empty : (form : Group) (text : List ℕ) (groups : List (List ℕ)) → length text ≡ 0 → text ≡ join_with_byte (separator_of form) groups → AllByRecursion (IsGroup form) groups → groups ≡ []
+none_in_empty : (form : Group) (text : List ℕ) (groups : List (List ℕ)) → length text ≡ 0 → text ≡ join_with_byte (separator_of form) groups
+    → AllByRecursion (IsGroup form) groups → groups ≡ []
 none_in_empty form text [] empty joined each = refl
 none_in_empty form text (first ∷ groups) empty joined each = absurd (omega (arith, some_joined form first groups each.0, ap length joined))
 
@@ -184,7 +204,8 @@ values_below : (form : Group) (groups : List (List ℕ)) → AllByRecursion (IsG
 values_below form [] each = tt
 values_below form (g ∷ groups) each = (group_below form g each.0, values_below form groups each.1)
 
-pub groups_below : (form : Group) (groups : List (List ℕ)) → AllByRecursion (IsGroup form) groups → number_from_digits (base_of form) (group_values form groups) < base_of form ^ length groups
+pub groups_below : (form : Group) (groups : List (List ℕ)) → AllByRecursion (IsGroup form) groups → number_from_digits (base_of form)
+    (group_values form groups) < base_of form ^ length groups
 groups_below form groups each =
     let below = number_lt (base_of form) (group_values form groups) (values_below form groups each) in
     rw length-map at below
@@ -207,7 +228,8 @@ pub number_zeros : (base k : ℕ) (digits : List ℕ) → number_from_digits bas
 number_zeros base k digits = number_after_append base 0 digits (replicate k 0) ∙ zeros_after base (number_from_digits base digits) k
 
 -- and with other digits after those
-pub number_between : (base k : ℕ) (digits others : List ℕ) → number_from_digits base (digits ++ (replicate k 0 ++ others)) ≡ number_from_digits base digits * base ^ (k + length others) + number_from_digits base others
+pub number_between : (base k : ℕ) (digits others : List ℕ) → number_from_digits base (digits ++ (replicate k 0 ++ others)) ≡ number_from_digits base
+    digits * base ^ (k + length others) + number_from_digits base others
 number_between base k digits others =
     number_after_append base 0 digits (replicate k 0 ++ others)
     ∙ number_after_append base (number_from_digits base digits) (replicate k 0) others
@@ -215,7 +237,8 @@ number_between base k digits others =
     ∙ rw (zeros_after base (number_from_digits base digits) k, pow-add) (omega arith)
 
 -- eight groups fit, with those left out between the first and the last
-pub ends_fit : (first count last last_count : ℕ) → first < 65536 ^ count → last < 65536 ^ last_count → count + last_count ≤ 7 → first * 65536 ^ (8 - count) + last < 2 ^ 128
+pub ends_fit : (first count last last_count : ℕ) → first < 65536 ^ count → last < 65536 ^ last_count → count + last_count ≤ 7
+    → first * 65536 ^ (8 - count) + last < 2 ^ 128
 ends_fit first count last last_count below last_below upper_bound =
     let times : (first + 1) * 65536 ^ (8 - count) ≤ 65536 ^ count * 65536 ^ (8 - count) = mul-le-mul_right (65536 ^ (8 - count)) (omega arith) in
     let whole = pow-add 65536 count (8 - count) in
@@ -239,18 +262,21 @@ ends_value form first last upper_bound =
 pub ends_below : {front back : List ℕ} {a : ℕ} → AreIp6Ends front back a → a < 2 ^ 128
 ends_below e =
     rw (e.value ∙ sym (ends_value group.Quad e.first e.last e.at_most_seven))
-    (ends_fit _ (length e.first) _ (length e.last) (groups_below group.Quad e.first e.are_first.each) (groups_below group.Quad e.last e.are_last.each) e.at_most_seven)
+    (ends_fit _ (length e.first) _ (length e.last) (groups_below group.Quad e.first e.are_first.each) (groups_below group.Quad e.last e.are_last.each)
+    e.at_most_seven)
 
 -- two to four parts are 32 bits, the last of them 0 if they are missing
 pub dotted_below : {word : List ℕ} {a parts : ℕ} → IsDotted word a parts → (a < 2 ^ 32) × (a % 256 ^ (4 - parts) ≡ 0)
 dotted_below {word} {a} {parts} d =
     let front = number_from_digits 256 (group_values group.Octet d.groups) in
-    let is : a ≡ front * 256 ^ (4 - parts) = d.value ∙ number_zeros 256 (4 - length d.groups) (group_values group.Octet d.groups) ∙ ap (λ n. front * 256 ^ (4 - n)) (sym d.count) in
+    let is : a ≡ front * 256 ^ (4 - parts) = d.value ∙ number_zeros 256 (4 - length d.groups) (group_values group.Octet d.groups)
+    ∙ ap (λ n. front * 256 ^ (4 - n)) (sym d.count) in
     let below : front < 256 ^ parts = rw d.count (groups_below group.Octet d.groups d.are.each) in
     let four : parts + (4 - parts) ≡ 4 = omega (arith, d.count, d.at_most_four) in
     (rw is (rw four at (shifted_small group.Octet front parts (4 - parts) below)), rw is (mul-mod_left front (256 ^ (4 - parts))))
 
-pub read_dotted : {word : List ℕ} {joined : JoinedGroups} → ReadsGroups group.Octet word (Some joined) → 2 ≤ joined.count → joined.count ≤ 4 → IsDotted word (joined.value * 256 ^ (4 - joined.count)) joined.count
+pub read_dotted : {word : List ℕ} {joined : JoinedGroups} → ReadsGroups group.Octet word (Some joined) → 2 ≤ joined.count → joined.count ≤ 4
+    → IsDotted word (joined.value * 256 ^ (4 - joined.count)) joined.count
 read_dotted read low high = record {
   groups = read.0;
   are = read.1;

@@ -1,5 +1,8 @@
 -- The names that most proofs here cite, passed on from one place. Declares nothing.
-pub use Rattle.std.proofs.Common.{◌≡◌, ℕ, suc, zero, ◌+◌, ◌-◌, ◌*◌, ◌%◌, ◌^◌, ◌<◌, ◌≤◌, List, [], ◌∷◌, ◌++◌, length, refl, sym, ap, ◌∙◌, arith, pow-add, pow-suc, length-append, replicate, Some, lit<, Bool, true, false, ◌&&◌, Result, Ok, Err, MatchResult, IsOkAnd, get_or, take, ◌==◌, cond, count_by, codes, Option, ◌≢◌, drop, ◌||◌, nat_lt, None, subst, MatchOption, add-one, drop-cons, lit≤, length-drop, length-take-le, get_or-drop, add-zero, inl, inr, below_more, ◌⊎◌, ⊎_elim, map, not, rules, of_calls}
+pub use Rattle.std.proofs.Common.{◌≡◌, ℕ, suc, zero, ◌+◌, ◌-◌, ◌*◌, ◌%◌, ◌^◌, ◌<◌, ◌≤◌, List, [], ◌∷◌, ◌++◌, length, refl, sym, ap, ◌∙◌, arith, pow-add}
+pub use Rattle.std.proofs.Common.{pow-suc, length-append, replicate, Some, lit<, Bool, true, false, ◌&&◌, Result, Ok, Err, MatchResult, IsOkAnd, get_or, take}
+pub use Rattle.std.proofs.Common.{◌==◌, cond, count_by, codes, Option, ◌≢◌, drop, ◌||◌, nat_lt, None, subst, MatchOption, add-one, drop-cons, lit≤, length-drop}
+pub use Rattle.std.proofs.Common.{length-take-le, get_or-drop, add-zero, inl, inr, below_more, ◌⊎◌, ⊎_elim, map, not, rules, of_calls}
 pub use Rattle.std.proofs.Math.Nat.{mul-le-mul_right, pow-le-pow_right, pow-zero, add_assoc, mul-lt-mul_of_pos_right, mul_assoc, mul-mod_left}
 pub use Rattle.std.proofs.Math.Seq.{drop-append-add, get_or-append_seam, take-append_seam, take-add}
 pub use Rattle.std.proofs.lemmas.Bool.{eqb-true, false≢true, cases_lt, Decides.nat_tests, or_parts, and_parts, not-true, ltb-true}
@@ -13,7 +16,8 @@ pub use Rattle.std.specs.Int.Digits.{AllBelowBase, number_from_digits, number_fr
 pub use Rattle.std.specs.List.{AllByRecursion, join_with_byte, list_all, position, position_or_len, slice_split}
 pub use Rattle.std.specs.Str.{bytes_eq, Parse.AllDigits, Parse.digits_value, Parse.IsNumeral}
 pub use Rattle.cap_octet.specs.Digits.{are_digits}
-pub use Rattle.flt_words.specs.Addresses.{AreGroups, IsGroup, group_value, group_values, separator_of, AreIp6Ends, IsIp6, IsWholeAddress, IsWholeIp6, IsDotted, IsMac}
+pub use Rattle.flt_words.specs.Addresses.{AreGroups, IsGroup, group_value, group_values, separator_of, AreIp6Ends, IsIp6, IsWholeAddress, IsWholeIp6, IsDotted}
+pub use Rattle.flt_words.specs.Addresses.{IsMac}
 pub use Rattle.flt_words.specs.Addresses.IsIp6.{shortened, whole}
 pub use Rattle.flt_words.specs.Characters.{within_word, is_blank, is_inside, starts_word}
 pub use Rattle.flt_words.specs.Numbers.{WritesNumber, is_word_sized, IsNumber, IsRange, WritesDecimal}

@@ -1,5 +1,8 @@
 -- Where two colons stand in an IPv6 address.
-use Rattle.flt_words.proofs.Common.{◌≡◌, ◌≢◌, ℕ, suc, zero, ◌+◌, ◌<◌, List, [], ◌∷◌, ◌++◌, length, get_or, take, drop, refl, sym, ap, ◌∙◌, subst, arith, false, ◌==◌, Option, Some, None, MatchOption, add-one, length-append, drop-cons, drop-append-add, get_or-append_seam, take-append_seam, nat_tests, get_or-append-add, get_or_append_left, take-append-drop, AllByRecursion, join_with_byte, AreGroups, AreIp6Ends, IsGroup, IsIp6, IsWholeIp6, IsDoubleColon, shortened, whole, has, or_parts, Group}
+use Rattle.flt_words.proofs.Common.{◌≡◌, ◌≢◌, ℕ, suc, zero, ◌+◌, ◌<◌, List, [], ◌∷◌, ◌++◌, length, get_or, take, drop, refl, sym, ap, ◌∙◌, subst, arith, false}
+use Rattle.flt_words.proofs.Common.{◌==◌, Option, Some, None, MatchOption, add-one, length-append, drop-cons, drop-append-add, get_or-append_seam}
+use Rattle.flt_words.proofs.Common.{take-append_seam, nat_tests, get_or-append-add, get_or_append_left, take-append-drop, AllByRecursion, join_with_byte}
+use Rattle.flt_words.proofs.Common.{AreGroups, AreIp6Ends, IsGroup, IsIp6, IsWholeIp6, IsDoubleColon, shortened, whole, has, or_parts, Group}
 use Rattle.flt_words.proofs.AddressValues.{group_lacks, group_some}
 
 -- each colon stands before another byte
@@ -29,7 +32,8 @@ begins_with_digit : (digits : List ℕ) → 0 < length digits → has 58 digits 
 begins_with_digit [] some lacks = absurd (omega arith)
 begins_with_digit (b ∷ digits) some lacks = is_not b (or_parts (b == 58) (has 58 digits) lacks).0
 
-first_of_joined : (first : List ℕ) (groups : List (List ℕ)) → IsGroup Group.Quad first → (get_or (join_with_byte 58 (first ∷ groups)) 0 0 ≢ 58) × (0 < length (join_with_byte 58 (first ∷ groups)))
+first_of_joined : (first : List ℕ) (groups : List (List ℕ)) → IsGroup Group.Quad first → (get_or (join_with_byte 58 (first ∷ groups)) 0 0 ≢ 58)
+    × (0 < length (join_with_byte 58 (first ∷ groups)))
 first_of_joined first [] g =
     let some = group_some Group.Quad first g in
     (begins_with_digit first some (group_lacks Group.Quad first g), some)
@@ -54,14 +58,16 @@ no_double_colon {text} {groups} k are double = (parted are k double.0).0 (rw add
 pub double_between : (front back : List ℕ) → IsDoubleColon (front ++ 58 ∷ 58 ∷ back) (length front)
 double_between front back = (get_or-append_seam front 58 (58 ∷ back) 0, get_or-append-add front (58 ∷ 58 ∷ back) 1 0)
 
-pub none_before_first : {front : List ℕ} {groups : List (List ℕ)} (back : List ℕ) → AreGroups Group.Quad front groups → (k : ℕ) → k < length front → IsDoubleColon (front ++ 58 ∷ 58 ∷ back) k → ⊥
+pub none_before_first : {front : List ℕ} {groups : List (List ℕ)} (back : List ℕ) → AreGroups Group.Quad front groups → (k : ℕ) → k < length front
+    → IsDoubleColon (front ++ 58 ∷ 58 ∷ back) k → ⊥
 none_before_first {front} back are k below double =
     let at : get_or front k 0 ≡ 58 = sym (get_or_append_left front (58 ∷ 58 ∷ back) 0 k below) ∙ double.0 in
     let next = parted are k at in
     next.0 (sym (get_or_append_left front (58 ∷ 58 ∷ back) 0 (suc k) next.1) ∙ (rw add-one at double.1))
 
 -- so the first two colons follow the first groups
-pub first_double_colon : (front back : List ℕ) (groups : List (List ℕ)) (i : ℕ) → AreGroups Group.Quad front groups → IsDoubleColon (front ++ 58 ∷ 58 ∷ back) i → ((k : ℕ) → k < i → IsDoubleColon (front ++ 58 ∷ 58 ∷ back) k → ⊥) → i ≡ length front
+pub first_double_colon : (front back : List ℕ) (groups : List (List ℕ)) (i : ℕ) → AreGroups Group.Quad front groups
+    → IsDoubleColon (front ++ 58 ∷ 58 ∷ back) i → ((k : ℕ) → k < i → IsDoubleColon (front ++ 58 ∷ 58 ∷ back) k → ⊥) → i ≡ length front
 first_double_colon front back groups i are double first =
     let not_below : i < length front → ⊥ = λ below. none_before_first back are i below double in
     let not_above : length front < i → ⊥ = λ above. first (length front) above (double_between front back) in
@@ -72,14 +78,16 @@ cut_at_two word i inside double =
     let below : i < length word = omega arith in
     let next : suc i < length word = omega arith in
     let first : drop i word ≡ 58 ∷ drop (suc i) word = drop-cons word i 0 below ∙ ap (λ b. b ∷ drop (suc i) word) double.0 in
-    let second : drop (suc i) word ≡ 58 ∷ drop (suc (suc i)) word = drop-cons word (suc i) 0 next ∙ ap (λ b. b ∷ drop (suc (suc i)) word) (rw add-one at double.1) in
+    let second : drop (suc i) word ≡ 58 ∷ drop (suc (suc i)) word = drop-cons word (suc i) 0 next ∙ ap (λ b. b ∷ drop (suc (suc i)) word)
+    (rw add-one at double.1) in
     let two : suc (suc i) ≡ i + 2 = omega arith in
     sym (take-append-drop i word) ∙ ap (λ rest. take i word ++ rest) (first ∙ ap (λ rest. 58 ∷ rest) (second ∙ ap (λ k. 58 ∷ drop k word) two))
 
 pub ip6_from_ends : {word : List ℕ} {a : ℕ} (i : ℕ) → i + 1 < length word → IsDoubleColon word i → AreIp6Ends (take i word) (drop (i + 2) word) a → IsIp6 word a
 ip6_from_ends {word} {a} i inside double ends = subst (λ w. IsIp6 w a) (sym (cut_at_two word i inside double)) (shortened ends)
 
-pub ends_from_ip6 : {word : List ℕ} {a : ℕ} (i : ℕ) → IsDoubleColon word i → ((k : ℕ) → k < i → IsDoubleColon word k → ⊥) → IsIp6 word a → AreIp6Ends (take i word) (drop (i + 2) word) a
+pub ends_from_ip6 : {word : List ℕ} {a : ℕ} (i : ℕ) → IsDoubleColon word i → ((k : ℕ) → k < i → IsDoubleColon word k → ⊥) → IsIp6 word a
+    → AreIp6Ends (take i word) (drop (i + 2) word) a
 ends_from_ip6 i double first (whole w) = absurd (no_double_colon i w.are double)
 ends_from_ip6 {word} {a} i double first (shortened {front} {back} ends) =
     let at = first_double_colon front back ends.first i ends.are_first double first in
@@ -89,6 +97,7 @@ pub whole_from_ip6 : {word : List ℕ} {a : ℕ} → ((k : ℕ) → IsDoubleColo
 whole_from_ip6 none (whole w) = w
 whole_from_ip6 none (shortened {front} {back} ends) = absurd (none (length front) (double_between front back))
 
-pub match_along : (V W : ℕ → Type 0) (r : Option ℕ) → ((a : ℕ) → V a → W a) → ((a : ℕ) → W a → V a) → MatchOption r ((a : ℕ) → V a → ⊥) V → MatchOption r ((a : ℕ) → W a → ⊥) W
+pub match_along : (V W : ℕ → Type 0) (r : Option ℕ) → ((a : ℕ) → V a → W a) → ((a : ℕ) → W a → V a) → MatchOption r ((a : ℕ) → V a → ⊥) V
+    → MatchOption r ((a : ℕ) → W a → ⊥) W
 match_along V W None to from h = λ a w. h a (from a w)
 match_along V W (Some a) to from h = to a h

@@ -1,5 +1,8 @@
 -- Numbers in words, and ranges; where a byte cuts a word.
-use Rattle.flt_words.proofs.Common.{◌≡◌, ◌≢◌, ℕ, ◌+◌, ◌<◌, ◌≤◌, List, [], ◌∷◌, ◌++◌, length, get_or, take, drop, refl, arith, Bool, true, false, ◌==◌, cond, nat_lt, Option, Some, None, subst, nat_tests, passes_at_first, split_at_first, digit_value, position, position_or_len, AllDigits, has, ◌^◌, digits_value, are_digits, WritesNumber, is_word_sized, ◌⊎◌, ⊎_elim, ◌||◌, sym, lit≤, IsNumber, WritesDecimal, decimal, octal, hexadecimal, capital_hexadecimal, take-append_seam, drop-append-add, IsRange, joined, ◌∙◌}
+use Rattle.flt_words.proofs.Common.{◌≡◌, ◌≢◌, ℕ, ◌+◌, ◌<◌, ◌≤◌, List, [], ◌∷◌, ◌++◌, length, get_or, take, drop, refl, arith, Bool, true, false, ◌==◌, cond}
+use Rattle.flt_words.proofs.Common.{nat_lt, Option, Some, None, subst, nat_tests, passes_at_first, split_at_first, digit_value, position, position_or_len}
+use Rattle.flt_words.proofs.Common.{AllDigits, has, ◌^◌, digits_value, are_digits, WritesNumber, is_word_sized, ◌⊎◌, ⊎_elim, ◌||◌, sym, lit≤, IsNumber}
+use Rattle.flt_words.proofs.Common.{WritesDecimal, decimal, octal, hexadecimal, capital_hexadecimal, take-append_seam, drop-append-add, IsRange, joined, ◌∙◌}
 use Rattle.std.proofs.lemmas.{Bool.or_parts, List.length-append}
 use Rattle.cap_octet.proofs.Numerals.{digits_from_test, digits_pass}
 
@@ -28,7 +31,8 @@ ltb_is m n h = grind (arith, nat_tests)
 -- a separator that the front lacks is found after it
 pub cut_at : (c : ℕ) (front back : List ℕ) → has c front ≡ false → position (λ b. b == c) (front ++ c ∷ back) ≡ Some (length front)
 cut_at c front back lacks =
-    let within : nat_lt (length front) (length (front ++ c ∷ back)) ≡ true = ltb_is (length front) (length (front ++ c ∷ back)) (simp length-append (omega arith)) in
+    let within : nat_lt (length front) (length (front ++ c ∷ back)) ≡ true = ltb_is (length front) (length (front ++ c ∷ back))
+    (simp length-append (omega arith)) in
     rw (first_after c front back lacks, within) refl
 
 found_within : (m n i : ℕ) (b : Bool) → nat_lt m n ≡ b → ◌≡◌ {A = Option ℕ} (cond b (Some m) None) (Some i) → (m < n) × (m ≡ i)
@@ -92,7 +96,8 @@ written (hexadecimal w) = w
 written (capital_hexadecimal w) = w
 
 -- a word that is longer than its front
-pub hexadecimal_by_front : (word : List ℕ) → 2 ≤ length word → get_or word 0 0 ≡ 48 → (get_or word 1 0 ≡ 120) ⊎ (get_or word 1 0 ≡ 88) → (n : ℕ) → (WritesNumber 16 (drop 2 word) n → IsNumber word n) × (IsNumber word n → WritesNumber 16 (drop 2 word) n)
+pub hexadecimal_by_front : (word : List ℕ) → 2 ≤ length word → get_or word 0 0 ≡ 48 → (get_or word 1 0 ≡ 120) ⊎ (get_or word 1 0 ≡ 88) → (n : ℕ)
+    → (WritesNumber 16 (drop 2 word) n → IsNumber word n) × (IsNumber word n → WritesNumber 16 (drop 2 word) n)
 hexadecimal_by_front [] long zero x n = absurd (omega arith)
 hexadecimal_by_front (a ∷ []) long zero x n = absurd (omega arith)
 hexadecimal_by_front (a ∷ b ∷ digits) long zero x n = (
@@ -101,7 +106,8 @@ hexadecimal_by_front (a ∷ b ∷ digits) long zero x n = (
   λ w. let read = rw zero at (written w) in ⊎_elim (λ e. let b_is : b ≡ 120 = e in rw b_is at read) (λ e. let b_is : b ≡ 88 = e in rw b_is at read) x,
 )
 
-pub octal_by_front : (word : List ℕ) → 2 ≤ length word → get_or word 0 0 ≡ 48 → get_or word 1 0 ≢ 120 → get_or word 1 0 ≢ 88 → (n : ℕ) → (WritesNumber 8 (drop 1 word) n → IsNumber word n) × (IsNumber word n → WritesNumber 8 (drop 1 word) n)
+pub octal_by_front : (word : List ℕ) → 2 ≤ length word → get_or word 0 0 ≡ 48 → get_or word 1 0 ≢ 120 → get_or word 1 0 ≢ 88 → (n : ℕ)
+    → (WritesNumber 8 (drop 1 word) n → IsNumber word n) × (IsNumber word n → WritesNumber 8 (drop 1 word) n)
 octal_by_front [] long zero x y n = absurd (omega arith)
 octal_by_front (a ∷ []) long zero x y n = absurd (omega arith)
 octal_by_front (a ∷ b ∷ digits) long zero x y n =
@@ -115,7 +121,8 @@ pub range_lacks_none : {word : List ℕ} {first last : ℕ} → position (λ b. 
 range_lacks_none none (joined {front} {back} v w) =
     let at = cut_at 45 front back (decimal_lacks 45 (lit≤ tt) v) in cc
 
-pub range_parts : {word : List ℕ} {first last : ℕ} (dash : ℕ) → position (λ b. b == 45) word ≡ Some dash → IsRange word first last → WritesDecimal (take dash word) first × WritesDecimal (drop (dash + 1) word) last
+pub range_parts : {word : List ℕ} {first last : ℕ} (dash : ℕ) → position (λ b. b == 45) word ≡ Some dash → IsRange word first last
+    → WritesDecimal (take dash word) first × WritesDecimal (drop (dash + 1) word) last
 range_parts {word} {first} {last} dash found (joined {front} {back} v w) =
     let at = cut_at 45 front back (decimal_lacks 45 (lit≤ tt) v) in
     let same : length front ≡ dash = cc in (
@@ -123,7 +130,8 @@ range_parts {word} {first} {last} dash found (joined {front} {back} v w) =
       subst (λ d. WritesDecimal (drop (d + 1) (front ++ 45 ∷ back)) last) same (rw drop-append-add w),
     )
 
-pub range_from_parts : {word : List ℕ} {first last : ℕ} (dash : ℕ) → position (λ b. b == 45) word ≡ Some dash → WritesDecimal (take dash word) first × WritesDecimal (drop (dash + 1) word) last → IsRange word first last
+pub range_from_parts : {word : List ℕ} {first last : ℕ} (dash : ℕ) → position (λ b. b == 45) word ≡ Some dash → WritesDecimal (take dash word) first
+    × WritesDecimal (drop (dash + 1) word) last → IsRange word first last
 range_from_parts {word} {first} {last} dash found parts = subst (λ w. IsRange w first last) (sym (joined_at 45 dash word found)) (joined parts.0 parts.1)
 
 -- a word writes one number at most, and one range
@@ -133,7 +141,8 @@ same_decimal v w = sym v.writes.value ∙ w.writes.value
 pub same_number : {word : List ℕ} {m n : ℕ} → IsNumber word m → IsNumber word n → m ≡ n
 same_number v w = sym (written v).value ∙ (written w).value
 
-pub same_range : {word : List ℕ} {first last other_first other_last : ℕ} → IsRange word first last → IsRange word other_first other_last → (first ≡ other_first) × (last ≡ other_last)
+pub same_range : {word : List ℕ} {first last other_first other_last : ℕ} → IsRange word first last → IsRange word other_first other_last
+    → (first ≡ other_first) × (last ≡ other_last)
 same_range {word} {first} {last} {other_first} {other_last} (joined {front} {back} v w) x =
     let at = cut_at 45 front back (decimal_lacks 45 (lit≤ tt) v) in
     let mine = range_parts (length front) at (joined v w) in

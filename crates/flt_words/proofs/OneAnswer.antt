@@ -1,5 +1,9 @@
 -- A text has one answer at most.
-use Rattle.flt_words.proofs.Common.{◌≡◌, ℕ, suc, zero, ◌+◌, ◌<◌, ◌≤◌, List, [], ◌∷◌, length, get_or, take, drop, refl, sym, ap, ◌∙◌, subst, arith, Bool, true, false, Result, Ok, Err, Some, length-drop, length-take-le, get_or-drop, add-zero, false≢true, nat_tests, ExprFault, Token, TokenKind, is_blank, is_inside, starts_word, symbol_of, IsLongest, IsPiece, IsRefused, IsToken, IsWordPiece, PieceMeans, Tokens, TokensFrom, before, symbol, word, bad_piece, no_piece, symbol_meaning, word_meaning, at_end, blank, refused, token, short, too_long, Spells, WordMeans, fits, known, too_large, unknown}
+use Rattle.flt_words.proofs.Common.{◌≡◌, ℕ, suc, zero, ◌+◌, ◌<◌, ◌≤◌, List, [], ◌∷◌, length, get_or, take, drop, refl, sym, ap, ◌∙◌, subst, arith, Bool, true}
+use Rattle.flt_words.proofs.Common.{false, Result, Ok, Err, Some, length-drop, length-take-le, get_or-drop, add-zero, false≢true, nat_tests, ExprFault, Token}
+use Rattle.flt_words.proofs.Common.{TokenKind, is_blank, is_inside, starts_word, symbol_of, IsLongest, IsPiece, IsRefused, IsToken, IsWordPiece, PieceMeans}
+use Rattle.flt_words.proofs.Common.{Tokens, TokensFrom, before, symbol, word, bad_piece, no_piece, symbol_meaning, word_meaning, at_end, blank, refused, token}
+use Rattle.flt_words.proofs.Common.{short, too_long, Spells, WordMeans, fits, known, too_large, unknown}
 use Rattle.flt_words.proofs.OneKind.{same_kind}
 use Rattle.flt_words.proofs.{Pieces.longest_some, Pieces.taken, Pieces.word_some, Tables.symbol_piece}
 
@@ -20,7 +24,8 @@ same_word (unknown none) (unknown other) = refl
 no_symbol : {inside : Bool} {text : List ℕ} {kind : TokenKind} → IsWordPiece inside text → symbol_of inside text ≡ Some kind → ⊥
 no_symbol {inside} {text} {kind} w found = false≢true (sym (symbol_piece inside text kind found).starts_none ∙ w.begins)
 
-same_means : {inside : Bool} {place : ℕ} {text : List ℕ} {a b : Result TokenKind ExprFault} → PieceMeans inside place text a → PieceMeans inside place text b → a ≡ b
+same_means : {inside : Bool} {place : ℕ} {text : List ℕ} {a b : Result TokenKind ExprFault} → PieceMeans inside place text a → PieceMeans inside place
+    text b → a ≡ b
 same_means (word_meaning v m) (word_meaning w n) = same_word m n
 same_means (word_meaning v m) (symbol_meaning found) = absurd (no_symbol v found)
 same_means (symbol_meaning found) (word_meaning v m) = absurd (no_symbol v found)
@@ -30,13 +35,15 @@ same_length : {inside : Bool} {rest : List ℕ} {m n : ℕ} → IsLongest inside
 same_length {inside} {rest} {m} {n} v w = omega (arith, v.longest n w.in_range w.piece, w.longest m v.in_range v.piece)
 
 -- two readings of the front of a text
-same_token : {inside : Bool} {place m n : ℕ} {rest : List ℕ} {a b : TokenKind} → IsToken inside place rest a m → IsToken inside place rest b n → (m ≡ n) × (a ≡ b)
+same_token : {inside : Bool} {place m n : ℕ} {rest : List ℕ} {a b : TokenKind} → IsToken inside place rest a m → IsToken inside place rest b n
+    → (m ≡ n) × (a ≡ b)
 same_token {inside} {place} {m} {n} {rest} {a} {b} v w =
     let long = same_length v.longest w.longest in
     let means : PieceMeans inside place (take m rest) (Ok b) = subst (λ k. PieceMeans inside place (take k rest) (Ok b)) (sym long) w.means in
     (long, cc (same_means v.means means))
 
-token_or_refused : {inside : Bool} {place n : ℕ} {rest : List ℕ} {a : TokenKind} {e : ExprFault} → IsToken inside place rest a n → IsRefused inside place rest e → ⊥
+token_or_refused : {inside : Bool} {place n : ℕ} {rest : List ℕ} {a : TokenKind} {e : ExprFault} → IsToken inside place rest a n
+    → IsRefused inside place rest e → ⊥
 token_or_refused {inside} {place} {n} {rest} v (no_piece none) = none n v.longest.in_range v.longest.piece
 token_or_refused {inside} {place} {n} {rest} v (bad_piece {n = m} {refusal} longest means) =
     let long = same_length longest v.longest in

@@ -1,6 +1,10 @@
 -- A word stands for one thing at most, as its colons, points and dashes tell.
 use Rattle.flt_words.proofs.AddressValues.{same_groups}
-use Rattle.flt_words.proofs.Common.{◌≡◌, ℕ, ◌≤◌, List, [], ◌∷◌, ◌++◌, length, refl, ap, ◌∙◌, arith, Bool, true, false, ◌==◌, cond, lit<, lit≤, Some, digit_value, AllByRecursion, AllDigits, join_with_byte, Group, TokenKind, AreGroups, IsDotted, IsGroup, IsIp6, IsMac, separator_of, shortened, whole, has, IsNumber, IsRange, decimal, octal, hexadecimal, capital_hexadecimal, joined, keyword_of, Spells, known, keyword, number, dotted, range, mac, ip6, ◌<◌, sym, nat_lt, get_or, ◌+◌, ◌-◌, replicate, nat_tests, number_from_digits, AreIp6Ends, IsWholeAddress, IsWholeIp6, group_values, WritesNumber}
+use Rattle.flt_words.proofs.Common.{◌≡◌, ℕ, ◌≤◌, List, [], ◌∷◌, ◌++◌, length, refl, ap, ◌∙◌, arith, Bool, true, false, ◌==◌, cond, lit<, lit≤, Some}
+use Rattle.flt_words.proofs.Common.{digit_value, AllByRecursion, AllDigits, join_with_byte, Group, TokenKind, AreGroups, IsDotted, IsGroup, IsIp6, IsMac}
+use Rattle.flt_words.proofs.Common.{separator_of, shortened, whole, has, IsNumber, IsRange, decimal, octal, hexadecimal, capital_hexadecimal, joined}
+use Rattle.flt_words.proofs.Common.{keyword_of, Spells, known, keyword, number, dotted, range, mac, ip6, ◌<◌, sym, nat_lt, get_or, ◌+◌, ◌-◌, replicate}
+use Rattle.flt_words.proofs.Common.{nat_tests, number_from_digits, AreIp6Ends, IsWholeAddress, IsWholeIp6, group_values, WritesNumber}
 use Rattle.flt_words.proofs.DoubleColons.{double_between, ends_from_ip6, no_double_colon, none_before_first}
 use Rattle.flt_words.proofs.Numbers.{decimal_lacks, digits_lack, same, same_number, same_range}
 use Rattle.flt_words.proofs.Tables.{keyword_is_plain}
@@ -41,11 +45,13 @@ has_first c text = rw (same c) refl
 range_has : {word : List ℕ} {first last : ℕ} → IsRange word first last → has 45 word ≡ true
 range_has (joined {front} {back} v w) = has_append 45 front (45 ∷ back) (has_first 45 back)
 
-joined_lacks : (c : ℕ) (groups : List (List ℕ)) → 36 ≤ digit_value c → (46 == c) ≡ false → AllByRecursion (IsGroup group.Octet) groups → has c (join_with_byte 46 groups) ≡ false
+joined_lacks : (c : ℕ) (groups : List (List ℕ)) → 36 ≤ digit_value c → (46 == c) ≡ false → AllByRecursion (IsGroup group.Octet) groups
+    → has c (join_with_byte 46 groups) ≡ false
 joined_lacks c [] sign other each = refl
 joined_lacks c (g ∷ []) sign other each = decimal_lacks c (omega arith) each.0.1
 joined_lacks c (g ∷ h ∷ groups) sign other each =
-    lacks_append c g (46 ∷ join_with_byte 46 (h ∷ groups)) (decimal_lacks c (omega arith) each.0.1) (lacks_more 46 c (join_with_byte 46 (h ∷ groups)) other (joined_lacks c (h ∷ groups) sign other each.1))
+    lacks_append c g (46 ∷ join_with_byte 46 (h ∷ groups)) (decimal_lacks c (omega arith) each.0.1)
+    (lacks_more 46 c (join_with_byte 46 (h ∷ groups)) other (joined_lacks c (h ∷ groups) sign other each.1))
 
 joined_has : (c : ℕ) (groups : List (List ℕ)) → 2 ≤ length groups → has c (join_with_byte c groups) ≡ true
 joined_has c [] two = absurd (omega arith)
@@ -96,8 +102,11 @@ keyword_low word kind w = omega (arith, sign_is (keyword w), at_most_one (has 45
 -- two readings of one kind
 same_dotted : {word : List ℕ} {a b m n : ℕ} → IsDotted word a m → IsDotted word b n → (a ≡ b) × (m ≡ n)
 same_dotted v w =
-    let same = same_groups v.are w.are in
-    (v.value ∙ ap (λ gs. number_from_digits 256 (group_values group.Octet gs ++ replicate (4 - length gs) 0)) same ∙ sym w.value, v.count ∙ ap length same ∙ sym w.count)
+    let same = same_groups v.are w.are in (
+      v.value ∙ ap (λ gs. number_from_digits 256 (group_values group.Octet gs ++ replicate (4 - length gs) 0)) same ∙ sym w.value,
+      v.count
+          ∙ ap length same ∙ sym w.count,
+    )
 
 same_whole : {form : Group} {base many a b : ℕ} {word : List ℕ} → IsWholeAddress form base many word a → IsWholeAddress form base many word b → a ≡ b
 same_whole {form} {base} v w = v.value ∙ ap (λ gs. number_from_digits base (group_values form gs)) (same_groups v.are w.are) ∙ sym w.value
@@ -106,7 +115,8 @@ same_ends : {front back : List ℕ} {a b : ℕ} → AreIp6Ends front back a → 
 same_ends {front} {back} {a} {b} v w =
     let first = same_groups v.are_first w.are_first in
     let last = same_groups v.are_last w.are_last in
-    let value : List (List ℕ) → List (List ℕ) → ℕ = λ fs ls. number_from_digits 65536 (group_values group.Quad fs ++ (replicate (8 - (length fs + length ls)) 0 ++ group_values group.Quad ls)) in
+    let value : List (List ℕ) → List (List ℕ) → ℕ = λ fs ls. number_from_digits 65536
+    (group_values group.Quad fs ++ (replicate (8 - (length fs + length ls)) 0 ++ group_values group.Quad ls)) in
     v.value ∙ ap (λ fs. value fs v.last) first ∙ ap (λ ls. value w.first ls) last ∙ sym w.value
 
 no_whole_has_ends : {front back : List ℕ} {a b : ℕ} → IsWholeIp6 (front ++ 58 ∷ 58 ∷ back) a → AreIp6Ends front back b → ⊥

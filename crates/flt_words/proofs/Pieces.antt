@@ -1,5 +1,7 @@
 -- The longest piece at the front of a text.
-use Rattle.flt_words.proofs.Common.{◌≡◌, ℕ, ◌+◌, ◌-◌, ◌<◌, ◌≤◌, ◌≢◌, suc, zero, List, [], ◌∷◌, below_more, length, get_or, take, refl, sym, ap, ◌∙◌, arith, Bool, true, false, length-take-le, Some, None, lit<, lit≤, subst, ⊎_elim, cases_lt, false≢true, get_or-take, TokenKind, starts_word, within_word, symbol_of, IsLongest, IsPiece, IsWordPiece, symbol, word}
+use Rattle.flt_words.proofs.Common.{◌≡◌, ℕ, ◌+◌, ◌-◌, ◌<◌, ◌≤◌, ◌≢◌, suc, zero, List, [], ◌∷◌, below_more, length, get_or, take, refl, sym, ap, ◌∙◌, arith}
+use Rattle.flt_words.proofs.Common.{Bool, true, false, length-take-le, Some, None, lit<, lit≤, subst, ⊎_elim, cases_lt, false≢true, get_or-take, TokenKind}
+use Rattle.flt_words.proofs.Common.{starts_word, within_word, symbol_of, IsLongest, IsPiece, IsWordPiece, symbol, word}
 use Rattle.flt_words.proofs.Tables.{symbol_piece}
 
 -- what the loop over a word's bytes finds out, up to where it stops
@@ -29,7 +31,8 @@ scanned_first {inside} {rest} starts = record {
 }
 
 -- one more byte
-pub scanned_end : {inside : Bool} {rest : List ℕ} {len i : ℕ} → IsScanned inside rest len i → within_word inside (get_or rest i 0) ≡ true → starts_word inside (get_or rest i 0) ≡ true → IsScanned inside rest (i + 1) (i + 1)
+pub scanned_end : {inside : Bool} {rest : List ℕ} {len i : ℕ} → IsScanned inside rest len i → within_word inside (get_or rest i 0) ≡ true
+    → starts_word inside (get_or rest i 0) ≡ true → IsScanned inside rest (i + 1) (i + 1)
 scanned_end {inside} {rest} {len} {i} scanned within starts = record {
   so_far = omega arith;
   some = omega arith;
@@ -38,7 +41,8 @@ scanned_end {inside} {rest} {len} {i} scanned within starts = record {
   later = λ k low high. absurd (omega arith);
 }
 
-pub scanned_between : {inside : Bool} {rest : List ℕ} {len i : ℕ} → IsScanned inside rest len i → within_word inside (get_or rest i 0) ≡ true → starts_word inside (get_or rest i 0) ≡ false → IsScanned inside rest len (i + 1)
+pub scanned_between : {inside : Bool} {rest : List ℕ} {len i : ℕ} → IsScanned inside rest len i → within_word inside (get_or rest i 0) ≡ true
+    → starts_word inside (get_or rest i 0) ≡ false → IsScanned inside rest len (i + 1)
 scanned_between {inside} {rest} {len} {i} scanned within other = record {
   so_far = omega (arith, scanned.so_far);
   some = scanned.some;
@@ -55,13 +59,16 @@ pub word_some : (inside : Bool) (rest : List ℕ) (m : ℕ) → IsWordPiece insi
 word_some inside rest zero w = absurd (false≢true (sym (starts_at_none inside) ∙ w.begins))
 word_some inside rest (suc m) w = omega arith
 
-last_starts : (inside : Bool) (rest : List ℕ) (m : ℕ) → 0 < m → m ≤ length rest → IsWordPiece inside (take m rest) → starts_word inside (get_or rest (m - 1) 0) ≡ true
+last_starts : (inside : Bool) (rest : List ℕ) (m : ℕ) → 0 < m → m ≤ length rest → IsWordPiece inside (take m rest)
+    → starts_word inside (get_or rest (m - 1) 0) ≡ true
 last_starts inside rest m some within w =
     let long : length (take m rest) ≡ m = length-take-le m rest within in
-    let same : get_or (take m rest) (length (take m rest) - 1) 0 ≡ get_or rest (m - 1) 0 = ap (λ k. get_or (take m rest) (k - 1) 0) long ∙ taken rest m (m - 1) (omega arith) in
+    let same : get_or (take m rest) (length (take m rest) - 1) 0 ≡ get_or rest (m - 1) 0 = ap (λ k. get_or (take m rest) (k - 1) 0) long
+    ∙ taken rest m (m - 1) (omega arith) in
     sym (ap (starts_word inside) same) ∙ w.ends
 
-module _ (inside : Bool) (rest : List ℕ) (len stop : ℕ) (scanned : IsScanned inside rest len stop) (in_range : stop ≤ length rest) (begins : starts_word inside (get_or rest 0 0) ≡ true)
+module _ (inside : Bool) (rest : List ℕ) (len stop : ℕ) (scanned : IsScanned inside rest len stop) (in_range : stop ≤ length rest)
+    (begins : starts_word inside (get_or rest 0 0) ≡ true)
     (stops : stop < length rest → within_word inside (get_or rest stop 0) ≡ false) where
   past_stop : (m : ℕ) → m ≤ length rest → stop < m → IsWordPiece inside (take m rest) → ⊥
   past_stop m within above w =
@@ -70,7 +77,10 @@ module _ (inside : Bool) (rest : List ℕ) (len stop : ℕ) (scanned : IsScanned
       false≢true (sym (stops (omega arith)) ∙ sym (ap (within_word inside) same) ∙ w.within stop (omega arith))
 
   no_longer_word : (m : ℕ) → m ≤ length rest → IsWordPiece inside (take m rest) → m ≤ len
-  no_longer_word m within w = ⊎_elim (λ longer. absurd (⊎_elim (λ past. past_stop m within past w) (λ here. false≢true (sym (scanned.later (m - 1) (omega arith) (omega (arith, word_some inside rest m w))) ∙ last_starts inside rest m (word_some inside rest m w) within w)) (cases_lt stop m))) (λ shorter. shorter) (cases_lt len m)
+  no_longer_word m within w = ⊎_elim (λ longer. absurd
+      (⊎_elim (λ past. past_stop m within past w)
+      (λ here. false≢true (sym (scanned.later (m - 1) (omega arith) (omega (arith, word_some inside rest m w))) ∙ last_starts inside rest m
+      (word_some inside rest m w) within w)) (cases_lt stop m))) (λ shorter. shorter) (cases_lt len m)
 
   scanned_word : IsWordPiece inside (take len rest)
   scanned_word =
@@ -79,7 +89,8 @@ module _ (inside : Bool) (rest : List ℕ) (len stop : ℕ) (scanned : IsScanned
       record {
         begins = ap (starts_word inside) (taken rest len 0 scanned.some) ∙ begins;
         within = λ i h. let low : i < len = omega arith in ap (within_word inside) (taken rest len i low) ∙ scanned.within i (omega (arith, scanned.so_far));
-        ends = ap (λ k. starts_word inside (get_or (take len rest) (k - 1) 0)) long ∙ ap (starts_word inside) (taken rest len (len - 1) (omega (arith, scanned.some))) ∙ scanned.ends;
+        ends = ap (λ k. starts_word inside (get_or (take len rest) (k - 1) 0)) long ∙ ap (starts_word inside)
+            (taken rest len (len - 1) (omega (arith, scanned.some))) ∙ scanned.ends;
       }
 
   no_longer : (m : ℕ) → m ≤ length rest → IsPiece inside (take m rest) → m ≤ len
@@ -108,7 +119,8 @@ record IsSymbolOf (inside : Bool) (rest : List ℕ) (m : ℕ) : Type 0 where
   upper_bound : m ≤ 2
   found : symbol_of inside (take m rest) ≢ None
 
-only_symbol : {inside : Bool} {rest : List ℕ} (m : ℕ) → starts_word inside (get_or rest 0 0) ≡ false → m ≤ length rest → IsPiece inside (take m rest) → IsSymbolOf inside rest m
+only_symbol : {inside : Bool} {rest : List ℕ} (m : ℕ) → starts_word inside (get_or rest 0 0) ≡ false → m ≤ length rest → IsPiece inside (take m rest)
+    → IsSymbolOf inside rest m
 only_symbol {inside} {rest} m other within (word w) = absurd (no_word inside rest m other w)
 only_symbol {inside} {rest} m other within (symbol {kind} is) = record {
   some = some_bytes inside rest m within (symbol is);
@@ -116,26 +128,31 @@ only_symbol {inside} {rest} m other within (symbol {kind} is) = record {
   found = λ none. cc;
 }
 
-not_of : {inside : Bool} {rest : List ℕ} {m : ℕ} (n : ℕ) → (n ≤ length rest → symbol_of inside (take n rest) ≡ None) → m ≤ length rest → IsSymbolOf inside rest m → m ≢ n
+not_of : {inside : Bool} {rest : List ℕ} {m : ℕ} (n : ℕ) → (n ≤ length rest → symbol_of inside (take n rest) ≡ None) → m ≤ length rest
+    → IsSymbolOf inside rest m → m ≢ n
 not_of {inside} {rest} n none within is same = is.found (subst (λ k. symbol_of inside (take k rest) ≡ None) (sym same) (none (omega arith)))
 
-pub longest_two : {inside : Bool} {rest : List ℕ} {kind : TokenKind} → 2 ≤ length rest → starts_word inside (get_or rest 0 0) ≡ false → symbol_of inside (take 2 rest) ≡ Some kind → IsLongest inside rest 2
+pub longest_two : {inside : Bool} {rest : List ℕ} {kind : TokenKind} → 2 ≤ length rest → starts_word inside (get_or rest 0 0) ≡ false
+    → symbol_of inside (take 2 rest) ≡ Some kind → IsLongest inside rest 2
 longest_two long other found = record { in_range = long; piece = symbol found; longest = λ m within piece. (only_symbol m other within piece).upper_bound }
 
-pub longest_one : {inside : Bool} {rest : List ℕ} {kind : TokenKind} → 1 ≤ length rest → starts_word inside (get_or rest 0 0) ≡ false → (2 ≤ length rest → symbol_of inside (take 2 rest) ≡ None) → symbol_of inside (take 1 rest) ≡ Some kind → IsLongest inside rest 1
+pub longest_one : {inside : Bool} {rest : List ℕ} {kind : TokenKind} → 1 ≤ length rest → starts_word inside (get_or rest 0 0) ≡ false
+    → (2 ≤ length rest → symbol_of inside (take 2 rest) ≡ None) → symbol_of inside (take 1 rest) ≡ Some kind → IsLongest inside rest 1
 longest_one some other none found = record {
   in_range = some;
   piece = symbol found;
   longest = λ m within piece. let is = only_symbol m other within piece in omega (arith, is.upper_bound, not_of 2 none within is);
 }
 
-pub no_piece_at : (inside : Bool) (rest : List ℕ) → starts_word inside (get_or rest 0 0) ≡ false → (2 ≤ length rest → symbol_of inside (take 2 rest) ≡ None) → (1 ≤ length rest → symbol_of inside (take 1 rest) ≡ None)
+pub no_piece_at : (inside : Bool) (rest : List ℕ) → starts_word inside (get_or rest 0 0) ≡ false
+    → (2 ≤ length rest → symbol_of inside (take 2 rest) ≡ None) → (1 ≤ length rest → symbol_of inside (take 1 rest) ≡ None)
     → (m : ℕ) → m ≤ length rest → IsPiece inside (take m rest) → ⊥
 no_piece_at inside rest other no_two no_one m within piece =
     let is = only_symbol m other within piece in omega (arith, is.some, is.upper_bound, not_of 1 no_one within is, not_of 2 no_two within is)
 
 -- where a word begins, the longest piece is one
-pub longest_is_word : {inside : Bool} {rest : List ℕ} {n : ℕ} → IsLongest inside rest n → starts_word inside (get_or rest 0 0) ≡ true → IsWordPiece inside (take n rest)
+pub longest_is_word : {inside : Bool} {rest : List ℕ} {n : ℕ} → IsLongest inside rest n → starts_word inside (get_or rest 0 0) ≡ true
+    → IsWordPiece inside (take n rest)
 longest_is_word {inside} {rest} {n} longest begins = is_word n longest.in_range longest.piece
   where
     is_word : (m : ℕ) → m ≤ length rest → IsPiece inside (take m rest) → IsWordPiece inside (take m rest)

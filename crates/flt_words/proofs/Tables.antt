@@ -1,10 +1,15 @@
 -- What holds of each entry of a table holds of what is looked up; and brackets stand in the tokens
 -- of brackets alone.
-use Rattle.flt_words.proofs.Common.{◌≡◌, ℕ, List, [], ◌∷◌, refl, subst, Bool, true, false, ◌&&◌, not, ◌==◌, eqb-true, cond, Option, Some, get_or, nat_lt, bytes_eq-Decides, list_all, bytes_eq, TokenKind, has, Spellings, keyword_of, look_up, fits, ◌<◌, ◌≤◌, count_by, length, codes, arith, lit≤, is_ascii_alphanumeric, is_blank, starts_word, symbol_of, suc, take, sym, ap, ◌∙◌, Ok, false≢true, within_word, IsToken, IsWordPiece, PieceMeans, symbol_meaning, word_meaning, Spells, keyword, known, and_parts, not-true, or_parts, ltb-true}
+use Rattle.flt_words.proofs.Common.{◌≡◌, ℕ, List, [], ◌∷◌, refl, subst, Bool, true, false, ◌&&◌, not, ◌==◌, eqb-true, cond, Option, Some, get_or, nat_lt}
+use Rattle.flt_words.proofs.Common.{bytes_eq-Decides, list_all, bytes_eq, TokenKind, has, Spellings, keyword_of, look_up, fits, ◌<◌, ◌≤◌, count_by, length}
+use Rattle.flt_words.proofs.Common.{codes, arith, lit≤, is_ascii_alphanumeric, is_blank, starts_word, symbol_of, suc, take, sym, ap, ◌∙◌, Ok, false≢true}
+use Rattle.flt_words.proofs.Common.{within_word, IsToken, IsWordPiece, PieceMeans, symbol_meaning, word_meaning, Spells, keyword, known, and_parts, not-true}
+use Rattle.flt_words.proofs.Common.{or_parts, ltb-true}
 use Rattle.flt_words.specs.Spellings.{keywords, symbols}
 use Rattle.flt_words.specs.declared.token.TokenKind.TheVariants as token
 
-found_step : (p : List ℕ → TokenKind → Bool) (spelling : List ℕ) (found : TokenKind) (piece : List ℕ) (kind : TokenKind) (later : Option TokenKind) (same : Bool) → bytes_eq spelling piece ≡ same → p spelling found ≡ true
+found_step : (p : List ℕ → TokenKind → Bool) (spelling : List ℕ) (found : TokenKind) (piece : List ℕ) (kind : TokenKind) (later : Option TokenKind)
+    (same : Bool) → bytes_eq spelling piece ≡ same → p spelling found ≡ true
     → (later ≡ Some kind → p piece kind ≡ true) → ◌≡◌ {A = Option TokenKind} (cond same (Some found) later) (Some kind) → p piece kind ≡ true
 found_step p spelling found piece kind later true same pass more is =
     let spelled = (bytes_eq-Decides spelling piece).0 same in
@@ -12,7 +17,8 @@ found_step p spelling found piece kind later true same pass more is =
     subst (λ k. p piece k ≡ true) answer (subst (λ s. p s found ≡ true) spelled pass)
 found_step p spelling found piece kind later false same pass more is = more is
 
-pub found_passes : (p : List ℕ → TokenKind → Bool) (table : Spellings) (piece : List ℕ) (kind : TokenKind) → list_all (λ entry. p entry.0 entry.1) table ≡ true → look_up table piece ≡ Some kind → p piece kind ≡ true
+pub found_passes : (p : List ℕ → TokenKind → Bool) (table : Spellings) (piece : List ℕ) (kind : TokenKind) → list_all (λ entry. p entry.0 entry.1)
+    table ≡ true → look_up table piece ≡ Some kind → p piece kind ≡ true
 found_passes p [] piece kind all found = absurd (cc)
 found_passes p (entry ∷ table) piece kind all found =
     let parts = and_parts (p entry.0 entry.1) (list_all (λ e. p e.0 e.1) table) all in
@@ -104,17 +110,26 @@ in_table inside piece kind found =
     }
 
 -- what holds of the colon and of each symbol of the table holds of a symbol
-pub symbol_passes : (P : Bool → List ℕ → TokenKind → Type 0) → P true (codes ":") token.Colon → ((inside : Bool) (piece : List ℕ) (kind : TokenKind) → look_up symbols piece ≡ Some kind → P inside piece kind)
+pub symbol_passes : (P : Bool → List ℕ → TokenKind → Type 0) → P true (codes ":") token.Colon
+    → ((inside : Bool) (piece : List ℕ) (kind : TokenKind) → look_up symbols piece ≡ Some kind → P inside piece kind)
     → (inside : Bool) (piece : List ℕ) (kind : TokenKind) → symbol_of inside piece ≡ Some kind → P inside piece kind
 symbol_passes P colon table inside piece kind found = step inside (bytes_eq piece (codes ":")) refl found
   where
-    step : (here same : Bool) → bytes_eq piece (codes ":") ≡ same → ◌≡◌ {A = Option TokenKind} (cond (here && same) (Some token.Colon) (look_up symbols piece)) (Some kind) → P here piece kind
+    step : (here same : Bool) → bytes_eq piece (codes ":") ≡ same → ◌≡◌ {A = Option TokenKind}
+        (cond (here && same) (Some token.Colon) (look_up symbols piece)) (Some kind) → P here piece kind
     step true true e is = let same : token.Colon ≡ kind = cc in rw ((bytes_eq-Decides piece (codes ":")).0 e, ← same) colon
     step true false e is = table true piece kind is
     step false same e is = table false piece kind is
 
 pub symbol_piece : (inside : Bool) (piece : List ℕ) (kind : TokenKind) → symbol_of inside piece ≡ Some kind → IsSymbolPiece inside piece kind
-symbol_piece = symbol_passes IsSymbolPiece (record { starts_none = refl; no_blank = refl; some = lit≤ tt; upper_bound = lit≤ tt; brackets = record { opened = refl; closed = refl } }) in_table
+symbol_piece = symbol_passes IsSymbolPiece (record {
+  starts_none = refl;
+  no_blank = refl;
+  some = lit≤ tt;
+  upper_bound = lit≤ tt;
+  brackets =
+      record { opened = refl; closed = refl };
+}) in_table
 
 pub opens_none : (kind : TokenKind) → (kind ≡ token.OpenBracket → ⊥) → openings kind ≡ 0
 opens_none token.OpenBracket other = absurd (other refl)
@@ -138,7 +153,8 @@ no_bracket true = (refl, refl)
 no_bracket false = (refl, refl)
 
 word_lacks : (inside : Bool) (piece : List ℕ) (c : ℕ) → within_word inside c ≡ false → IsWordPiece inside piece → count_by (λ b. b == c) piece ≡ 0
-word_lacks inside piece c lacks w = counts_none (λ b. b == c) piece (λ i h. other_byte inside c (get_or piece i 0) lacks (w.within i h) (get_or piece i 0 == c) refl)
+word_lacks inside piece c lacks w = counts_none (λ b. b == c) piece (λ i h. other_byte inside c (get_or piece i 0) lacks (w.within i h)
+    (get_or piece i 0 == c) refl)
 
 -- a word stands for no bracket
 stands_for_none : {word : List ℕ} {kind : TokenKind} → Spells word kind → (openings kind ≡ 0) × (closings kind ≡ 0)

@@ -1,6 +1,6 @@
 """Counts the packets of a capture that match, and prints their comments.
 
-The statuses are those of capkit: 1 after a fault, which ends the capture, and 2 where the command
+The statuses are those of capkit: 1 after a fault, which ends the capture, and 2 if the command
 line or the expression is refused.
 """
 import sys

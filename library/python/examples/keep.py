@@ -2,7 +2,7 @@
 
 The expression is checked, the capture opened and its first packet read before the output is
 touched, which may not be the capture itself. The statuses are those of capkit: 1 after a fault,
-before which the packets are written, and 2 where the command line or the expression is refused.
+before which the packets are written, and 2 if the command line or the expression is refused.
 """
 import os
 import sys

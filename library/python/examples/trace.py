@@ -1,6 +1,6 @@
 """Shows which instructions of an expression's program run on a packet, with A and X before each.
 
-The statuses are those of capkit: 1 after a fault, and 2 where the command line or the expression is
+The statuses are those of capkit: 1 after a fault, and 2 if the command line or the expression is
 refused.
 """
 import itertools

@@ -351,7 +351,7 @@ class WriterTest(unittest.TestCase):
         self.assertEqual(times, [1_700_000_000_123_456_000] * 2)
 
     def test_random_captures_read_back(self):
-        """By the package; those of one interface by libpcap too, where tcpdump is there."""
+        """By the package; those of one interface by libpcap too, if tcpdump is installed."""
         chance = random.Random(1)
         for round in range(60):
             format = ("pcapng", "pcapng", "pcap", "nsecpcap")[round % 4]

@@ -695,7 +695,7 @@ class OutputsTest(FolderTest):
             self.assertEqual(sum(1 for _ in capkit.packets(self.path)), sum(counts))
 
     def test_a_call_in_the_middle_of_a_call(self):
-        """A signal's handler gets an error, where a lock would wait for ever, and the file is whole."""
+        """A signal's handler gets an error (a lock would wait for ever), and the file is whole."""
         errors = []
 
         class Output(io.BytesIO):
@@ -737,7 +737,7 @@ class OutputsTest(FolderTest):
                     for each in capkit.packets(file):
                         writer.write(each)
             self.assertEqual(os.stat(path).st_size, before)
-        # An open file is no output either: what is appended to it would be read again.
+        # An open file can't be the output either: what is appended to it would be read again.
         with open(self.path, "ab") as output, self.assertRaisesRegex(capkit.WriteError, "is being read"):
             with capkit.Writer(output) as writer:
                 for each in capkit.packets(self.path):

@@ -1,6 +1,6 @@
 //! Counts the packets of a capture that match.
 //!
-//! The statuses are those of capkit: 1 after a fault, which ends the capture, and 2 where the
+//! The statuses are those of capkit: 1 after a fault, which ends the capture, and 2 if the
 //! command line or the expression is refused.
 use capkit::{Expression, Packets, ReadError};
 use std::{env, error::Error, fmt::Display, process::ExitCode};
@@ -10,7 +10,7 @@ fn fail(problem: impl Display, status: u8) -> ExitCode {
     ExitCode::from(status)
 }
 
-/// Prints how many packets match, also of those before a fault.
+/// Prints how many packets match; after a fault, those before it.
 fn count(expression: Expression, name: &str) -> Result<(), Box<dyn Error>> {
     let (mut seen, mut matching, mut end) = (0, 0, Ok(()));
     for packet in Packets::open(name)? {

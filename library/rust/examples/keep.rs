@@ -2,7 +2,7 @@
 //!
 //! The expression is checked, the capture opened and its first packet read before the output is
 //! touched, which may not be the capture itself. The statuses are those of capkit: 1 after a fault,
-//! before which the packets are written, and 2 where the command line or the expression is refused.
+//! before which the packets are written, and 2 if the command line or the expression is refused.
 use capkit::{Expression, Format, Packets, Writer};
 use std::fs::{self, File};
 use std::os::unix::fs::MetadataExt;
@@ -20,7 +20,7 @@ fn is_same_file(one: &str, other: &str) -> bool {
     }
 }
 
-/// Writes the packets that match, also those before a fault.
+/// Writes the packets that match; after a fault, those before it.
 fn keep(expression: Expression, name: &str, out: &str) -> Result<(), Box<dyn Error>> {
     let of_input = |error: &dyn Display| format!("{name}: {error}");
     let of_output = |error: &dyn Display| format!("{out}: {error}");

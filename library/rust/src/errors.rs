@@ -133,7 +133,7 @@ impl fmt::Display for ListingError {
 pub enum ReadError {
     /// The unit at this offset fails a check.
     Fault {
-        /// Where the unit begins, in bytes.
+        /// The offset of the unit, in bytes.
         offset: u64,
         /// The check that it fails.
         check: Check,

@@ -135,7 +135,7 @@ extern "C" {
     pub fn capkit_text(number: u32, buffer: *mut u8, room: usize) -> usize;
 }
 
-/// The text that a call puts into a buffer, given where it begins and its room, of at most 255 bytes.
+/// The text that a call puts into a buffer, given its start and its room: at most 255 bytes.
 pub fn text_by(call: impl Fn(*mut u8, usize) -> usize) -> String {
     let mut buffer = [0; 256];
     let length = call(buffer.as_mut_ptr(), buffer.len());
@@ -144,12 +144,12 @@ pub fn text_by(call: impl Fn(*mut u8, usize) -> usize) -> String {
 
 /// What a number is called.
 pub fn text(number: u32) -> String {
-    // SAFETY: the buffer has as many bytes as the call is told.
+    // SAFETY: the buffer has `room` bytes.
     text_by(|buffer, room| unsafe { capkit_text(number, buffer, room) })
 }
 
-/// The units that a call puts into a buffer, given where it begins, its room and where the length
-/// goes; or the number by which it is refused.
+/// The units that a call puts into a buffer, given its start, its room and a place for the length;
+/// or the number by which it is refused.
 ///
 /// The call writes no more than the room, and `*length` bytes if it returns `OK`, after the last unit, or
 /// `UNIT_BEFORE`.

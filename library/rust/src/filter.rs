@@ -121,7 +121,7 @@ impl Filter {
     #[must_use]
     pub fn text(&self, index: usize) -> Option<String> {
         let insn = self.0.get(index)?;
-        // SAFETY: the buffer has as many bytes as the call is told.
+        // SAFETY: the buffer has `room` bytes.
         Some(ffi::text_by(|buffer, room| unsafe {
             ffi::capkit_insn_text(insn, index as u32, buffer, room)
         }))

@@ -24,7 +24,7 @@ pub struct Packet {
     pub comment: Vec<u8>,
     /// The name of its interface; empty if there is none.
     pub interface_name: Vec<u8>,
-    /// The most bytes that were captured of a packet of its interface; 0 is no limit.
+    /// The most bytes that were captured of a packet of its interface; 0: no limit.
     pub snap_length: u32,
 }
 
@@ -125,7 +125,7 @@ impl<R: Read> Packets<R> {
         }
     }
 
-    /// The packets alone that match, which the library looks for.
+    /// Only the packets that match, which the library looks for.
     pub fn matching(mut self, expression: &Expression) -> Result<Packets<R>, CompileError> {
         let filter = expression.filter(crate::LINK_ETHERNET)?;
         self.wanted = Some((expression.clone(), filter, crate::LINK_ETHERNET));
@@ -134,8 +134,8 @@ impl<R: Read> Packets<R> {
 
     /// Goes past what would end a capture that is otherwise sound: a unit that is refused for its time, link
     /// type or options, and, of packets [`matching`](Packets::matching) an expression, one of a link type for
-    /// which it isn't compiled. Of an interface that is skipped no packet has a time, so they are skipped in
-    /// turn.
+    /// which it isn't compiled. No packet of a skipped interface has a time, so these packets are skipped
+    /// in turn.
     ///
     /// ```
     /// # let capture = capkit::Writer::new(Vec::new(), capkit::Format::Pcap).finish()?;
@@ -186,7 +186,7 @@ impl<R: Read> Packets<R> {
         unsafe { ffi::capkit_skip(&mut self.reader, table, room, self.buffer.as_ptr(), self.size) }
     }
 
-    /// Moves what is left to the front of the buffer, and reads on behind it.
+    /// Moves the remaining bytes to the start of the buffer, and reads more after them.
     fn fill(&mut self) -> io::Result<()> {
         let offset = mem::take(&mut self.reader.offset);
         self.buffer.copy_within(offset..self.size, 0);
@@ -233,8 +233,8 @@ impl<R: Read> Packets<R> {
         comment
     }
 
-    /// Whether a packet matches for which the program isn't. Where its link type can't be filtered, and that
-    /// is to be skipped, it doesn't, and counts.
+    /// Whether a packet matches that isn't of the program's link type. If its link type can't be filtered, and
+    /// such packets are skipped, it doesn't match, and is counted.
     fn is_wanted(&mut self, packet: &Packet) -> Result<bool, CompileError> {
         let (expression, filter, link) = match &mut self.wanted {
             Some(wanted) => wanted,
@@ -251,7 +251,7 @@ impl<R: Read> Packets<R> {
         Ok(filter.matches(&packet.data, packet.original_length))
     }
 
-    /// What happens where the library finds no packet: whether to look for one again.
+    /// Handles a result without a packet, and returns whether to look for one again.
     fn read_on(&mut self, result: u32) -> Result<bool, ReadError> {
         let missing = if self.skips { self.skip() } else { result };
         let is_short = matches!(missing, ffi::END | ffi::TRUNCATED)

@@ -18,7 +18,7 @@ pub enum Format {
 /// Writes packets to a capture, the same bytes as capkit(1) writes.
 ///
 /// Each packet is one write, so an output that is a file is best a [`BufWriter`](io::BufWriter). A writer that is
-/// dropped without [`finish`](Writer::finish) writes no header where there was no packet, and flushes nothing.
+/// dropped without [`finish`](Writer::finish) writes no header if there was no packet, and flushes nothing.
 /// It is for one thread at a time, to which it can be sent if the output can.
 ///
 /// ```
@@ -59,7 +59,7 @@ impl<W: Write> Writer<W> {
     /// as many as it took.
     ///
     /// In a pcap file all packets have the link type of the first. A pcapng file has at most 4,096 interfaces
-    /// (link type, snapshot length and name), of which [`Packets`](crate::Packets) reads the first 256.
+    /// (link type, snap length and name), of which [`Packets`](crate::Packets) reads the first 256.
     pub fn write(&mut self, packet: &Packet) -> Result<(), WriteError> {
         let units = match self.format {
             Format::Pcapng => self.block(packet)?,
@@ -94,7 +94,7 @@ impl<W: Write> Writer<W> {
 
     fn header(&mut self, link_type: u16) -> Result<Vec<u8>, WriteError> {
         let (format, nanoseconds) = (self.format, self.nanoseconds());
-        // SAFETY: the buffer has the room that `units` tells.
+        // SAFETY: the buffer has the room that `units` passes.
         units(&mut self.buffer, |buffer, room, length| unsafe {
             match format {
                 Format::Pcapng => ffi::capkit_write_section(buffer, room, length),
@@ -113,7 +113,7 @@ impl<W: Write> Writer<W> {
         let (nanoseconds, time, original) =
             (self.nanoseconds(), packet.time, packet.original_length);
         let (data, size) = (packet.data.as_ptr(), packet.data.len());
-        // SAFETY: the buffer has the room that `units` tells, the packet its length.
+        // SAFETY: the buffer has the room that `units` passes, the packet its length.
         let record = units(&mut self.buffer, |to, room, length| unsafe {
             ffi::capkit_write_record(nanoseconds, time, original, data, size, to, room, length)
         })?;
@@ -128,7 +128,7 @@ impl<W: Write> Writer<W> {
         let info = ffi::Packet { time, link_type, original, snap, ..Default::default() };
         let (state, table) = (&mut self.state, &mut self.interfaces);
         table.resize(state.interfaces as usize + 1, ffi::Interface::NONE);
-        // SAFETY: the buffer has the room that `units` tells, all others have their lengths.
+        // SAFETY: the buffer has the room that `units` passes, all others have their lengths.
         units(&mut self.buffer, |to, room, length| unsafe {
             ffi::capkit_writer_put(
                 state,

@@ -21,8 +21,8 @@ fn hundred() -> (Vec<u8>, Vec<Packet>) {
     (writer.finish().unwrap(), packets)
 }
 
-/// A source that gives a capture by such reads, each of so many bytes at most or a failure, and then the
-/// rest at once.
+/// A source that gives a capture by these reads, each of at most a number of bytes or a failure, and then
+/// the remainder at once.
 struct Steps<'a> {
     capture: &'a [u8],
     steps: std::vec::IntoIter<Result<usize, ErrorKind>>,
@@ -170,7 +170,7 @@ fn errors_have_sources() {
     assert!(listing.source().unwrap().is::<ProgramError>());
 }
 
-/// An output that takes so many bytes of each write, up to so many in all.
+/// An output that takes at most a number of bytes of each write, and of all.
 struct Part {
     taken: Vec<u8>,
     each: usize,

@@ -19,7 +19,7 @@ func check(err error) {
 	}
 }
 
-// output is what writes packets, and what ends it; nothing where none are written.
+// output is what writes packets, and what ends it; nothing if none are written.
 func output(mode string) (write func(gopacket.CaptureInfo, []byte) error, finish func() error) {
 	if mode == "read" {
 		return func(gopacket.CaptureInfo, []byte) error { return nil }, func() error { return nil }

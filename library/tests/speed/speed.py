@@ -1,11 +1,11 @@
 #!/usr/bin/env python3
-"""Measures reading, filtering and writing 1,000,000 packets in each language, beside libpcap and gopacket.
+"""Measures reading, filtering and writing 1,000,000 packets in each language, and in libpcap and gopacket.
 
-usage: speed.py [ROUNDS] [LANGUAGE..]     7 rounds and c libpcap rust go gopacket python where none are given
+usage: speed.py [ROUNDS] [LANGUAGE..]     by default 7 rounds and c libpcap rust go gopacket python
 
-Each cell is the least CPU time (user and system, in s) of so many rounds, in each of which all programs run one after
+Each cell is the least CPU time (user and system, in s) of all rounds, in each of which all programs run one after
 another. It builds the programs in out/speed, uses the library that `make` and `make python` left in out/, and says which
-language it can't build. libpcap's times are without compiling, which stands beside them. Needs the headers of libpcap
+language it can't build. libpcap's times are without compiling, which is printed after them. Needs the headers of libpcap
 for libpcap, and Debian's golang-github-google-gopacket-dev (and golang-golang-x-net-dev) for gopacket.
 """
 import os

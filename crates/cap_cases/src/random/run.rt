@@ -98,7 +98,7 @@ impl<'r> Fuzzer<'r> {
         }
     }
 
-    /// Compares two sides in the way of the property.
+    /// Records whether the property holds for two results.
     pub fn compare(&mut self, is_met: bool, left: &[u8], right: &[u8]) -> Compared {
         self.judge(self.property, is_met, (left, right))
     }

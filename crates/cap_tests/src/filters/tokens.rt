@@ -3,7 +3,6 @@
 use crate::words::field;
 use flt_words::{Comparison, Join, Operator, Protocol, Token, TokenKind, lex};
 use std::alloc::{AllocError, Global};
-use std::test::Fail;
 
 /// A token without a value, in short: enough to distinguish those of the table.
 fn name_of(kind: TokenKind) -> &'static str {
@@ -39,12 +38,12 @@ fn add_token(text: &mut String, token: &Token) -> Result<(), AllocError> {
 }
 
 /// The tokens of a text, each with a blank before it.
-fn tokens_of(alloc: Global, text: &str) -> Result<String, Fail> {
+fn tokens_of(alloc: Global, text: &str) -> Option<String> {
     let mut shown = String::new(alloc);
-    for token in &lex(alloc, text)? {
-        add_token(&mut shown, token)?;
+    for token in &lex(alloc, text).ok()? {
+        add_token(&mut shown, token).ok()?;
     }
-    Ok(shown)
+    Some(shown)
 }
 
 /// Words, and the tokens that they are.
@@ -74,19 +73,22 @@ ffff:ffff:ffff:ffff:ffff:ffff:ffff:ffff | ip6 ffffffffffffffffffffffffffffffff
 1:2:3:4:5:6:7:: | ip6 10002000300040005000600070000
 ::2:3:4:5:6:7:8 | ip6 2000300040005000600070008";
 
-/// A word has this token, with a blank on each side of it.
+/// Whether the word of a row has its token, with a blank on each side of it.
+fn has_token(alloc: Global, row: &'static str) -> Option<bool> {
+    let (word, token) = field(row);
+    let shown = tokens_of(alloc, &format!(in alloc; " {word} ").ok()?)?;
+    Some(shown.strip_prefix(" 2 ") == Some(token))
+}
+
 #[test]
-fn values(rt: HostRuntime) -> Result<(), Fail> {
+fn values(rt: HostRuntime) {
     for row in VALUES.lines() {
-        let (word, token) = field(row);
-        let shown = tokens_of(rt.alloc(), &format!(in rt.alloc(); " {word} ")?)?;
-        assert!(rt; shown.strip_prefix(" 2 ") == Some(token), "{row}");
+        assert!(rt; has_token(rt.alloc(), row) == Some(true), "{row}");
     }
-    Ok(())
 }
 
 /// Texts, and their tokens with their places.
-const PLACES: [(&str, &str); 6] = [
+const PLACES: &[(&str, &str)] = &[
     ("", ""),
     (" \t\n\r", ""),
     ("tcp[13:2]", " 1 tcp 4 [ 5 number 13 7 : 8 number 2 9 ]"),
@@ -98,10 +100,14 @@ const PLACES: [(&str, &str); 6] = [
     ),
 ];
 
+/// Whether these are the tokens of a text.
+fn has_tokens(alloc: Global, text: &str, wanted: &str) -> bool {
+    matches!(tokens_of(alloc, text), Some(shown) if shown.as_str() == wanted)
+}
+
 #[test]
-fn places(rt: HostRuntime) -> Result<(), Fail> {
+fn places(rt: HostRuntime) {
     for (text, wanted) in PLACES {
-        assert!(rt; tokens_of(rt.alloc(), text)?.as_str() == wanted, "{text}");
+        assert!(rt; has_tokens(rt.alloc(), text, wanted), "{text}");
     }
-    Ok(())
 }

@@ -19,7 +19,7 @@ use cap_pcapng::{Clock, Interface as PcapngInterface, MOST_INTERFACES, MOST_NAME
 pub struct Reader {
     /// The place where the next unit begins, in bytes from the start.
     pub offset: usize,
-    /// The snapshot length of a pcap file, in bytes; 0 is none.
+    /// The snap length of a pcap file, in bytes; 0 is none.
     pub snap: u32,
     /// The number of interfaces of a pcapng file's current section so far.
     pub interfaces: u32,
@@ -56,7 +56,7 @@ pub struct Interface {
     pub units: u64,
     /// What is added to each time, in seconds.
     pub offset: i64,
-    /// The snapshot length, in bytes; 0 is none.
+    /// The snap length, in bytes; 0 is none.
     pub snap: u32,
     pub link_type: u16,
     pub name_length: u8,
@@ -82,7 +82,7 @@ pub struct Packet {
     pub options_length: u32,
     /// The number of its interface, from 0 in its section; 0 in pcap.
     pub interface: u32,
-    /// The snapshot length of its interface or its file, in bytes; 0 is none.
+    /// The snap length of its interface or its file, in bytes; 0 is none.
     pub snap: u32,
     pub link_type: u16,
 }
@@ -223,7 +223,7 @@ impl Interface {
         }
     }
 
-    /// Whether this is the interface of a packet: link type, snapshot length and name are equal.
+    /// Whether this is the interface of a packet: link type, snap length and name are equal.
     pub(crate) fn is_of(&self, packet: &OctetPacket<'_>) -> bool
         ensures { result
             ≡ is_same (interface_of (captured packet.now)) (output_interface self.now) }

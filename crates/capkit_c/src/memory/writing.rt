@@ -97,7 +97,7 @@ pub fn write_record(
     if time >= TIME_END {
         return Written::Refused(Fault::TimeOutOfRange);
     }
-    // A record has nothing of link type, snapshot length, name and comment.
+    // A record has nothing of link type, snap length, name and comment.
     let packet = Packet {
         link: 0,
         snap: 0,
@@ -193,7 +193,7 @@ pub fn write_packet(
     if comment.len() > MOST_COMMENT {
         return Written::Refused(Fault::BadOption);
     }
-    // The block names its interface by number, which has link type, snapshot length and name.
+    // The block names its interface by number, which has link type, snap length and name.
     let packet = Packet {
         link: 0,
         snap: 0,

@@ -41,20 +41,20 @@ pub(super) const NO_PACKET: Packet = Packet {
     link_type: 77,
 };
 
-/// A packet: its time and place, its captured and original length, its interface with snapshot
-/// length and link type, its comment.
+/// A packet: its time and place, its captured and original length, its interface with snap length
+/// and link type, its comment.
 type Seen = ((u64, usize), (u32, u32), (u32, u32, u16), &'static [u8]);
 
 /// The room of the table, the number that a call returns, and the packet that it finds.
 type Call = (usize, u32, Option<Seen>);
 
-/// Microseconds, little-endian, Ethernet, snapshot length 262,144: one record.
+/// Microseconds, little-endian, Ethernet, snap length 262,144: one record.
 const MICROSECONDS: &[u8] = &[
     0xd4, 0xc3, 0xb2, 0xa1, 2, 0, 4, 0, 0, 0, 0, 0, 0, 0, 0, 0, 0, 0, 4, 0, 1, 0, 0, 0, 1, 0, 0, 0,
     5, 0, 0, 0, 4, 0, 0, 0, 9, 0, 0, 0, 0xaa, 0xbb, 0xcc, 0xdd,
 ];
 
-/// Nanoseconds, big-endian, raw IP, snapshot length 96: two records.
+/// Nanoseconds, big-endian, raw IP, snap length 96: two records.
 const NANOSECONDS: &[u8] = &[
     0xa1, 0xb2, 0x3c, 0x4d, 0, 2, 0, 4, 0, 0, 0, 0, 0, 0, 0, 0, 0, 0, 0, 0x60, 0, 0, 0, 0x65, 0, 0,
     0, 1, 0, 0, 0, 5, 0, 0, 0, 2, 0, 0, 0, 9, 0xaa, 0xbb, 0, 0, 0, 2, 0, 0, 0, 6, 0, 0, 0, 0, 0, 0,
@@ -279,7 +279,7 @@ fn most_interfaces(rt: HostRuntime) {
     }
 }
 
-/// A prefix of a capture is whole after a unit, no capture before its first number, and else
+/// A prefix ends cleanly after a unit; before the magic number it isn't a capture; else it is
 /// truncated.
 #[test]
 fn prefixes_are_truncated(rt: HostRuntime) {
@@ -419,7 +419,7 @@ fn cut_records_are_not_skipped(rt: HostRuntime) {
     assert!(rt; capkit_skip(&mut reader, &mut [], &altered) == 228 && reader.offset == 44);
 }
 
-/// An interface whose options are refused keeps its number, its link type and its snapshot length,
+/// An interface whose options are refused keeps its number, its link type and its snap length,
 /// if the table has room for it; each of its packets is out of range, and later interfaces keep
 /// their numbers.
 #[test]

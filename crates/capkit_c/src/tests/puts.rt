@@ -13,7 +13,7 @@ const START: Writer = Writer {
     has_section: 0,
 };
 
-/// The packets, each with its interface: link type, snapshot length, name, and the number that it
+/// The packets, each with its interface: link type, snap length, name, and the number that it
 /// has by the order of first use.
 const PUT: [(u16, u32, &[u8], u32); 6] = [
     (1, 96, b"en", 0),

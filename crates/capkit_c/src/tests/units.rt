@@ -11,7 +11,7 @@ const TIME: u64 = 1_700_000_000_123_456_789;
 
 /// A unit: nanoseconds, link types, times, numbers of interfaces, and how many bytes of a packet, a
 /// name or a comment there are. A packet has 60 bytes on the wire, an interface the link type 101
-/// and the snapshot length 96.
+/// and the snap length 96.
 #[derive(Clone, Copy)]
 enum Unit {
     Header(u32, u16),

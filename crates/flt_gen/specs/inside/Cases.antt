@@ -1,44 +1,40 @@
 -- Lists of MAC addresses, of addresses and networks of IPv6, of protocol numbers, and of relations of
 -- one accessor, as decision trees: the first words are compared by halves, and then the next ones.
--- Hosts of IPv6 on either side that have the first two words in common are a tree for each side.
 use Rattle.std.specs.List.{list_all, insert}
 use Rattle.std.specs.Prelude.{ℕ, zero, suc, ◌+◌, ◌-◌, ◌/◌, ◌^◌, ◌==◌, ◌&&◌, nat_lt, nat_le, min, Bool, true, false, if◌then◌else◌, List, [], ◌∷◌, length, take, drop, slice_get, count_by, is_none, Option, Some, None}
 use Rattle.flt_words.specs.declared.token.{Comparison.TheVariants.AtLeast, Protocol.Protocol}
-use Rattle.flt_words.specs.declared.token.{Join.TheVariants.Or, ValueType.ValueType}
-use Rattle.flt_words.specs.declared.token.Side.TheVariants.{Source, Destination}
+use Rattle.flt_words.specs.declared.token.ValueType.{ValueType}
+use Rattle.flt_words.specs.declared.token.Side.TheVariants.{Source}
 use Rattle.flt_words.specs.declared.token.ValueType.TheVariants.{Host, Net, Proto}
 use Rattle.flt_ast.specs.declared.{qualifiers.Direction.Direction, value.Value.Value}
 use Rattle.cap_octet.specs.{Link.network_offset, declared.link.Link.Link}
 use Rattle.flt_gen.specs.Elementary.{with, kind_test, has_ip_proto, has_ip6_proto}
-use Rattle.flt_gen.specs.Formula.{Formula, Single, Both, Either, Except, Split, all_of, guarded_formula}
-use Rattle.flt_gen.specs.{Numbers.accessor_tests, Primitives.mac_tests, Primitives.ip6_test, Primitives.ip6_tests}
+use Rattle.flt_gen.specs.Formula.{Formula, Single, Both, Either, Split, all_of, guarded_formula}
+use Rattle.flt_gen.specs.{Numbers.accessor_tests, Primitives.mac_tests, Primitives.ip6_tests}
 use Rattle.flt_gen.specs.inside.{Emitted.equals, Emitted.needed_tests, Relations.relation_test}
 use Rattle.flt_gen.specs.declared.cases.Bound.{Bound}
 use Rattle.flt_gen.specs.declared.cases.Bound.TheVariants.{Below, From, Exactly}
 use Rattle.flt_gen.specs.declared.cases.Case.{Case}
-use Rattle.flt_gen.specs.declared.cases.Case.TheVariants.{Mac, Ip6, EitherIp6, IpProto, Ip6Proto}
+use Rattle.flt_gen.specs.declared.cases.Case.TheVariants.{Mac, Ip6, IpProto, Ip6Proto}
 use Rattle.flt_gen.specs.declared.elementary.Elementary.{Elementary}
 use Rattle.flt_gen.specs.declared.elementary.Elementary.TheVariants.{Outcome, Field}
-use Rattle.flt_gen.specs.declared.{elementary.FrameKind.FrameKind, group.Entry.Entry}
+use Rattle.flt_gen.specs.declared.elementary.FrameKind.{FrameKind}
 
--- a value as a case, or none: an address of one side, a host of IPv6 on either side, or a protocol of
--- IPv4 or of IPv6
+-- a value as a case, or none: an address of one side, or a protocol of IPv4 or of IPv6
 abbrev pub case_of : ValueType → Option Protocol → Direction → Value → Option Case
 case_of Host p (Direction.One s) (Value.Mac a) = Some (Mac a)
 case_of Host p (Direction.One s) (Value.Ip6 a n) = Some (Ip6 None a)
-case_of Host p (Direction.Both Or) (Value.Ip6 a n) = Some (EitherIp6 a)
 case_of Net p (Direction.One s) (Value.Ip6 a n) = Some (Ip6 n a)
 case_of Proto (Some Protocol.Ip) d (Value.Number n m) = Some (IpProto n)
 case_of Proto (Some Protocol.Ip6) d (Value.Number n m) = Some (Ip6Proto n)
 case_of _ _ _ _ = None
 
--- both are compared in the same words, of which hosts on either side have the first two in common
+-- both are compared in the same words
 abbrev pub same_words : Case → Case → Bool
 same_words (Mac a) (Mac b) = true
 same_words (Ip6 m a) (Ip6 n b) = true
 same_words (IpProto a) (IpProto b) = true
 same_words (Ip6Proto a) (Ip6Proto b) = true
-same_words (EitherIp6 a) (EitherIp6 b) = a / 2 ^ 64 == b / 2 ^ 64
 same_words (Case.Relation a) (Case.Relation b) =
     equals a.protocol b.protocol && (a.size == b.size && a.index == b.index)
 same_words _ _ = false
@@ -47,7 +43,6 @@ same_words _ _ = false
 abbrev pub key_of : Case → ℕ
 key_of (Mac a) = a
 key_of (Ip6 n a) = a
-key_of (EitherIp6 a) = a
 key_of (IpProto n) = n
 key_of (Ip6Proto n) = n
 key_of (Case.Relation r) = r.number
@@ -60,7 +55,6 @@ insert_case c cs = insert cs (count_by (λ d. nat_lt (key_of d) (key_of c)) cs) 
 abbrev pub case_front : Link → Case → List Elementary
 case_front link (Mac a) = kind_test link FrameKind.Ethernet ∷ []
 case_front link (Ip6 n a) = kind_test link FrameKind.Ip6 ∷ []
-case_front link (EitherIp6 a) = kind_test link FrameKind.Ip6 ∷ []
 case_front link (IpProto n) = kind_test link FrameKind.Ip ∷ []
 case_front link (Ip6Proto n) = kind_test link FrameKind.Ip6 ∷ []
 case_front link (Case.Relation r) = accessor_tests link r.protocol
@@ -79,7 +73,6 @@ ip6_place _ = 24
 abbrev pub case_tests : Link → Direction → Case → List Elementary
 case_tests link d (Mac a) = mac_tests (mac_place d) a
 case_tests link d (Ip6 n a) = ip6_tests n a (network_offset link + ip6_place d)
-case_tests link d (EitherIp6 a) = ip6_tests None a (network_offset link + ip6_place d)
 case_tests link d (IpProto n) = has_ip_proto link n ∷ []
 case_tests link d (Ip6Proto n) = has_ip6_proto link n ∷ []
 case_tests link d (Case.Relation r) = relation_test link r ∷ []
@@ -163,10 +156,6 @@ LONG_LIST = 40
 abbrev pub MOST_IN_TURN : ℕ
 MOST_IN_TURN = 40
 
--- how many hosts on either side are, at most
-abbrev pub FEW_HOSTS : ℕ
-FEW_HOSTS = 6
-
 -- how many of n cases with the words of one are, at most
 abbrev pub few_of : Case → ℕ → ℕ
 few_of (Mac a) n = if nat_le LONG_LIST n then MOST_OF_LONG else min (n - n / 2) MOST_OF_WORDS
@@ -201,55 +190,9 @@ decision few (suc k) tests word cs = decided few (decision few k tests) tests wo
 abbrev pub MOST_DECISIONS : ℕ
 MOST_DECISIONS = 64
 
--- the source is that of a host, in the words that may differ, and the third word of the destination
--- isn't that of one in front of it
-abbrev pub unasked : Link → List Entry → Formula
-unasked link [] = Single (Outcome true)
-unasked link (Entry.Value q (Value.Ip6 a n) ∷ es) =
-    Either (all_of (drop 2 (ip6_tests None a (network_offset link + 8))))
-    (Both (Except (Single (ip6_test None a (network_offset link + 24) 2))) (unasked link es))
-unasked link (e ∷ es) = unasked link es
-
--- the source is that of a host, of which the first is a. So yes, unless a test of a host in front
--- of it reads a word of the destination that isn't captured. All have the first two words in common,
--- and maybe the third one too
-abbrev pub asked : Link → ℕ → Bool → List Entry → Formula
-asked link a true es =
-    let d = ip6_tests None a (network_offset link + 24) in
-    Either (Except (all_of (take 3 d))) (Either (all_of (drop 3 d)) (Single (Outcome true)))
-asked link a false es =
-    let d = ip6_tests None a (network_offset link + 24) in
-    Either (Except (all_of (take 2 d)))
-    (Either (unasked link es) (Either (all_of (drop 3 d)) (Single (Outcome true))))
-
--- hosts have the third word in common
-abbrev pub share_third : Link → List Case → Bool
-share_third link cs =
-    let tests = case_tests link (Direction.One Source) in
-    all_keep tests 2 (Exactly (lowest (test_at tests 2 cs 0))) cs
-
--- either side is one of some hosts of IPv6, which have the first two words in common: the entries,
--- of which the first is a, or as cases
-abbrev pub either_ip6 : Link → ℕ → List Case → List Entry → Formula
-either_ip6 link a cs es =
-    let s = ip6_tests None a (network_offset link + 8) in
-    let d = ip6_tests None a (network_offset link + 24) in
-    let side = λ (d : Direction). decision FEW_HOSTS MOST_DECISIONS (case_tests link d) 2 cs in
-    Either
-    (Both (all_of (take 2 s))
-    (Both (side (Direction.One Source))
-    (Either (all_of (drop 2 s)) (asked link a (share_third link cs) es))))
-    (Both (all_of (take 2 d)) (side (Direction.One Destination)))
-
--- the tests of cases with the words of one, which are these entries; the number is the one by which
--- the first in the expression ascends
-abbrev pub sides_decision : Link → Direction → ℕ → Case → List Case → List Entry → Formula
-sides_decision link d a (EitherIp6 b) cs es = either_ip6 link a cs es
-sides_decision link d a c cs es =
-    decision (few_of c (length cs)) MOST_DECISIONS (case_tests link d) 0 cs
-
 -- cases with the same words, after the tests in front of them
-abbrev pub cases_formula : Link → Direction → ℕ → List Case → List Entry → Formula
-cases_formula link d a [] es = Single (Outcome false)
-cases_formula link d a (c ∷ cs) es =
-    guarded_formula (case_front link c) (sides_decision link d a c (c ∷ cs) es)
+abbrev pub cases_formula : Link → Direction → List Case → Formula
+cases_formula link d [] = Single (Outcome false)
+cases_formula link d (c ∷ cs) =
+    guarded_formula (case_front link c)
+    (decision (few_of c (length (c ∷ cs))) MOST_DECISIONS (case_tests link d) 0 (c ∷ cs))

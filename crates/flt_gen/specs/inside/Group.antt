@@ -3,7 +3,7 @@
 use Rattle.std.specs.Prelude.{ℕ, ◌+◌, ◌-◌, ◌^◌, ◌==◌, nat_lt, nat_le, min, max, bit_and, not, Bool, true, false, ◌&&◌, if◌then◌else◌, List, [], ◌∷◌, length, Option, Some, None}
 use Rattle.flt_words.specs.declared.token.Join.TheVariants.{And, Or}
 use Rattle.flt_words.specs.declared.token.Protocol.{Protocol}
-use Rattle.flt_words.specs.declared.token.Protocol.TheVariants.{Ip, Tcp, Udp}
+use Rattle.flt_words.specs.declared.token.Protocol.TheVariants.{Ip, Arp, Rarp, Tcp, Udp}
 use Rattle.flt_words.specs.declared.token.Side.TheVariants.{Source, Destination}
 use Rattle.flt_words.specs.declared.token.ValueType.{ValueType}
 use Rattle.flt_words.specs.declared.token.ValueType.TheVariants.{Host, Net, Port, PortRange}
@@ -19,21 +19,20 @@ use Rattle.flt_gen.specs.Primitives.{hosts_formula, port_test, port_formula}
 use Rattle.flt_gen.specs.{Numbers.accessor_tests, Reading.formula, declared.address.Hosts.Hosts, declared.cases.Case.Case}
 use Rattle.flt_gen.specs.declared.elementary.{Elementary.TheVariants.Outcome, Interval.Interval}
 use Rattle.flt_gen.specs.declared.{group.Entry.Entry, port.Ports.TheVariants.Several}
-use Rattle.flt_gen.specs.inside.Cases.{case_of, same_words, key_of, insert_case, cases_formula}
+use Rattle.flt_gen.specs.inside.Cases.{case_of, same_words, insert_case, cases_formula}
 use Rattle.flt_gen.specs.inside.Emitted.{relation_formula, qualified_needed}
 use Rattle.flt_gen.specs.inside.Intervals.{insert_ascending, sought}
 use Rattle.flt_gen.specs.inside.Relations.{relation_of, relation_test}
 
 -- the qualifiers of the member that stands first, whether each member is one number, the numbers of
--- the first and of all, which ascend, or the members as cases and the number by which the first
--- ascends, and the members, in the order of the expression
+-- the first and of all, which ascend, or the members as cases, and the members, in the order of the
+-- expression
 pub record Group : Type 0 where
   pub qualifiers : CompleteQualifiers
   pub is_plain : Bool
   pub first : Interval
   pub all : List Interval
   pub cases : List Case
-  pub first_key : ℕ
   pub entries : List Entry
 
 -- a group without members; its qualifiers, which relations have too, decide nothing
@@ -44,7 +43,6 @@ no_group = record {
   first = no_interval;
   all = [];
   cases = [];
-  first_key = 0;
   entries = [];
 }
 
@@ -76,7 +74,6 @@ abbrev pub with_case : CompleteQualifiers → Entry → Case → Group → Group
 with_case q e c group = record group {
   qualifiers = q;
   cases = insert_case c group.cases;
-  first_key = key_of c;
   entries = e ∷ group.entries;
 }
 
@@ -92,10 +89,12 @@ same_type PortRange Port = true
 same_type PortRange PortRange = true
 same_type _ _ = false
 
--- both have no protocol, or the same of ip, tcp and udp
+-- both have no protocol, or the same of ip, arp, rarp, tcp and udp
 abbrev pub same_protocol : Option Protocol → Option Protocol → Bool
 same_protocol None None = true
 same_protocol (Some Ip) (Some Ip) = true
+same_protocol (Some Arp) (Some Arp) = true
+same_protocol (Some Rarp) (Some Rarp) = true
 same_protocol (Some Tcp) (Some Tcp) = true
 same_protocol (Some Udp) (Some Udp) = true
 same_protocol _ _ = false
@@ -253,7 +252,7 @@ abbrev pub together_formula : Link → Group → List Case → Formula
 together_formula link group [] =
     several_formula link group.qualifiers group.qualifiers.value_type (numbers_of group)
 together_formula link group (c ∷ cs) =
-    cases_formula link group.qualifiers.direction group.first_key (c ∷ cs) group.entries
+    cases_formula link group.qualifiers.direction (c ∷ cs)
 
 -- a packet has one of the members
 abbrev pub group_formula : Link → Group → Formula

@@ -47,8 +47,8 @@ jump_near (jump ∷ jumps) to top =
     if jump.to == to && nat_lt (top - jump.place) MOST_OFFSET then jump.place
     else jump_near jumps to top
 
--- the place where a test that is put in front goes on to get to a place: this one if it is near,
--- else a jump that leads there, if there is one
+-- the place to which a test that is put in front jumps to get to `to`: `to` itself if it is near, else
+-- a jump that leads there, if one exists
 unfoldable pub near_place : PlacedCode → ℕ → ℕ
 near_place l to =
     if nat_le (length l.code - to) MOST_OFFSET then to else jump_near l.jumps to (length l.code)

@@ -1,6 +1,6 @@
 // Filter counts the packets of a capture that match.
 //
-// The statuses are those of capkit: 1 after a fault, which ends the capture, and 2 where the command
+// The statuses are those of capkit: 1 after a fault, which ends the capture, and 2 if the command
 // line or the expression is refused.
 package main
 
@@ -12,7 +12,7 @@ import (
 	"example.com/capkit"
 )
 
-// count prints how many packets match, also of those before a fault.
+// count prints how many packets match; after a fault, those before it.
 func count(expression *capkit.Expression, name string) error {
 	reader, err := capkit.Open(name)
 	if err != nil {

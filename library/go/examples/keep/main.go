@@ -2,7 +2,7 @@
 //
 // The expression is checked, the capture opened and its first packet read before the output is
 // touched, which may not be the capture itself. The statuses are those of capkit: 1 after a fault,
-// before which the packets are written, and 2 where the command line or the expression is refused.
+// before which the packets are written, and 2 if the command line or the expression is refused.
 package main
 
 import (
@@ -23,7 +23,7 @@ func isSameFile(one, other string) bool {
 	return err == nil && os.SameFile(first, second)
 }
 
-// keep writes the packets that match, also those before a fault.
+// keep writes the packets that match; after a fault, those before it.
 func keep(expression *capkit.Expression, name, out string) error {
 	reader, err := capkit.Open(name)
 	if err != nil {

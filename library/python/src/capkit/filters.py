@@ -41,7 +41,7 @@ class Step(NamedTuple):
 
 
 class Elsewhere(enum.IntFlag):
-    """What else runs a program alike."""
+    """What else runs a program with the same result."""
 
     LIBPCAP = 1
     LINUX = 2

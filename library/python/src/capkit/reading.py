@@ -25,7 +25,7 @@ _OF_ODD_UNITS = {
 }  # fmt: skip
 # What is read at once: what fits into a processor's cache is filtered twice as fast.
 _PIECE = 1 << 18
-# How many packets a call reads at most, and the fields of native.BatchPacket, but for its end.
+# How many packets a call reads at most, and the fields of native.BatchPacket, except its end.
 _BATCH, _FIELDS = 128, struct.Struct("@QNNIIIIIH2x8x")
 
 
@@ -40,7 +40,7 @@ class _Fields(NamedTuple):
     comment: bytes
     interface_name: bytes
     snap_length: int
-    """The most bytes that were captured of a packet of its interface; 0 is no limit."""
+    """The most bytes that were captured of a packet of its interface; 0: no limit."""
 
 
 class Packet(_Fields):
@@ -92,7 +92,7 @@ class Capture:
 
     A loop over it has its packets, and ends with the capture or raises CaptureError at its first fault.
     It takes the memory of some units, however long the capture is, and gives a packet as soon as its
-    bytes have come. Each loop over a path or bytes begins anew; a pipe, or an open file, is read once. A
+    bytes have come. Each loop over a path or bytes begins at the start; a pipe, or an open file, is read once. A
     file that becomes shorter while it is read is a fault (TRUNCATED).
 
     An error of the source doesn't end a loop: BlockingIOError if it has no bytes yet, or its own. Ask
@@ -112,7 +112,7 @@ class Capture:
         self._skip, self._tally = skip, _Tally()
         self._file: Union[File, Stream, None] = None
         self._bytes = b""
-        # Where it ends, if that isn't the end of the file or the bytes.
+        # The end, if it isn't that of the file or the bytes.
         self._limit: Optional[int] = None
         self._source: Any = source
         if isinstance(source, (str, os.PathLike)):

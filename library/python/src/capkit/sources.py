@@ -1,4 +1,4 @@
-"""Where the bytes of captures come from, and which files are being read."""
+"""Sources of captures' bytes, and the files that are being read."""
 from __future__ import annotations
 
 import binascii
@@ -24,7 +24,7 @@ class Readable(Protocol):
     """A binary file, or whatever else has its `read`."""
 
     def read(self, size: int, /) -> Optional[Bytes]:
-        """At most so many bytes; none at the end, and None if none have come yet."""
+        """At most `size` bytes; none at the end, and None if none have come yet."""
 
 
 # Those that were opened, each by its id.
@@ -91,7 +91,7 @@ class File:
     """A regular file at a path, for loops that each read it from its start.
 
     It is open until it is closed, or an error ends the last loop over it, so that errors which are
-    kept keep no file open; one that was seen earlier is open in loops alone. The next loop opens it
+    kept keep no file open; one that was seen earlier is open only during loops. The next loop opens it
     again if it is still the same, else it raises OSError (ESTALE). Threads may share it.
     """
 
@@ -170,7 +170,7 @@ class File:
         return descriptor
 
     def _look(self) -> None:
-        """Sees the file again, unless what was read of it is there no more."""
+        """Sees the file again, unless it no longer has what was read of it."""
         with contextlib.suppress(OSError):
             if self._file is not None and self._seen.is_still(self._file.fileno()):
                 descriptor = self._file.fileno()

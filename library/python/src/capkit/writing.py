@@ -272,7 +272,7 @@ def _checked(packet: Packet) -> Packet:
         time = native.fits(packet.time, 64, "time")
         link_type = native.fits(packet.link_type, 16, "link type")
         original = native.fits(packet.original_length, 32, "original length")
-        snap = native.fits(packet.snap_length, 32, "snapshot length")
+        snap = native.fits(packet.snap_length, 32, "snap length")
     except ValueError as error:
         raise WriteError(str(error)) from None
     data, name = native.bytes_of(packet.data, "data"), packet.interface_name

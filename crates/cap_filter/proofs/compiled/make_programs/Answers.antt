@@ -8,6 +8,7 @@ loop-link-preserved g c =
     let Fresh : List Content → Type 0 = λ programs. All (λ (program : Content). program.spent ≡ 0) programs in
     rw (c.in_ok-push.ensures.items) (record {
       made = subst More (sym (take_more c.args.links.now c.loop-link.link-index Ether c.loop-link-test.true))
-          (made-put c.args.tree.now.expr _ c.loop-link.programs.items _ c.in_ok-program.program c.loop-link.invariant.made (record { valid = rw c.insns.ensures.insns at c.insns.ensures.valid; right = c.in_ok-program.ensures.decides }));
+          (made-put c.args.tree.now.expr _ c.loop-link.programs.items _ c.in_ok-program.program c.loop-link.invariant.made
+          (record { valid = rw c.insns.ensures.insns at c.insns.ensures.valid; right = c.in_ok-program.ensures.decides }));
       fresh = fresh-put c.loop-link.programs.items c.in_ok-program.program c.loop-link.invariant.fresh c.in_ok-program.ensures.fresh;
     })

@@ -1,4 +1,5 @@
-use Rattle.cap_io.proofs.Common.{◌≡◌, refl, ◌+◌, ◌≤◌, ◌++◌, ℕ, Ok, List, length, take, drop, sym, ap, ap₂, ◌∙◌, subst, arith, rules, checked, first_failing, field_checks, record_header_in}
+use Rattle.cap_io.proofs.Common.{◌≡◌, refl, ◌+◌, ◌≤◌, ◌++◌, ℕ, Ok, List, length, take, drop, sym, ap, ap₂, ◌∙◌, subst, arith, rules, checked, first_failing}
+use Rattle.cap_io.proofs.Common.{field_checks, record_header_in}
 use Rattle.cap_io.proofs.Hands.{begins-long, begins-same, lent-first, record-taken}
 use Rattle.std.proofs.lemmas.Bool.{false≢true}
 use Rattle.cap_io.proofs.pcap.lend_record.Goals as goal
@@ -21,7 +22,15 @@ returns-clause-lent g c = λ is.
     ∙ sym c.in-Ok.ensures.answer) in
     let there : size ≤ length (g.I.Input.held new.input) = begins-long (g.I.Input.held new.input) hand size lends.stays lends.there in
     rw c.record_spans.ensures (record {
-      lies = record { bytes = omega arith; options = omega arith; there = there; some = omega arith; small = (let short = c.in-Ok.ensures.short in omega (arith, short)); time = c.in-Ok.ensures.in_range };
+      lies = record {
+        bytes = omega arith;
+        options = omega arith;
+        there = there;
+        some = omega arith;
+        small =
+            (let short = c.in-Ok.ensures.short in omega (arith, short));
+        time = c.in-Ok.ensures.in_range;
+      };
       known = tt;
       fits = search rules;
       counted = search rules;
@@ -30,7 +39,8 @@ returns-clause-lent g c = λ is.
       sure = lends.sure;
       enough = lends.enough;
       came = λ t. record-taken c.args.head.now unread (drop new.lent (g.I.Input.unread new.input)) (g.I.Input.held new.input) c.in-Ok.found says there
-          (lent-first unread hand size (let S : List ℕ → Type 0 = λ l. take (length l) unread ≡ l in subst S same (c.next_bytes-hand.ensures.exact t)) lends.there
+          (lent-first unread hand size (let S : List ℕ → Type 0 = λ l. take (length l) unread ≡ l in subst S same (c.next_bytes-hand.ensures.exact t))
+          lends.there
           ∙ ap₂ (λ (x y : List ℕ). x ++ y) held (ap₂ drop (sym lends.is) (sym lends.rest)));
     })
 

@@ -11,7 +11,8 @@ returns-then-is_none-clause-err g c = λ t.
 pub returns-in_err-read_rest-clause-err : goal.returns-in_err-read_rest-clause-err
 returns-in_err-read_rest-clause-err g c =
     let p = err_from_is_err_and c.from_residual.result c.from_residual.ensures.1 in
-    rw (p.1, p.2) (λ t. rest_of_header _ _ _ c.args.first.now _ 24 refl refl (search rules) c.requires (ap is_some (sym c.read_magic.ensures) ∙ c.is_none.ensures ∙ ap not c.if-is_none.false) (c.in_err-read_rest.ensures.err t))
+    rw (p.1, p.2) (λ t. rest_of_header _ _ _ c.args.first.now _ 24 refl refl (search rules) c.requires (ap is_some (sym c.read_magic.ensures)
+    ∙ c.is_none.ensures ∙ ap not c.if-is_none.false) (c.in_err-read_rest.ensures.err t))
 
 pub returns-clause-ok : goal.returns-clause-ok
 returns-clause-ok g c =

@@ -1,6 +1,7 @@
 use Rattle.cap_io.proofs.BlocksCame.{FrontSays, block_came, front_says, whole_came}
 use Rattle.cap_io.proofs.CapturesCame.{packet-block}
-use Rattle.cap_io.proofs.Common.{rules, IsTrue, [], ◌≡◌, ◌≤◌, ◌++◌, ℕ, List, Some, length, take, drop, refl, sym, ap, ap₂, ◌∙◌, subst, arith, take-take, take-append-drop, append_assoc, length-take-le, section_of, PacketCame, PcapngFile}
+use Rattle.cap_io.proofs.Common.{rules, IsTrue, [], ◌≡◌, ◌≤◌, ◌++◌, ℕ, List, Some, length, take, drop, refl, sym, ap, ap₂, ◌∙◌, subst, arith, take-take}
+use Rattle.cap_io.proofs.Common.{take-append-drop, append_assoc, length-take-le, section_of, PacketCame, PcapngFile}
 use Rattle.cap_io.proofs.Hands.{begins-long, begins-same, lent-first}
 use Rattle.cap_io.specs.declared.file_state.FileState.{FileState}
 use Rattle.std.proofs.lemmas.Bool.{false≢true}
@@ -30,8 +31,10 @@ returns-clause-lent g c = λ is.
     let short : spans.size ≡ size = enters.fits.0 in
     let block : List ℕ = take size held in
     let front : List ℕ = take 12 held in
-    let front_is : c.in-Some.front.now ≡ front = c.in-Some.ensures.cases.same ∙ ap (take 12) same ∙ begins-same held hand 12 lends.stays (omega (arith, least, lends.there)) in
-    let says = subst (λ (l : List ℕ). FrontSays (Some order) l frame) front_is (front_says (Some order) c.in-Some.front.now _ frame c.frame.ensures.answer c.in-Ok.is) in
+    let front_is : c.in-Some.front.now ≡ front = c.in-Some.ensures.cases.same ∙ ap (take 12) same ∙ begins-same held hand 12 lends.stays
+    (omega (arith, least, lends.there)) in
+    let says = subst (λ (l : List ℕ). FrontSays (Some order) l frame) front_is
+    (front_says (Some order) c.in-Some.front.now _ frame c.frame.ensures.answer c.in-Ok.is) in
     let twelve : length front ≡ 12 = length-take-le 12 held (omega (arith, least, there)) in
     let first_12 : take 12 block ≡ front = take-take 12 size held (omega (arith, least)) in
     let joined : front ++ drop 12 block ≡ block = ap (λ (l : List ℕ). l ++ drop 12 block) (sym first_12) ∙ take-append-drop 12 block in
@@ -42,7 +45,14 @@ returns-clause-lent g c = λ is.
     ∙ ap₂ (λ (x y : List ℕ). x ++ y) unit (ap₂ drop (sym lends.is) (sym lends.rest)) in
     let P : List ℕ → Type 0 = λ l. PacketCame (PcapngFile first (section_of order table)) l held spans (PcapngFile first (section_of order table)) left in
     rw c.in-Pcapng.is (record {
-      lies = record { bytes = omega (arith, short, enters.fits.1); options = omega (arith, short, enters.fits.3); there = omega (arith, short, there); some = omega (arith, short, least); small = omega (arith, short, c.in-Ok.ensures.longest); time = enters.fits.2 };
+      lies = record {
+        bytes = omega (arith, short, enters.fits.1);
+        options = omega (arith, short, enters.fits.3);
+        there = omega (arith, short, there);
+        some = omega (arith, short, least);
+        small = omega (arith, short, c.in-Ok.ensures.longest);
+        time = enters.fits.2;
+      };
       known = enters.known;
       fits = omega (arith, short, c.if-size-room.false);
       counted = omega (arith, short, lends.given, lends.is);
@@ -51,8 +61,10 @@ returns-clause-lent g c = λ is.
       sure = lends.sure;
       enough = lends.enough;
       came = λ t. subst P (sym (append_assoc front (drop 12 block) left) ∙ ap (λ (l : List ℕ). l ++ left) joined ∙ sym (splits t))
-          (packet-block (FileState.Pcapng order first) table table [] (front ++ (drop 12 block ++ left)) held left frame.order size spans tt there consistent short refl
-          (block_came (Some (section_of order table)) (Some order) table table (front ++ (drop 12 block ++ left)) left _ held frame (Some spans) refl refl least there came
+          (packet-block (FileState.Pcapng order first) table table [] (front ++ (drop 12 block ++ left)) held left frame.order size spans tt there
+          consistent short refl
+          (block_came (Some (section_of order table)) (Some order) table table (front ++ (drop 12 block ++ left)) left _ held frame (Some spans) refl
+          refl least there came
           (ap (take size) same ∙ unit) enters));
     })
 

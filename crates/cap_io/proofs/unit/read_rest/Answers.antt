@@ -5,7 +5,8 @@ use Rattle.cap_octet.specs.Device.{Takes}
 use Rattle.cap_io.proofs.unit.read_rest.Goals as goal
 
 -- a part of the buffer that is filled has the first bytes that weren't read
-filled : (unread unread' whole filling following : List ℕ) (front part size count : ℕ) → front ≤ size → length whole ≡ size → part ≡ size - front → length (take part (drop front whole)) ≤ count
+filled : (unread unread' whole filling following : List ℕ) (front part size count : ℕ) → front ≤ size → length whole ≡ size → part ≡ size - front
+    → length (take part (drop front whole)) ≤ count
     → Takes unread (take part (drop front whole)) count unread' filling → count ≤ part
     → unread ≡ drop front (take size ((take front whole ++ (filling ++ drop part (drop front whole))) ++ following)) ++ unread'
 filled unread unread' whole filling following front part size count within long part_is full takes least =
@@ -17,7 +18,14 @@ filled unread unread' whole filling following front part size count within long 
     let start : length (take front whole) ≡ front = length-take-le front whole (omega arith) in
     let put : List ℕ = take front whole ++ (filling ++ drop part (drop front whole)) in
     let cut : take size (put ++ following) ≡ take front whole ++ filling =
-    take-append-le size put following (omega (arith, length-append (take front whole) (filling ++ drop part (drop front whole)), length-append filling (drop part (drop front whole)), start, fills))
+    take-append-le size put following
+    (omega (
+      arith,
+      length-append (take front whole) (filling ++ drop part (drop front whole)),
+      length-append filling (drop part (drop front whole)),
+      start,
+      fills,
+    ))
     ∙ take-put_mid front part whole filling size (omega (arith, fills)) (omega arith) in
     let came : drop front (take size (put ++ following)) ≡ filling = ap (drop front) cut ∙ drop_at (take front whole) filling front start in
     sym (take-append-drop count unread) ∙ ap (λ (l : List ℕ). take count unread ++ l) (sym takes.rest) ∙ ap (λ (l : List ℕ). l ++ unread') (sym is ∙ sym came)
@@ -31,8 +39,17 @@ returns-clause-ok g c = λ t.
     let unit : List ℕ = take c.args.size c.args.buffer.now in
     let whole : List ℕ = c.copy_from_slice.new.self ++ drop (length front) unit in
     let size : length whole ≡ c.args.size =
-    omega (arith, length-append c.copy_from_slice.new.self (drop (length front) unit), length-drop (length front) unit, length-take-le c.args.size c.args.buffer.now c.requires.room, ap length c.copy_from_slice.ensures.after, c.requires.whole) in
+    omega (
+      arith,
+      length-append c.copy_from_slice.new.self (drop (length front) unit),
+      length-drop (length front) unit,
+      length-take-le c.args.size
+          c.args.buffer.now c.requires.room,
+      ap length c.copy_from_slice.ensures.after,
+      c.requires.whole,
+    ) in
     let part : length whole - length front ≡ c.args.size - length front = ap (λ n. n - length front) size in
     let taken = (c.in-Ok.ensures.exact t).taken in
     let there = length-take-le (length whole - length front) (drop (length front) whole) (omega (arith, length-drop (length front) whole)) in
-    filled _ _ whole c.read_full.new.buf _ (length front) (length whole - length front) c.args.size c.in-Ok.count c.requires.whole size part c.if-count-room.false taken (omega (arith, there, c.in-Ok.ensures.within))
+    filled _ _ whole c.read_full.new.buf _ (length front) (length whole - length front) c.args.size c.in-Ok.count c.requires.whole size part
+    c.if-count-room.false taken (omega (arith, there, c.in-Ok.ensures.within))

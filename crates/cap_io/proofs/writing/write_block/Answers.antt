@@ -11,13 +11,20 @@ returns-in_err-write_file_start g c =
 pub returns-in_err-map_err : goal.returns-in_err-map_err
 returns-in_err-map_err g c =
     let e = err_from_is_err_and c.from_residual-in_err-map_err.result c.from_residual-in_err-map_err.ensures.1 in
-    let stopped : Appends g.O.Output c.write_file_start.new.output (description_text c.args.interface.is_new (captured c.args.packet.now)) (Err (record {})) c.write_interface.new.output = rw c.if-interface.true (rw c.in_err-map_err.was at (appends-exactly _ _ _ _ c.write_interface.result c.map_err.result c.map_err.ensures.variant c.write_interface.ensures)) in
+    let stopped : Appends g.O.Output c.write_file_start.new.output (description_text c.args.interface.is_new (captured c.args.packet.now))
+    (Err (record {})) c.write_interface.new.output =
+    rw c.if-interface.true (rw c.in_err-map_err.was at (appends-exactly _ _ _ _ c.write_interface.result c.map_err.result
+    c.map_err.ensures.variant c.write_interface.ensures)) in
     rw e.1 (appends-then _ _ _ _ _ _ _ c.in_ok-write_file_start.ensures (appends-stopped _ _ _ _ _ _ stopped))
 
 pub returns : goal.returns
 returns g c =
-    let described : Appends g.O.Output c.write_file_start.new.output (description_text c.args.interface.is_new (captured c.args.packet.now)) (Ok tt) c.if-interface.output = elim c.if-interface.branch [
-      | then-interface+in_ok-map_err w ↦ rw (w.output-is, w.if-interface.true) (rw w.in_ok-map_err.was at (appends-exactly _ _ _ _ w.write_interface.result w.map_err.result w.map_err.ensures.variant w.write_interface.ensures))
+    let described : Appends g.O.Output c.write_file_start.new.output (description_text c.args.interface.is_new (captured c.args.packet.now)) (Ok tt)
+    c.if-interface.output = elim c.if-interface.branch [
+      | then-interface+in_ok-map_err w ↦ rw (w.output-is, w.if-interface.true)
+          (rw w.in_ok-map_err.was at (appends-exactly _ _ _ _ w.write_interface.result w.map_err.result w.map_err.ensures.variant w.write_interface.ensures))
       | else-interface w ↦ rw (w.output-is, w.if-interface.false) (appends-nothing _ _)
     ] in
-    appends-then _ _ _ _ _ _ _ c.in_ok-write_file_start.ensures (appends-then _ _ _ _ _ _ _ described (appends-exactly _ _ _ _ c.write_packet.result c.map_err-2.result c.map_err-2.ensures.variant c.write_packet.ensures))
+    appends-then _ _ _ _ _ _ _ c.in_ok-write_file_start.ensures
+    (appends-then _ _ _ _ _ _ _ described (appends-exactly _ _ _ _ c.write_packet.result c.map_err-2.result c.map_err-2.ensures.variant
+    c.write_packet.ensures))

@@ -10,8 +10,10 @@ loop-count-preserved g c = record {
   failed = search rules;
   told = λ exact. told-again _ _ _ _ _ c.in_ok-n.n _ _ (c.in_ok-n.ensures.exact exact) c.in_ok-n.ensures.counted (c.loop-count.invariant.told exact);
   sure = c.in_ok-n.ensures.sure ∙ c.loop-count.invariant.sure;
-  exact = λ exact. Takes-following _ _ _ _ c.loop-count.count _ c.in_ok-n.n _ _ (c.loop-count.invariant.exact exact) (c.in_ok-n.ensures.exact exact).taken (omega arith) (omega arith);
+  exact = λ exact. Takes-following _ _ _ _ c.loop-count.count _ c.in_ok-n.n _ _ (c.loop-count.invariant.exact exact)
+      (c.in_ok-n.ensures.exact exact).taken (omega arith) (omega arith);
 }
 
 pub returns-then-n-eq0-clause-exact : goal.returns-then-n-eq0-clause-exact
-returns-then-n-eq0-clause-exact g c = λ exact. Takes-nothing _ _ _ _ c.loop-count.count _ c.in_ok-n.n _ _ (c.loop-count.invariant.exact exact) (c.in_ok-n.ensures.exact exact) (omega arith) (omega arith) c.if-n-eq0.true (omega arith)
+returns-then-n-eq0-clause-exact g c = λ exact. Takes-nothing _ _ _ _ c.loop-count.count _ c.in_ok-n.n _ _ (c.loop-count.invariant.exact exact)
+    (c.in_ok-n.ensures.exact exact) (omega arith) (omega arith) c.if-n-eq0.true (omega arith)

@@ -7,5 +7,6 @@ loop-written-preserved g c = record {
   within = search rules;
   failed = search rules;
   room = c.in-Ok.ensures.room ∙ c.loop-written.invariant.room;
-  exact = λ t. written-again _ _ _ _ _ _ _ (c.loop-written.invariant.exact t) (c.in-Ok.ensures.exact t) (omega (arith, length-take {A = ℕ}, c.in-Ok.ensures.within));
+  exact = λ t. written-again _ _ _ _ _ _ _ (c.loop-written.invariant.exact t) (c.in-Ok.ensures.exact t)
+      (omega (arith, length-take {A = ℕ}, c.in-Ok.ensures.within));
 }

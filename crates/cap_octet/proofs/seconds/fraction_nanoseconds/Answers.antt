@@ -10,5 +10,6 @@ returns-in_err-number c =
 
 pub overflow_mul-result : goal.overflow_mul-result
 overflow_mul-result c =
-    let some : decimal_value c.args.text.now ≡ Some c.in_ok-number.number = sym (few_in_u64 c.args.text.now (omega arith)) ∙ sym c.decimal_value.ensures ∙ c.in_ok-number.was in
+    let some : decimal_value c.args.text.now ≡ Some c.in_ok-number.number = sym (few_in_u64 c.args.text.now (omega arith))
+    ∙ sym c.decimal_value.ensures ∙ c.in_ok-number.was in
     rw c.pow.ensures (let small = part_below c.args.text.now c.in_ok-number.number (omega arith) some in omega arith)

@@ -5,7 +5,8 @@ use Rattle.cap_pcapng.proofs.effect.block_effect.Goals as goal
 pub enhanced_packet_spans-requires : goal.enhanced_packet_spans-requires
 enhanced_packet_spans-requires g c =
     let e = c.in-Ok-Enhanced.ensures in
-    enhanced_room c.args.frame.now c.args.bytes.now c.in-Ok-Enhanced.block c.requires.whole c.requires.shortest (sym (ap parts_of c.in-Ok-Enhanced.field-0-is) ∙ e.parts) e.passes
+    enhanced_room c.args.frame.now c.args.bytes.now c.in-Ok-Enhanced.block c.requires.whole c.requires.shortest
+    (sym (ap parts_of c.in-Ok-Enhanced.field-0-is) ∙ e.parts) e.passes
 
 pub returns-in-Ok-clause-ok : goal.returns-in-Ok-clause-ok
 returns-in-Ok-clause-ok g c =
@@ -33,4 +34,5 @@ pub returns-in-Err-clause-err : goal.returns-in-Err-clause-err
 returns-in-Err-clause-err g c =
     let P : Fault → Type 0 = λ fault. IsBlockFault c.args.frame.now (g.T.Interfaces.list c.args.table.now) c.args.bytes.now fault in
     subst P (sym c.fault_in_full_table.ensures)
-    (refused_by_itself c.args.frame.now (g.T.Interfaces.list c.args.table.now) c.args.bytes.now c.in-Err.fault c.requires.whole c.requires.shortest c.in-Err.ensures.refused)
+    (refused_by_itself c.args.frame.now (g.T.Interfaces.list c.args.table.now) c.args.bytes.now c.in-Err.fault c.requires.whole c.requires.shortest
+    c.in-Err.ensures.refused)

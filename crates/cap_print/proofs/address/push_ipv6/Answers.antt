@@ -6,7 +6,8 @@ pub loop-i-preserved : goal.loop-i-preserved
 loop-i-preserved c = record {
   bound = omega (arith, ap length c.push.ensures, length-append c.loop-i.text (58 ∷ []));
   value =
-      rw (add-one c.loop-i.i, c.push_hex_group-in-loop-i.ensures.value, c.network_u16-in-loop-i.ensures, c.push.ensures, c.loop-i.invariant.value) (simp append_assoc);
+      rw (add-one c.loop-i.i, c.push_hex_group-in-loop-i.ensures.value, c.network_u16-in-loop-i.ensures, c.push.ensures, c.loop-i.invariant.value)
+      (simp append_assoc);
 }
 
 pub returns-clause-value : goal.returns-clause-value

@@ -14,9 +14,28 @@ pub returns : goal.returns
 unfolding row
 returns c =
     let start = 16 * c.args.index in
-    rw (c.push-2.ensures, c.push_pairs.ensures.value, c.push.ensures, c.push_hex_place.ensures.value, c.push_all.ensures, c.clear.ensures, c.min-end.ensures, take_rest c.args.bytes.now start, take-fewest 16 (drop start c.args.bytes.now))
+    rw (
+      c.push-2.ensures,
+      c.push_pairs.ensures.value,
+      c.push.ensures,
+      c.push_hex_place.ensures.value,
+      c.push_all.ensures,
+      c.clear.ensures,
+      c.min-end.ensures,
+      take_rest c.args.bytes.now start,
+      take-fewest 16 (drop start c.args.bytes.now),
+    )
     (ap (λ (following : List ℕ). 9 ∷ (48 ∷ (120 ∷ following))) (joined (hex_place start) (pairs (take 16 (drop start c.args.bytes.now)))))
 
 pub push_pairs-requires : goal.push_pairs-requires
 push_pairs-requires c =
-    omega (arith, length-take {A = ℕ}, c.min-end.ensures, c.push_hex_place.ensures.bound, ap length c.push.ensures, ap length c.push_all.ensures, ap length c.clear.ensures, length-append {A = ℕ})
+    omega (
+      arith,
+      length-take {A = ℕ},
+      c.min-end.ensures,
+      c.push_hex_place.ensures.bound,
+      ap length c.push.ensures,
+      ap length c.push_all.ensures,
+      ap length c.clear.ensures,
+      length-append {A = ℕ},
+    )

@@ -7,4 +7,5 @@ pub returns-in_default-clause-exact : goal.returns-in_default-clause-exact
 returns-in_default-clause-exact g c = λ tells.
     let row_is = c.as_slice.ensures ∙ c.write_row.ensures in
     rw (rows-among c.args.bytes.now c.loop-index.index _ (rw c.row_count-count.ensures at c.loop-index-test.true))
-    (stops-part _ _ _ _ _ _ c.in_default.field-0 (c.loop-index.invariant.exact tells) (rw row_is at c.in_default.ensures.front) (rw row_is at (c.in_default.ensures.exact tells)))
+    (stops-part _ _ _ _ _ _ c.in_default.field-0 (c.loop-index.invariant.exact tells) (rw row_is at c.in_default.ensures.front)
+    (rw row_is at (c.in_default.ensures.exact tells)))

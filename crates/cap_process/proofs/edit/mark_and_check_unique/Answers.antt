@@ -1,4 +1,5 @@
-use Rattle.cap_process.proofs.Common.{Option, None, not, Ok, subst, sym, Captured, captured, WindowView, unique, marks_in, state_of, IsWindowFor, ReturnsVerdict}
+use Rattle.cap_process.proofs.Common.{Option, None, not, Ok, subst, sym, Captured, captured, WindowView, unique, marks_in, state_of, IsWindowFor}
+use Rattle.cap_process.proofs.Common.{ReturnsVerdict}
 use Rattle.cap_process.proofs.Selectors.{unique-keeps}
 use Rattle.cap_process.proofs.edit.mark_and_check_unique.Goals as goal
 
@@ -7,5 +8,7 @@ returns-in-Some-clause-exact g c = λ n passed tally is.
     let w : WindowView = c.in-Some.window in
     let p : Captured = captured c.args.packet.now in
     let P : Option WindowView → Type 0 = λ o. IsWindowFor n o in
-    let K : Option WindowView → Type 0 = λ o. ReturnsVerdict None (unique n (state_of passed (marks_in o) tally) p) (Ok (not c.seen_before.result)) p (state_of passed c.seen_before.new.self.marks tally) in
-    subst K (sym c.in-Some.is) (unique-keeps n w c.seen_before.new.self passed tally p c.seen_before.result (subst P c.in-Some.is is) c.seen_before.ensures.answer c.seen_before.ensures.window)
+    let K : Option WindowView → Type 0 = λ o. ReturnsVerdict None (unique n (state_of passed (marks_in o) tally) p) (Ok (not c.seen_before.result)) p
+    (state_of passed c.seen_before.new.self.marks tally) in
+    subst K (sym c.in-Some.is) (unique-keeps n w c.seen_before.new.self passed tally p c.seen_before.result (subst P c.in-Some.is is)
+    c.seen_before.ensures.answer c.seen_before.ensures.window)

@@ -1,4 +1,5 @@
-use Rattle.cap_process.proofs.Common.{◌≡◌, ◌==◌, ◌∙◌, ℕ, zero, suc, true, false, ◌-◌, ◌<◌, sym, ap, refl, arith, length, not, length-set, get_or_from_slice_get, option_copied, mark_bit, links_at, mark_at}
+use Rattle.cap_process.proofs.Common.{◌≡◌, ◌==◌, ◌∙◌, ℕ, zero, suc, true, false, ◌-◌, ◌<◌, sym, ap, refl, arith, length, not, length-set, get_or_from_slice_get}
+use Rattle.cap_process.proofs.Common.{option_copied, mark_bit, links_at, mark_at}
 use Rattle.cap_process.proofs.Trees.{after_links, placing_end, placing_equal, placing_next, step_at}
 use Rattle.cap_process.proofs.links.place_newest.Goals as goal
 
@@ -52,7 +53,8 @@ loop-step-preserved g c =
           (placing_next (c.loop-step.invariant.placing mask hung) c.with_link.result bit (omega arith) (omega arith) (omega arith)
           (c.mark_bit-bit.ensures ∙ ap (λ m. mark_bit m c.loop-step.depth) (sym below))
           c.with_link.ensures.bit
-          (c.with_link.ensures.other ∙ rw under (after_links c.unwrap.result.now c.plus_step-in-loop-step.result c.loop-step.step c.plus_step-in-loop-step.ensures.zeros c.plus_step-in-loop-step.ensures.ones (not bit)))));
+          (c.with_link.ensures.other ∙ rw under (after_links c.unwrap.result.now c.plus_step-in-loop-step.result c.loop-step.step
+          c.plus_step-in-loop-step.ensures.zeros c.plus_step-in-loop-step.ensures.ones (not bit)))));
     }
 
 pub loop-step-smaller : goal.loop-step-smaller

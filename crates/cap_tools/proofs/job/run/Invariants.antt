@@ -6,7 +6,8 @@ abbrev pub invariant-loop-status : goal.invariant-loop-status
 invariant-loop-status g l = record {
   undone : l.initial.job.done ≡ None → l.job.done ≡ None;
   room : room_by l.job.state ≡ room_by l.initial.job.state;
-  exact : IsTrue g.I.Input.tells → IsTrue g.O.Output.tells → (asked : Assignment) (call : Call) → l.initial.job ≡ first_job asked call → Begun asked call → Under asked call l.job;
+  exact : IsTrue g.I.Input.tells → IsTrue g.O.Output.tells → (asked : Assignment) (call : Call) → l.initial.job ≡ first_job asked call
+      → Begun asked call → Under asked call l.job;
 }
 
 abbrev pub decreases-loop-status : goal.decreases-loop-status

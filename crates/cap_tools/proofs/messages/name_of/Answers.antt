@@ -1,7 +1,9 @@
-use Rattle.cap_tools.proofs.Common.{◌≡◌, ◌∙◌, ℕ, List, [], map, Option, None, Some, String, string_bytes, refl, sym, ap, slice_get-map, slice_get_past, slice_get_read, slice_get, option_map, unwrap_or, name_at}
+use Rattle.cap_tools.proofs.Common.{◌≡◌, ◌∙◌, ℕ, List, [], map, Option, None, Some, String, string_bytes, refl, sym, ap, slice_get-map, slice_get_past}
+use Rattle.cap_tools.proofs.Common.{slice_get_read, slice_get, option_map, unwrap_or, name_at}
 use Rattle.cap_tools.proofs.messages.name_of.Goals as goal
 
-named : {Z : Type 0} (names l : List (String Z)) (i : ℕ) (o : Option (String Z)) → l ≡ names → slice_get l i ≡ o → name_at (map string_bytes names) i ≡ unwrap_or (option_map string_bytes o) []
+named : {Z : Type 0} (names l : List (String Z)) (i : ℕ) (o : Option (String Z)) → l ≡ names → slice_get l i ≡ o → name_at (map string_bytes names)
+    i ≡ unwrap_or (option_map string_bytes o) []
 named names l i o same is = rw (← same) (ap (λ (b : Option (List ℕ)). unwrap_or b []) (slice_get-map string_bytes l i ∙ ap (option_map string_bytes) is))
 
 pub returns-in-Some : goal.returns-in-Some

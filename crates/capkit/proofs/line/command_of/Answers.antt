@@ -15,7 +15,8 @@ asks c =
     c.in-Some.ensures.name c.in-Some.ensures.rows (sym c.subcommand_of_name.ensures)
 
 pub returns-clause-line : goal.returns-clause-line
-returns-clause-line c = says_line _ c.subcommand_of_name.result _ c.line_of_matches.result (asks c) c.line_of_matches.ensures.line c.line_of_matches.ensures.faultless
+returns-clause-line c = says_line _ c.subcommand_of_name.result _ c.line_of_matches.result (asks c) c.line_of_matches.ensures.line
+    c.line_of_matches.ensures.faultless
 
 pub returns-clause-usage : goal.returns-clause-usage
 returns-clause-usage c = says_fault _ c.subcommand_of_name.result _ c.line_of_matches.result (asks c) c.line_of_matches.ensures.fault

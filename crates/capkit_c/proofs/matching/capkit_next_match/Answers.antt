@@ -8,14 +8,17 @@ search-init c = record { goes = at_first; known = tt }
 
 pub search-smaller : goal.search-smaller
 search-smaller c =
-    step_smaller c.args.insns.now c.args.link_type c.args.capture.now c.search.reader c.search_step.new.reader c.search.interfaces c.search_step.new.table c.search.packet c.search_step.new.packet
-    (went_on c.args.insns.now c.args.link_type c.args.capture.now c.search.reader c.search_step.new.reader c.search.interfaces c.search_step.new.table c.search.packet c.search_step.new.packet c.search_step.result
+    step_smaller c.args.insns.now c.args.link_type c.args.capture.now c.search.reader c.search_step.new.reader c.search.interfaces
+    c.search_step.new.table c.search.packet c.search_step.new.packet
+    (went_on c.args.insns.now c.args.link_type c.args.capture.now c.search.reader c.search_step.new.reader c.search.interfaces c.search_step.new.table
+    c.search.packet c.search_step.new.packet c.search_step.result
     c.in-More.steps c.search_step.ensures c.in-More.is)
 
 pub search-preserved : goal.search-preserved
 search-preserved c = record {
   goes = one_more c.search.invariant.goes
-      (went_on c.args.insns.now c.args.link_type c.args.capture.now c.search.reader c.search_step.new.reader c.search.interfaces c.search_step.new.table c.search.packet c.search_step.new.packet c.search_step.result
+      (went_on c.args.insns.now c.args.link_type c.args.capture.now c.search.reader c.search_step.new.reader c.search.interfaces
+      c.search_step.new.table c.search.packet c.search_step.new.packet c.search_step.result
       c.in-More.steps c.search_step.ensures c.in-More.is);
   known = c.after-known.ensures;
 }

@@ -5,13 +5,16 @@ use Rattle.capkit_c.proofs.matching.search_step.Goals as goal
 
 pub returns-in-Unit : goal.returns-in-Unit
 returns-in-Unit c =
-    unit_step c.args.insns.now c.args.link_type c.args.capture.now c.args.reader.now c.next_unit.new.reader c.args.table.now c.next_unit.new.table c.args.packet.now c.next_unit.new.packet c.next_unit.result
+    unit_step c.args.insns.now c.args.link_type c.args.capture.now c.args.reader.now c.next_unit.new.reader c.args.table.now c.next_unit.new.table
+    c.args.packet.now c.next_unit.new.packet c.next_unit.result
     c.next_unit.ensures.left c.in-Unit.is
 
 pub returns-in-Packet : goal.returns-in-Packet
 returns-in-Packet c =
-    packet_step c.args.insns.now c.args.link_type c.args.capture.now c.args.reader.now c.next_unit.new.reader c.args.table.now c.next_unit.new.table c.args.packet.now c.next_unit.new.packet c.next_unit.result c.judge.result
+    packet_step c.args.insns.now c.args.link_type c.args.capture.now c.args.reader.now c.next_unit.new.reader c.args.table.now c.next_unit.new.table
+    c.args.packet.now c.next_unit.new.packet c.next_unit.result c.judge.result
     c.next_unit.ensures.left c.in-Packet.is c.judge.ensures
 
 pub returns-in_default : goal.returns-in_default
-returns-in_default c = at_stop c.next_unit.result c.next_unit.ensures.left (stop c.next_unit.result c.in_default.not-Unit c.in_default.not-Packet) c.found_number.ensures
+returns-in_default c = at_stop c.next_unit.result c.next_unit.ensures.left (stop c.next_unit.result c.in_default.not-Unit c.in_default.not-Packet)
+    c.found_number.ensures

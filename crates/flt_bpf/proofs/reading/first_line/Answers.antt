@@ -5,4 +5,5 @@ use Rattle.flt_bpf.proofs.reading.first_line.Goals as goal
 
 pub returns-in-Some : goal.returns-in-Some
 returns-in-Some c =
-    line_more c.args.text.now c.split_at_first-cut.result.piece.now c.in-Some.rest.now (c.split_at_first-cut.ensures.pieces ∙ ap (λ r. c.split_at_first-cut.result.piece.now ∷ pieces_after LINE_FEED r) c.in-Some.is)
+    line_more c.args.text.now c.split_at_first-cut.result.piece.now c.in-Some.rest.now (c.split_at_first-cut.ensures.pieces
+    ∙ ap (λ r. c.split_at_first-cut.result.piece.now ∷ pieces_after LINE_FEED r) c.in-Some.is)

@@ -15,7 +15,8 @@ returns-in-None-clause-wrong g c =
 
 pub loop-at-preserved : goal.loop-at-preserved
 loop-at-preserved g c =
-    read_more c.in-Some.insn c.loop-at.invariant c.loop-at-test.true c.first_line-first.ensures (sym c.insn_on_line.ensures ∙ c.in-Some.is) c.in-Ok.ensures.items
+    read_more c.in-Some.insn c.loop-at.invariant c.loop-at-test.true c.first_line-first.ensures (sym c.insn_on_line.ensures ∙ c.in-Some.is)
+    c.in-Ok.ensures.items
 
 pub returns-then-is_empty-2-clause-insns : goal.returns-then-is_empty-2-clause-insns
 returns-then-is_empty-2-clause-insns g c = read_all c.loop-at.rest.now c.loop-at.invariant (omega arith) (search rules)

@@ -5,4 +5,5 @@ use Rattle.flt_bpf.proofs.reading.only_number.Goals as goal
 
 pub returns-in-Some : goal.returns-in-Some
 returns-in-Some c =
-    sym (blank_not_only c.args.line.now c.split_at_first-cut.result.piece.now c.in-Some.field-0.now (c.split_at_first-cut.ensures.pieces ∙ ap (λ r. c.split_at_first-cut.result.piece.now ∷ pieces_after BLANK r) c.in-Some.is))
+    sym (blank_not_only c.args.line.now c.split_at_first-cut.result.piece.now c.in-Some.field-0.now (c.split_at_first-cut.ensures.pieces
+    ∙ ap (λ r. c.split_at_first-cut.result.piece.now ∷ pieces_after BLANK r) c.in-Some.is))

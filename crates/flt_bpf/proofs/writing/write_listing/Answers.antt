@@ -12,25 +12,39 @@ put_number-start-requires-clause-room g c =
 
 pub returns-in-Err-clause-front : goal.returns-in-Err-clause-front
 returns-in-Err-clause-front g c =
-    rw (← c.insns-insns.ensures.insns) (stopped_front c.insns-insns.result.now c.loop-insn.insn-index _ c.loop-insn.written c.in-Err.stopped.written _ c.loop-insn-test.true (line_bytes c.put_insn_line-start.new.line c.put_insn_line-start.result c.put_insn_line-start.array_long ∙ c.put_insn_line-start.ensures.written) c.in-Err.ensures.front c.loop-insn.invariant.size)
+    rw (← c.insns-insns.ensures.insns) (stopped_front c.insns-insns.result.now c.loop-insn.insn-index _ c.loop-insn.written c.in-Err.stopped.written _
+    c.loop-insn-test.true (line_bytes c.put_insn_line-start.new.line c.put_insn_line-start.result c.put_insn_line-start.array_long
+    ∙ c.put_insn_line-start.ensures.written) c.in-Err.ensures.front c.loop-insn.invariant.size)
 
 pub returns-in-Err-clause-exact : goal.returns-in-Err-clause-exact
 returns-in-Err-clause-exact g c =
-    λ tells. rw (← c.insns-insns.ensures.insns) (stopped_told _ _ _ c.insns-insns.result.now c.loop-insn.insn-index _ c.loop-insn.written c.in-Err.stopped.written _ c.loop-insn-test.true (line_bytes c.put_insn_line-start.new.line c.put_insn_line-start.result c.put_insn_line-start.array_long ∙ c.put_insn_line-start.ensures.written) c.in-Err.ensures.front c.loop-insn.invariant.size (c.loop-insn.invariant.exact tells) (c.in-Err.ensures.exact tells))
+    λ tells. rw (← c.insns-insns.ensures.insns) (stopped_told _ _ _ c.insns-insns.result.now c.loop-insn.insn-index _ c.loop-insn.written
+    c.in-Err.stopped.written _ c.loop-insn-test.true (line_bytes c.put_insn_line-start.new.line c.put_insn_line-start.result
+    c.put_insn_line-start.array_long ∙ c.put_insn_line-start.ensures.written) c.in-Err.ensures.front c.loop-insn.invariant.size
+    (c.loop-insn.invariant.exact tells) (c.in-Err.ensures.exact tells))
 
 pub loop-insn-preserved : goal.loop-insn-preserved
 loop-insn-preserved g c =
-    let bytes = line_bytes c.put_insn_line-start.new.line c.put_insn_line-start.result c.put_insn_line-start.array_long ∙ c.put_insn_line-start.ensures.written in
+    let bytes = line_bytes c.put_insn_line-start.new.line c.put_insn_line-start.result c.put_insn_line-start.array_long
+    ∙ c.put_insn_line-start.ensures.written in
     record {
       bounded = omega arith;
-      size = more_size c.insns-insns.result.now c.loop-insn.insn-index _ c.loop-insn.written c.put_insn_line-start.result c.put_insn_line-start.new.line c.loop-insn-test.true c.put_insn_line-start.array_long bytes c.loop-insn.invariant.size;
+      size = more_size c.insns-insns.result.now c.loop-insn.insn-index _ c.loop-insn.written c.put_insn_line-start.result
+          c.put_insn_line-start.new.line c.loop-insn-test.true c.put_insn_line-start.array_long bytes c.loop-insn.invariant.size;
       failed = search rules;
       room = search rules;
-      exact = λ tells. more_told _ _ _ c.insns-insns.result.now c.loop-insn.insn-index _ _ c.loop-insn-test.true bytes (c.loop-insn.invariant.exact tells) (c.in_default.ensures.exact tells);
+      exact = λ tells. more_told _ _ _ c.insns-insns.result.now c.loop-insn.insn-index _ _ c.loop-insn-test.true bytes
+          (c.loop-insn.invariant.exact tells) (c.in_default.ensures.exact tells);
     }
 
 pub loop-insn-init : goal.loop-insn-init
-loop-insn-init g c = record { bounded = omega arith; size = grind (arith, common_steps); failed = grind arith; room = c.in_ok-write_all.ensures.room; exact = λ tells. let told = c.in_ok-write_all.ensures.exact tells in grind (arith, common_steps) }
+loop-insn-init g c = record {
+  bounded = omega arith;
+  size = grind (arith, common_steps);
+  failed = grind arith;
+  room = c.in_ok-write_all.ensures.room;
+  exact = λ tells. let told = c.in_ok-write_all.ensures.exact tells in grind (arith, common_steps);
+}
 
 pub overflow_add-result : goal.overflow_add-result
 overflow_add-result g c = let short = (parts c.insns-insns.result.now c.insns-insns.ensures.valid).short in grind arith

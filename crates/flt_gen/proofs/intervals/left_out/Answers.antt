@@ -6,7 +6,8 @@ use Rattle.flt_gen.specs.declared.elementary.Interval.{Interval}
 use Rattle.flt_gen.specs.inside.Intervals.{idle_bits, is_block, left_out}
 use Rattle.flt_gen.proofs.intervals.left_out.Goals as goal
 
-by_count : (b t : Bool) (first : Interval) (is : List Interval) (n k : ℕ) → n ≡ idle_bits 31 first is → k ≡ count_by (is_block n) is → b ≡ true → nat_lt 1 k ≡ t → (if t then n else 0) ≡ left_out b first is
+by_count : (b t : Bool) (first : Interval) (is : List Interval) (n k : ℕ) → n ≡ idle_bits 31 first is → k ≡ count_by (is_block n) is → b ≡ true
+    → nat_lt 1 k ≡ t → (if t then n else 0) ≡ left_out b first is
 by_count b t first is n k e f some many =
     sym (ap (λ c. if c && nat_lt 1 k then n else 0) some ∙ ap (λ c. if c then n else 0) many)
     ∙ ap (λ j. if b && nat_lt 1 j then n else 0) f ∙ ap (λ m. if b && nat_lt 1 (count_by (is_block m) is) then m else 0) e

@@ -9,7 +9,8 @@ into_expr-requires g c = found_is_tree (kinds_of c.args.tokens.now) c.read.new.s
 
 pub returns-clause-ok : goal.returns-clause-ok
 returns-clause-ok g c =
-    subst (IsReadAs (kinds_of c.args.tokens.now)) (sym c.into_expr.ensures) (found_reads (kinds_of c.args.tokens.now) c.read.new.self.nodes c.in_ok-read.ensures.reads.ok)
+    subst (IsReadAs (kinds_of c.args.tokens.now)) (sym c.into_expr.ensures) (found_reads (kinds_of c.args.tokens.now) c.read.new.self.nodes
+    c.in_ok-read.ensures.reads.ok)
 
 pub returns-in_err-read-clause-none : goal.returns-in_err-read-clause-none
 returns-in_err-read-clause-none g c = grind (arith, common_steps, no_tree)

@@ -7,20 +7,26 @@ use Rattle.flt_lang.proofs.resolving.resolve.Goals as goal
 
 pub returns-in-Some-clause-err : goal.returns-in-Some-clause-err
 returns-in-Some-clause-err g c =
-    sym (found_fault c.expr.inside.nodes.items c.inherit_qualifiers.new.nodes.items c.args.expr c.expr.invariant c.expr.view_is c.inherit_qualifiers.ensures) ∙ ap nodes_fault (sym c.deref.ensures.value) ∙ sym c.nodes_fault.ensures ∙ c.in-Some.is
+    sym (found_fault c.expr.inside.nodes.items c.inherit_qualifiers.new.nodes.items c.args.expr c.expr.invariant c.expr.view_is
+    c.inherit_qualifiers.ensures) ∙ ap nodes_fault (sym c.deref.ensures.value) ∙ sym c.nodes_fault.ensures ∙ c.in-Some.is
 
 tree_left : (g : given.Over) (c : After-complete_qualifiers g) → tree_of c.complete_qualifiers.new.nodes.items ≡ fill_expression c.args.expr
 tree_left g c =
-    let nodes = filled_whole c.expr.inside.nodes.items c.inherit_qualifiers.new.nodes.items c.complete_qualifiers.new.nodes.items c.expr.invariant c.inherit_qualifiers.ensures c.complete_qualifiers.ensures in
+    let nodes = filled_whole c.expr.inside.nodes.items c.inherit_qualifiers.new.nodes.items c.complete_qualifiers.new.nodes.items c.expr.invariant
+    c.inherit_qualifiers.ensures c.complete_qualifiers.ensures in
     tree_is _ _ nodes ∙ ap fill_expression c.expr.view_is
 
 pub invariant_of-result : goal.invariant_of-result
-invariant_of-result g c = nodes_are_tree (fill_expression (tree_of c.expr.inside.nodes.items)) c.complete_qualifiers.new.nodes.items (filled_whole c.expr.inside.nodes.items c.inherit_qualifiers.new.nodes.items c.complete_qualifiers.new.nodes.items c.expr.invariant c.inherit_qualifiers.ensures c.complete_qualifiers.ensures)
+invariant_of-result g c = nodes_are_tree (fill_expression (tree_of c.expr.inside.nodes.items)) c.complete_qualifiers.new.nodes.items
+    (filled_whole c.expr.inside.nodes.items c.inherit_qualifiers.new.nodes.items c.complete_qualifiers.new.nodes.items c.expr.invariant
+    c.inherit_qualifiers.ensures c.complete_qualifiers.ensures)
 
 pub returns : goal.returns
 returns g c =
     let tree = tree_left g c in
-    let faultless : fill_fault c.args.expr ≡ None = sym (found_fault c.expr.inside.nodes.items c.inherit_qualifiers.new.nodes.items c.args.expr c.expr.invariant c.expr.view_is c.inherit_qualifiers.ensures) ∙ ap nodes_fault (sym c.deref.ensures.value) ∙ sym c.nodes_fault.ensures ∙ c.in_default.is in
+    let faultless : fill_fault c.args.expr ≡ None = sym (found_fault c.expr.inside.nodes.items c.inherit_qualifiers.new.nodes.items c.args.expr
+    c.expr.invariant c.expr.view_is c.inherit_qualifiers.ensures) ∙ ap nodes_fault (sym c.deref.ensures.value) ∙ sym c.nodes_fault.ensures
+    ∙ c.in_default.is in
     record {
       ok = tree;
       fits = faultless;

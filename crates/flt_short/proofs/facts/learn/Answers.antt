@@ -19,5 +19,6 @@ pub returns-in-Field-masked_held : goal.returns-in-Field-masked_held
 returns-in-Field-masked_held c =
     let f = c.in-Field-masked_held.field in
     let o : operation_of c.args.insn.code ≡ Some (JumpIf Test.AnyBit Constant) = grind (arith, common_steps) in
-    let is : masked_held c.args.known.now.held c.args.insn.k ≡ held.Field f = ap (λ (i : Insn). masked_held c.args.known.now.held i.k) (sym c.insn.view_is) ∙ sym c.masked_held.ensures ∙ c.in-Field-masked_held.is in
+    let is : masked_held c.args.known.now.held c.args.insn.k ≡ held.Field f = ap (λ (i : Insn). masked_held c.args.known.now.held i.k)
+    (sym c.insn.view_is) ∙ sym c.masked_held.ensures ∙ c.in-Field-masked_held.is in
     learns_bits c.args.known.now c.args.insn f c.args.outcome c.learn_equal-in-Field-masked_held.new.known o is c.learn_equal-in-Field-masked_held.ensures

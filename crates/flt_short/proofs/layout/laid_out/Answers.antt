@@ -9,4 +9,13 @@ pub returns : goal.returns
 returns g c =
     let wide = c.args.wide.now in
     let same : c.into_insns.result.items ≡ laid_out wide = c.into_insns.ensures ∙ ap (λ l. l.code) c.in_ok-of_wide.ensures in
-    rw same (record { answers = λ p n. same_answers wide p n _; at_least = at_least wide; at_most = at_most wide; jumps = laid_needed wide; short = short_stays wide; faultless = sound_laid wide; valid = λ h. valid_if_short _ (sound_laid wide h) })
+    rw same (record {
+      answers = λ p n. same_answers wide p n _;
+      at_least = at_least wide;
+      at_most = at_most wide;
+      jumps = laid_needed wide;
+      short =
+          short_stays wide;
+      faultless = sound_laid wide;
+      valid = λ h. valid_if_short _ (sound_laid wide h);
+    })

@@ -12,7 +12,8 @@ loop-at-preserved c =
     let here = rw (take_rest insns (at + 1), c.index-insns-at.is) at c.thread_insn-insn.ensures in
     record {
       shape = omega (arith, length-set insns at c.thread_insn-insn.result);
-      so_far = threaded_more c.arrive.new.seen c.args.insns.now c.loop-at.seen seen c.known_at-here.result insns at c.index-insns-at.result c.thread_insn-insn.result (omega arith) c.loop-at.invariant.so_far c.known_at-here.ensures here;
+      so_far = threaded_more c.arrive.new.seen c.args.insns.now c.loop-at.seen seen c.known_at-here.result insns at c.index-insns-at.result
+          c.thread_insn-insn.result (omega arith) c.loop-at.invariant.so_far c.known_at-here.ensures here;
     }
 
 pub returns : goal.returns

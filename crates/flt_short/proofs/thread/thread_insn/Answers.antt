@@ -9,7 +9,8 @@ returns-in_default-decode c = rw (← c.insn.view_is) (unknown_threaded _ _ _ _ 
 
 pub returns-then-goes_on_or_rejects : goal.returns-then-goes_on_or_rejects
 returns-then-goes_on_or_rejects c =
-    let o : operation_of c.args.insn.code ≡ Some c.in-Some.operation = ap (λ (i : Insn). operation_of i.code) (sym c.insn.view_is) ∙ sym c.decode.ensures ∙ c.in-Some.is in
+    let o : operation_of c.args.insn.code ≡ Some c.in-Some.operation = ap (λ (i : Insn). operation_of i.code) (sym c.insn.view_is)
+    ∙ sym c.decode.ensures ∙ c.in-Some.is in
     plain_threaded _ _ _ _ _ _ _ o (sym c.goes_on_or_rejects.ensures ∙ c.if-goes_on_or_rejects.true) (rw (rw o at c.pass_insn.ensures) at c.arrive.ensures)
 
 pub returns-in-JumpIf : goal.returns-in-JumpIf
@@ -21,9 +22,11 @@ returns-in-JumpIf c =
     let a = c.threaded_offset.result in
     let b = c.threaded_offset-in-JumpIf.result in
     let seen = c.arrive-in-JumpIf-2.new.seen in
-    let o : operation_of c.args.insn.code ≡ Some (JumpIf c.in-JumpIf.field-0 c.in-JumpIf.field-1) = ap (λ (i : Insn). operation_of i.code) (sym c.insn.view_is) ∙ sym c.decode.ensures ∙ c.in-Some.is ∙ ap Some c.in-JumpIf.is in
+    let o : operation_of c.args.insn.code ≡ Some (JumpIf c.in-JumpIf.field-0 c.in-JumpIf.field-1) = ap (λ (i : Insn). operation_of i.code)
+    (sym c.insn.view_is) ∙ sym c.decode.ensures ∙ c.in-Some.is ∙ ap Some c.in-JumpIf.is in
     subst (λ (i : Insn). IsThreaded c.args.from c.args.here.now c.args.insn following (record i { jt = a; jf = b }) c.args.seen.now seen) (sym view)
-    (test_threaded c.args.from c.args.here.now c.args.insn following hit miss c.args.seen.now c.arrive-in-JumpIf.new.seen seen a b c.in-JumpIf.field-0 c.in-JumpIf.field-1 o
+    (test_threaded c.args.from c.args.here.now c.args.insn following hit miss c.args.seen.now c.arrive-in-JumpIf.new.seen seen a b c.in-JumpIf.field-0
+    c.in-JumpIf.field-1 o
     c.learn.ensures c.learn-in-JumpIf.ensures
     (subst (λ (i : Insn). Moves hit following i.jt a) view c.threaded_offset.ensures)
     (subst (λ (i : Insn). Moves miss following i.jf b) view c.threaded_offset-in-JumpIf.ensures)

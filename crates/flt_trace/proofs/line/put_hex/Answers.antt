@@ -25,10 +25,12 @@ loop-rest-preserved c =
       inside = omega (arith, inv.inside);
       eight = length-set c.loop-rest.digits c.loop-rest.start _ ∙ inv.eight;
       small = rw back (fewer c.loop-rest.start c.loop-rest.rest inv.small);
-      value = put_more c.loop-rest.start c.loop-rest.rest _ c.loop-rest.digits (omega (arith, inv.inside, inv.eight)) room c.loop-rest-test.true c.hex_digit.ensures ∙ inv.value;
+      value = put_more c.loop-rest.start c.loop-rest.rest _ c.loop-rest.digits (omega (arith, inv.inside, inv.eight)) room c.loop-rest-test.true
+          c.hex_digit.ensures ∙ inv.value;
     }
 
 pub returns-clause-value : goal.returns-clause-value
 returns-clause-value c =
     let inv = c.loop-rest.invariant in
-    put_last c.loop-rest.start c.loop-rest.rest _ c.loop-rest.digits (omega (arith, inv.inside, inv.eight)) c.loop-rest-test.false c.hex_digit-2.ensures ∙ inv.value
+    put_last c.loop-rest.start c.loop-rest.rest _ c.loop-rest.digits (omega (arith, inv.inside, inv.eight)) c.loop-rest-test.false
+    c.hex_digit-2.ensures ∙ inv.value

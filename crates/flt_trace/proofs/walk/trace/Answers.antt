@@ -19,11 +19,14 @@ returns-in-End c =
     let at = c.places.invariant.standing in
     let written = written_more _ _ _ _ _ _ _ c.places.count c.places.invariant.written at.here c.put_step.ensures in
     let there = slice_get-get_or c.args.insns.now c.places.place _ at.inside in
-    standing_last _ _ _ _ _ c.places.place c.places.state c.places.count c.in-End.answer _ at written there (c.execute.ensures ∙ ap (λ t. reach_next t c.execute.new.state) c.in-End.is)
+    standing_last _ _ _ _ _ c.places.place c.places.state c.places.count c.in-End.answer _ at written there
+    (c.execute.ensures ∙ ap (λ t. reach_next t c.execute.new.state) c.in-End.is)
 
 inside : (c : In-Further) → c.places.place + 1 + c.in-Further.further < length c.args.insns.now
 inside c =
-    goes_inside c.args.insns.now c.places.place _ c.args.packet.now c.args.len c.places.state c.execute.new.state c.in-Further.further c.requires (slice_get-get_or c.args.insns.now c.places.place _ c.places.invariant.standing.inside) (c.execute.ensures ∙ ap (λ t. reach_next t c.execute.new.state) c.in-Further.is)
+    goes_inside c.args.insns.now c.places.place _ c.args.packet.now c.args.len c.places.state c.execute.new.state c.in-Further.further c.requires
+    (slice_get-get_or c.args.insns.now c.places.place _ c.places.invariant.standing.inside)
+    (c.execute.ensures ∙ ap (λ t. reach_next t c.execute.new.state) c.in-Further.is)
 
 pub overflow_add-place : goal.overflow_add-place
 overflow_add-place c = let few = (parts c.args.insns.now c.requires).short in let on = inside (goal.at.overflow_add-place c).In-Further in search rules
@@ -37,6 +40,7 @@ places-preserved c =
     let at = c.places.invariant.standing in
     let there = slice_get-get_or c.args.insns.now c.places.place _ at.inside in
     record {
-      standing = standing_next _ _ _ c.places.place c.places.state c.execute.new.state c.places.count c.in-Further.further _ c.requires at there (c.execute.ensures ∙ ap (λ t. reach_next t c.execute.new.state) c.in-Further.is);
+      standing = standing_next _ _ _ c.places.place c.places.state c.execute.new.state c.places.count c.in-Further.further _ c.requires at there
+          (c.execute.ensures ∙ ap (λ t. reach_next t c.execute.new.state) c.in-Further.is);
       written = written_more _ _ _ _ _ _ _ c.places.count c.places.invariant.written at.here c.put_step.ensures;
     }

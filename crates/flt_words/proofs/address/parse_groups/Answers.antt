@@ -10,10 +10,13 @@ use Rattle.flt_words.proofs.address.parse_groups.Goals as goal
 some_text : (c : In-Some) → 0 < length c.args.text.now
 some_text c = some_unless_test (length c.args.text.now) (sym c.is_empty.ensures ∙ c.if-is_empty.false)
 
-next_part : (c : In-Some) → (length c.loop-digits.yielded < length (parts_of c.args.form c.args.text.now)) × (c.in-Some.digits.now ≡ get_or (parts_of c.args.form c.args.text.now) (length c.loop-digits.yielded) c.in-Some.digits.now)
+next_part : (c : In-Some) → (length c.loop-digits.yielded < length (parts_of c.args.form c.args.text.now))
+    × (c.in-Some.digits.now ≡ get_or (parts_of c.args.form c.args.text.now) (length c.loop-digits.yielded) c.in-Some.digits.now)
 next_part c =
     let callee = ap split_callee c.into_iter-digits-iterator.ensures.into_iter_gives ∙ c.split-digits-items.ensures.closure in
-    rw (← c.separator-separator.ensures) (YieldsList-turn (YieldsList-from_slice_split _ (λ b. b == c.separator-separator.result) c.args.text.now (cc) (cc) callee (λ x b q k. search rules)) c.loop-digits.yielded _ c.loop-digits.yielded_by _ _ c.in-Some.digits c.in-Some.is c.next.ensures.steps)
+    rw (← c.separator-separator.ensures)
+    (YieldsList-turn (YieldsList-from_slice_split _ (λ b. b == c.separator-separator.result) c.args.text.now (cc) (cc) callee
+    (λ x b q k. search rules)) c.loop-digits.yielded _ c.loop-digits.yielded_by _ _ c.in-Some.digits c.in-Some.is c.next.ensures.steps)
 
 pub returns-in_err-digit : goal.returns-in_err-digit
 returns-in_err-digit c =
@@ -27,12 +30,14 @@ returns-then-count-eq8 c =
 
 pub overflow_mul-value : goal.overflow_mul-value
 overflow_mul-value c =
-    let fits = step_fits c.args.form c.in-Some.digits.now c.loop-digits.value c.loop-digits.count c.in_ok-digit.digit c.from.result (c.from.ensures ∙ c.base.ensures) c.in_ok-digit.ensures c.loop-digits.invariant.small (omega arith) in
+    let fits = step_fits c.args.form c.in-Some.digits.now c.loop-digits.value c.loop-digits.count c.in_ok-digit.digit c.from.result
+    (c.from.ensures ∙ c.base.ensures) c.in_ok-digit.ensures c.loop-digits.invariant.small (omega arith) in
     omega arith
 
 pub overflow_add-value : goal.overflow_add-value
 overflow_add-value c =
-    let fits = step_fits c.args.form c.in-Some.digits.now c.loop-digits.value c.loop-digits.count c.in_ok-digit.digit c.from.result (c.from.ensures ∙ c.base.ensures) c.in_ok-digit.ensures c.loop-digits.invariant.small (omega arith) in
+    let fits = step_fits c.args.form c.in-Some.digits.now c.loop-digits.value c.loop-digits.count c.in_ok-digit.digit c.from.result
+    (c.from.ensures ∙ c.base.ensures) c.in_ok-digit.ensures c.loop-digits.invariant.small (omega arith) in
     omega (arith, c.from-in-loop-digits.ensures)
 
 pub loop-digits-preserved : goal.loop-digits-preserved
@@ -40,8 +45,10 @@ loop-digits-preserved c =
     let base = c.from.ensures ∙ c.base.ensures in
     let seen = map (λ (x : Bor (List ℕ)). x.now) c.loop-digits.yielded in
     let each = each_pushed (IsGroup c.args.form) seen c.in-Some.digits.now c.loop-digits.invariant.each c.in_ok-digit.ensures.0 in
-    let value = step_value c.args.form seen c.in-Some.digits.now c.loop-digits.value c.in_ok-digit.digit c.from.result base c.in_ok-digit.ensures c.loop-digits.invariant.value in
-    let small = step_small c.args.form c.in-Some.digits.now c.loop-digits.value c.loop-digits.count c.in_ok-digit.digit c.from.result base c.in_ok-digit.ensures c.loop-digits.invariant.small in
+    let value = step_value c.args.form seen c.in-Some.digits.now c.loop-digits.value c.in_ok-digit.digit c.from.result base c.in_ok-digit.ensures
+    c.loop-digits.invariant.value in
+    let small = step_small c.args.form c.in-Some.digits.now c.loop-digits.value c.loop-digits.count c.in_ok-digit.digit c.from.result base
+    c.in_ok-digit.ensures c.loop-digits.invariant.small in
     record {
       can_next = search of_calls;
       is_finite = tt;
@@ -55,7 +62,8 @@ loop-digits-preserved c =
 pub returns : goal.returns
 returns c =
     let callee = ap split_callee c.into_iter-digits-iterator.ensures.into_iter_gives ∙ c.split-digits-items.ensures.closure in
-    let ended = YieldsList-end (YieldsList-from_slice_split _ (λ b. b == c.separator-separator.result) c.args.text.now (cc) (cc) callee (λ x b q k. search rules)) c.loop-digits.yielded _ c.loop-digits.yielded_by _ _ c.in-None.is c.next.ensures.steps in
+    let ended = YieldsList-end (YieldsList-from_slice_split _ (λ b. b == c.separator-separator.result) c.args.text.now (cc) (cc) callee
+    (λ x b q k. search rules)) c.loop-digits.yielded _ c.loop-digits.yielded_by _ _ c.in-None.is c.next.ensures.steps in
     let all : map (λ (x : Bor (List ℕ)). x.now) c.loop-digits.yielded ≡ parts_of c.args.form c.args.text.now = rw (← c.separator-separator.ensures) ended.0 in
     let long = length-map c.loop-digits.yielded (λ (x : Bor (List ℕ)). x.now) in
     (map (λ x. x.now) c.loop-digits.yielded, all_read _ c.loop-digits.invariant.each all, omega arith, omega arith, c.loop-digits.invariant.value)

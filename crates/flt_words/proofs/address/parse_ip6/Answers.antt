@@ -7,7 +7,9 @@ pub returns-in-Some : goal.returns-in-Some
 returns-in-Some c =
     let word = c.args.word.now in
     let found = c.in-Some.ensures in
-    match_along (AreIp6Ends (take c.in-Some.at word) (drop (c.in-Some.at + 2) word)) (IsIp6 word) _ (λ a. ip6_from_ends c.in-Some.at found.0 found.1) (λ a. ends_from_ip6 c.in-Some.at found.1 found.2) (rw take_rest at c.parse_shortened_ip6.ensures)
+    match_along (AreIp6Ends (take c.in-Some.at word) (drop (c.in-Some.at + 2) word)) (IsIp6 word) _ (λ a. ip6_from_ends c.in-Some.at found.0 found.1)
+    (λ a. ends_from_ip6 c.in-Some.at found.1 found.2) (rw take_rest at c.parse_shortened_ip6.ensures)
 
 pub returns-in-None : goal.returns-in-None
-returns-in-None c = match_along (IsWholeIp6 c.args.word.now) (IsIp6 c.args.word.now) _ (λ a. whole) (λ a. whole_from_ip6 c.in-None.ensures) c.parse_whole.ensures
+returns-in-None c = match_along (IsWholeIp6 c.args.word.now) (IsIp6 c.args.word.now) _ (λ a. whole) (λ a. whole_from_ip6 c.in-None.ensures)
+    c.parse_whole.ensures

@@ -9,4 +9,5 @@ overflow_mul-value c =
     omega (arith, rw (← c.loop-done.invariant, ← c.base.ensures, ← c.from-value.ensures) at fits)
 
 pub loop-done-preserved : goal.loop-done-preserved
-loop-done-preserved c = rw (c.from-value.ensures, c.base.ensures) (zero_value (base_of c.args.form) c.args.joined.value c.loop-done._done c.loop-done.value c.loop-done.invariant)
+loop-done-preserved c = rw (c.from-value.ensures, c.base.ensures) (zero_value (base_of c.args.form) c.args.joined.value c.loop-done._done
+    c.loop-done.value c.loop-done.invariant)

@@ -12,13 +12,17 @@ loop-i-preserved c =
     let within = sym c.within_word.ensures ∙ c.if-not-within_word.false in
     let P = IsScanned c.args.inside c.args.rest.now in
     elim c.if-starts_word.branch [
-      | then-starts_word w ↦ subst (λ n. P n (c.loop-i.i + 1)) (sym w.len-is) (scanned_end c.loop-i.invariant within (sym c.starts_word.ensures ∙ w.if-starts_word.true))
-      | else-starts_word w ↦ subst (λ n. P n (c.loop-i.i + 1)) (sym w.len-is) (scanned_between c.loop-i.invariant within (sym c.starts_word.ensures ∙ w.if-starts_word.false))
+      | then-starts_word w ↦ subst (λ n. P n (c.loop-i.i + 1)) (sym w.len-is)
+          (scanned_end c.loop-i.invariant within (sym c.starts_word.ensures ∙ w.if-starts_word.true))
+      | else-starts_word w ↦ subst (λ n. P n (c.loop-i.i + 1)) (sym w.len-is)
+          (scanned_between c.loop-i.invariant within (sym c.starts_word.ensures ∙ w.if-starts_word.false))
     ]
 
 pub returns-after-loop-i : goal.returns-after-loop-i
 returns-after-loop-i c =
-    longest_word c.args.inside c.args.rest.now c.loop-i.len c.loop-i.i c.loop-i.invariant (omega (arith, begins_some c.args.inside c.args.rest.now c.requires)) c.requires (λ h. absurd (omega arith))
+    longest_word c.args.inside c.args.rest.now c.loop-i.len c.loop-i.i c.loop-i.invariant
+    (omega (arith, begins_some c.args.inside c.args.rest.now c.requires)) c.requires (λ h. absurd (omega arith))
 
 pub returns-then-not-within_word : goal.returns-then-not-within_word
-returns-then-not-within_word c = longest_word c.args.inside c.args.rest.now c.loop-i.len c.loop-i.i c.loop-i.invariant (omega arith) c.requires (λ h. sym c.within_word.ensures ∙ c.if-not-within_word.true)
+returns-then-not-within_word c = longest_word c.args.inside c.args.rest.now c.loop-i.len c.loop-i.i c.loop-i.invariant (omega arith) c.requires
+    (λ h. sym c.within_word.ensures ∙ c.if-not-within_word.true)

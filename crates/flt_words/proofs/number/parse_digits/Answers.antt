@@ -17,16 +17,19 @@ returns-then-is_empty c = λ n w. elim c.then-is_empty.branch [
 
 pub returns-in-Some-2 : goal.returns-in-Some-2
 returns-in-Some-2 c =
-    let w = writes_from_tests c.args.radix c.args.digits.now (sym c.is_empty.ensures ∙ c.if-is_empty.false) (sym c.are_digits.ensures ∙ c.if-not-are_digits.false) in
+    let w = writes_from_tests c.args.radix c.args.digits.now (sym c.is_empty.ensures ∙ c.if-is_empty.false)
+    (sym c.are_digits.ensures ∙ c.if-not-are_digits.false) in
     (record { numeral = w.numeral; value = sym c.in-Some.ensures.value }, fits c.in-Some.number (omega arith))
 
 -- the number is there, and too large
 pub returns-in-Some : goal.returns-in-Some
 returns-in-Some c =
-    let w = writes_from_tests c.args.radix c.args.digits.now (sym c.is_empty.ensures ∙ c.if-is_empty.false) (sym c.are_digits.ensures ∙ c.if-not-are_digits.false) in
+    let w = writes_from_tests c.args.radix c.args.digits.now (sym c.is_empty.ensures ∙ c.if-is_empty.false)
+    (sym c.are_digits.ensures ∙ c.if-not-are_digits.false) in
     (digits_value c.args.radix c.args.digits.now, w, does_not_fit _ (omega (arith, c.in-Some.ensures.value)))
 
 pub returns-in-None : goal.returns-in-None
 returns-in-None c =
-    let w = writes_from_tests c.args.radix c.args.digits.now (sym c.is_empty.ensures ∙ c.if-is_empty.false) (sym c.are_digits.ensures ∙ c.if-not-are_digits.false) in
+    let w = writes_from_tests c.args.radix c.args.digits.now (sym c.is_empty.ensures ∙ c.if-is_empty.false)
+    (sym c.are_digits.ensures ∙ c.if-not-are_digits.false) in
     (digits_value c.args.radix c.args.digits.now, w, does_not_fit _ (omega (arith, c.in-None.ensures.large)))

@@ -7,14 +7,16 @@ use Rattle.flt_words.proofs.number.parse_number.Goals as goal
 
 pub returns-then-word-ne48 : goal.returns-then-word-ne48
 returns-then-word-ne48 c =
-    let either : (length c.args.word.now < 2) ⊎ (get_or c.args.word.now 0 0 ≢ 48) = elim c.if-word-lt2.branch [ then-word-lt2 w ↦ inl w.if-word-lt2.true | else-word-lt2 w ↦ inr (grind (arith, nat_tests)) ] in
+    let either : (length c.args.word.now < 2) ⊎ (get_or c.args.word.now 0 0 ≢ 48) = elim c.if-word-lt2.branch
+    [ then-word-lt2 w ↦ inl w.if-word-lt2.true | else-word-lt2 w ↦ inr (grind (arith, nat_tests)) ] in
     answers_along _ _ is_word_sized (λ n. decimal) (λ n. only_decimal either) _ c.parse_decimal.ensures
 
 pub returns-then-word-eq88 : goal.returns-then-word-eq88
 returns-then-word-eq88 c =
     let long : 2 ≤ length c.args.word.now = grind (arith, nat_tests) in
     let zero : get_or c.args.word.now 0 0 ≡ 48 = grind (arith, nat_tests) in
-    let x : (get_or c.args.word.now 1 0 ≡ 120) ⊎ (get_or c.args.word.now 1 0 ≡ 88) = elim c.if-word-eq120.branch [ then-word-eq120 w ↦ inl w.if-word-eq120.true | else-word-eq120 w ↦ inr (grind (arith, nat_tests)) ] in
+    let x : (get_or c.args.word.now 1 0 ≡ 120) ⊎ (get_or c.args.word.now 1 0 ≡ 88) = elim c.if-word-eq120.branch
+    [ then-word-eq120 w ↦ inl w.if-word-eq120.true | else-word-eq120 w ↦ inr (grind (arith, nat_tests)) ] in
     let is = hexadecimal_by_front c.args.word.now long zero x in
     answers_along _ _ is_word_sized (λ n. (is n).0) (λ n. (is n).1) _ (rw take_rest at c.parse_digits.ensures)
 

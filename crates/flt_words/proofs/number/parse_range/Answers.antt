@@ -8,7 +8,8 @@ pub returns-in-Some : goal.returns-in-Some
 returns-in-Some c =
     let word = c.args.word.now in
     let found = sym c.find_dash.ensures ∙ c.in-Some.is in
-    let parts = answers_both (WritesDecimal (take c.in-Some.dash word)) (WritesDecimal (drop (c.in-Some.dash + 1) word)) is_word_sized is_word_sized _ _ c.parse_decimal.ensures (rw take_rest at c.parse_decimal-in-Some.ensures) in
+    let parts = answers_both (WritesDecimal (take c.in-Some.dash word)) (WritesDecimal (drop (c.in-Some.dash + 1) word)) is_word_sized is_word_sized _
+    _ c.parse_decimal.ensures (rw take_rest at c.parse_decimal-in-Some.ensures) in
     rw c.both_numbers.ensures (answers_along _ _ _ (λ range. range_from_parts c.in-Some.dash found) (λ range. range_parts c.in-Some.dash found) _ parts)
 
 pub returns-in-None : goal.returns-in-None

@@ -1,9 +1,11 @@
 -- A word that no reader takes means nothing.
-use Rattle.flt_words.proofs.Common.{◌≡◌, ℕ, List, None, sym, ◌∙◌, TokenKind, IsDotted, IsIp6, IsMac, IsNumber, IsRange, Spells, keyword, number, dotted, range, mac, ip6, keyword_of, known, too_large, unknown}
+use Rattle.flt_words.proofs.Common.{◌≡◌, ℕ, List, None, sym, ◌∙◌, TokenKind, IsDotted, IsIp6, IsMac, IsNumber, IsRange, Spells, keyword, number, dotted, range}
+use Rattle.flt_words.proofs.Common.{mac, ip6, keyword_of, known, too_large, unknown}
 use Rattle.flt_words.proofs.Tables.{keyword_is_plain}
 use Rattle.flt_words.proofs.word.word_kind_at.Goals as goal
 
-nothing : {word : List ℕ} → ((n : ℕ) → IsNumber word n → ⊥) → ((a parts : ℕ) → IsDotted word a parts → ⊥) → keyword_of word ≡ None → ((a : ℕ) → IsMac word a → ⊥)
+nothing : {word : List ℕ} → ((n : ℕ) → IsNumber word n → ⊥) → ((a parts : ℕ) → IsDotted word a parts → ⊥) → keyword_of word ≡ None
+    → ((a : ℕ) → IsMac word a → ⊥)
     → ((a : ℕ) → IsIp6 word a → ⊥) → ((ends : ℕ × ℕ) → IsRange word ends.0 ends.1 → ⊥) → (kind : TokenKind) → Spells word kind → ⊥
 nothing no_number no_dotted no_keyword no_mac no_ip6 no_range kind (keyword w) = cc
 nothing no_number no_dotted no_keyword no_mac no_ip6 no_range kind (number w) = no_number _ w
@@ -26,4 +28,6 @@ returns-in-Err-TooLarge-parse_range c =
 
 pub returns-in-Err-Unknown-parse_range : goal.returns-in-Err-Unknown-parse_range
 returns-in-Err-Unknown-parse_range c =
-    unknown (nothing (rw c.in-Err-Unknown.field-0-is at c.in-Err-Unknown.ensures) c.in_default.ensures (sym c.keyword_of.ensures ∙ c.in_default-keyword_of.is) c.in_default-parse_mac.ensures c.in_default-parse_ip6.ensures (rw c.in-Err-Unknown-parse_range.field-0-is at c.in-Err-Unknown-parse_range.ensures))
+    unknown (nothing (rw c.in-Err-Unknown.field-0-is at c.in-Err-Unknown.ensures) c.in_default.ensures
+    (sym c.keyword_of.ensures ∙ c.in_default-keyword_of.is) c.in_default-parse_mac.ensures c.in_default-parse_ip6.ensures
+    (rw c.in-Err-Unknown-parse_range.field-0-is at c.in-Err-Unknown-parse_range.ensures))

@@ -43,7 +43,8 @@ new_spec 𝓤 𝓛 𝓜 𝓡 wired =
     let a = z.0.3 in let vss = z.0.4 in let m = a.0 in
     let got = one (layout memory.the_row) vss.0 ((the_row_laws.lawful 𝓛).typed m vss.0 are.0) in
     let w : Val = got.0 in let good = got.2 in
-    qed 𝓛 ((raw (alive 𝓛 ended.signature z.0.0 z.0.1) ⊛ ‵ (owns (types_at slots z.0.0) a vss)) ∷ ‵ ftrue ∷ []) ∵ move ! (1 ∷ []) $ drop ! $ split ! $ move ! (1 ∷ []) $
+    qed 𝓛 ((raw (alive 𝓛 ended.signature z.0.0 z.0.1) ⊛ ‵ (owns (types_at slots z.0.0) a vss)) ∷ ‵ ftrue ∷ []) ∵ move ! (1 ∷ []) $ drop ! $ split ! $
+    move ! (1 ∷ []) $
     fsplit ! $ move ! (1 ∷ []) $ drop ! $ rewrite ! 0 (λ (us : List Val). ‵ ((memory.the_row).own_val m us)) got.1 refl $
     regoal ! (λ (us : List Val). prop (WpFn 𝓤 H C Λ fn us Post)) (λ i. got.1 i ++ []) refl $
     enter ! C Λ fn (w ∷ []) Post $ alloc_all ! (λ l. pass_all ! refl (good, tt) $

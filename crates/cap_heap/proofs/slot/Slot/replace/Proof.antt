@@ -41,7 +41,8 @@ replace_spec 𝓤 𝓛 𝓜 𝓡 wired =
     let stays : Stays slots kept = (stay_dropped (slot_at 0 slots) kept.0, (stay_dropped (slot_at 1 slots) kept.1.0, tt)) in
     let c = with_token 𝓛 ended stays c₀ in
     proved_with_token 𝓛 ended stays c₀ 𝓜 𝓡
-    (Goes-dropped 𝓛 1 (slot_at 0 slots) kept.0 (λ κs x f. refl), (Goes-blank 𝓛 1 (slot_at 1 slots) kept.1.0 (λ κs x f. tt), tt)) #self fn (wired.0.0 #self refl) (λ C Λ z are.
+    (Goes-dropped 𝓛 1 (slot_at 0 slots) kept.0 (λ κs x f. refl), (Goes-blank 𝓛 1 (slot_at 1 slots) kept.1.0 (λ κs x f. tt), tt)) #self fn
+    (wired.0.0 #self refl) (λ C Λ z are.
     let Post : Val → SProp 𝓤 = (walk_of 𝓛 ended stays c).post z in
     let a = z.0.3 in let vss = z.0.4 in
     let κ : Lft = z.0.0.0 in let q : Share = z.0.1.0 in let b = a.0.ref_ptr.0 in let o = a.0.ref_ptr.1 in
@@ -49,7 +50,8 @@ replace_spec 𝓤 𝓛 𝓜 𝓡 wired =
     let got = one (layout memory.the_row) vss.1.0 ((the_row_laws.lawful 𝓛).typed new vss.1.0 are.1.0) in
     let w : Val = got.0 in let good = got.2 in
     qed 𝓛 (((‵ (flft κ q) ⊛ ‵ ftrue) ⊛ ‵ (owns (types_at slots z.0.0) a vss)) ∷ (‵ (ftok every) ⊛ raw (fact 𝓤 (IsGivenBack r new))) ∷ []) ∵
-    move ! (1 ∷ []) $ split ! $ move ! (1 ∷ []) $ heard ! (IsGivenBack r new) (λ asked. move ! (1 ∷ []) $ split ! $ split ! $ move ! (2 ∷ []) $ fsplit3 ! $ fsplit ! $
+    move ! (1 ∷ []) $ split ! $ move ! (1 ∷ []) $ heard ! (IsGivenBack r new) (λ asked. move ! (1 ∷ []) $ split ! $ split ! $ move ! (2 ∷ []) $
+    fsplit3 ! $ fsplit ! $
     rewrite ! 2 (λ (us : List Val). ‵ ((memory.the_row).own_val new us)) got.1 refl $ keep ! (1 ∷ 4 ∷ 6 ∷ 2 ∷ []) $
     -- [`self`; its lifetime's token; the thread's token; the new memory]
     regoal ! (λ (us : List Val). prop (WpFn 𝓤 H C Λ fn us Post)) (λ i. are.0.0 i ++ (got.1 i ++ [])) refl $
@@ -65,5 +67,6 @@ replace_spec 𝓤 𝓛 𝓜 𝓡 wired =
     sets ! (of_opd ! (get ! refl)) refl typed $
     move ! (0 ∷ 3 ∷ 2 ∷ []) $ shuts_slot r b o ! tt new w asked $
     returns ! (look_at ! 0 refl) $ free_all ! refl $
-    use0 𝓛 (raw (fact 𝓤 (IsGivenBack r x))) (fact_i 𝓤 (IsGivenBack r x) (emp 𝓤) is) $ move ! (2 ∷ 0 ∷ []) $ join ! $ nothing ! $ nothing ! $ fjoin ! $ nothing ! $ fjoin ! $ nothing ! $ move ! (3 ∷ 0 ∷ []) $ join ! $ move ! (0 ∷ 1 ∷ 3 ∷ []) $
+    use0 𝓛 (raw (fact 𝓤 (IsGivenBack r x))) (fact_i 𝓤 (IsGivenBack r x) (emp 𝓤) is) $ move ! (2 ∷ 0 ∷ []) $ join ! $ nothing ! $ nothing ! $ fjoin ! $
+    nothing ! $ fjoin ! $ nothing ! $ move ! (3 ∷ 0 ∷ []) $ join ! $ move ! (0 ∷ 1 ∷ 3 ∷ []) $
     by ! (leaves 𝓛 ended stays c z v x (tt, (rest ((memory.the_row).exit yes) new, tt)) (tt, (tt, tt)))))))

@@ -10,7 +10,8 @@ returns g c =
     rw (← c.self.view_is) (record {
       cursor = c.index_mut.result.now;
       among = get-among c.self.inside.cursors.items c.args.input c.index_mut.result.now (rw (← c.self.view_is) at c.requires.within) c.index_mut.ensures.value;
-      is = ap made (ap ordering_of c.update_after_decision.ensures.schedule ∙ following-order c.self.inside.schedule c.args.input) ∙ ap (with_cursor old c.args.input) c.mark_decided.ensures.following;
+      is = ap made (ap ordering_of c.update_after_decision.ensures.schedule ∙ following-order c.self.inside.schedule c.args.input)
+          ∙ ap (with_cursor old c.args.input) c.mark_decided.ensures.following;
     })
 
 pub invariant_of-self : goal.invariant_of-self
@@ -19,6 +20,7 @@ invariant_of-self g c =
     let a = get-among c.self.inside.cursors.items c.args.input c.index_mut.result.now (rw (← c.self.view_is) at c.requires.within) c.index_mut.ensures.value in
     let reading = c.mark_decided.ensures.reading (decided-waits _ c.self.inside.cursors.items c.args.input c.index_mut.result.now a tells) in
     rw (c.update_after_decision.ensures.schedule, following-order, c.mark_decided.ensures.following) (
-      queue-decided c.self.inside.schedule c.self.inside.cursors.items c.args.input _ c.self.inside.queue c.update_after_decision.new.queue tells refl c.update_after_decision.ensures.queue c.self.invariant.0,
+      queue-decided c.self.inside.schedule c.self.inside.cursors.items c.args.input _ c.self.inside.queue c.update_after_decision.new.queue tells refl
+          c.update_after_decision.ensures.queue c.self.invariant.0,
       placed-decided c.self.inside.schedule c.self.inside.cursors.items c.args.input c.index_mut.result.now a tells reading c.self.invariant.1,
     )

@@ -4,7 +4,8 @@ use Rattle.cap_inputs.proofs.queue.Queue.take.Goals as goal
 
 pub invariant_of-self-2 : goal.invariant_of-self-2
 invariant_of-self-2 g c =
-    let first = taken_first _ c.in-Some.field-0 (heap_items c.self.inside.heap) (heap_items c.pop.new.self) (λ x y. refl) (c.in-Some.ensures.below_top c.self.invariant.0) c.in-Some.ensures.permutation c.self.invariant.1 in
+    let first = taken_first _ c.in-Some.field-0 (heap_items c.self.inside.heap) (heap_items c.pop.new.self) (λ x y. refl)
+    (c.in-Some.ensures.below_top c.self.invariant.0) c.in-Some.ensures.permutation c.self.invariant.1 in
     ((c.in-Some.ensures.heap_order c.self.invariant.0).0, first.1)
 
 pub returns-clause-waiting : goal.returns-clause-waiting
@@ -12,4 +13,5 @@ returns-clause-waiting g c = rw (← c.self.view_is) (IsPermutation-map (λ (r :
 
 pub returns-clause-first : goal.returns-clause-first
 returns-clause-first g c =
-    (taken_first _ c.in-Some.field-0 (heap_items c.self.inside.heap) (heap_items c.pop.new.self) (λ x y. refl) (c.in-Some.ensures.below_top c.self.invariant.0) c.in-Some.ensures.permutation c.self.invariant.1).0
+    (taken_first _ c.in-Some.field-0 (heap_items c.self.inside.heap) (heap_items c.pop.new.self) (λ x y. refl)
+    (c.in-Some.ensures.below_top c.self.invariant.0) c.in-Some.ensures.permutation c.self.invariant.1).0

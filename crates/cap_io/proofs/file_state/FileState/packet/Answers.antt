@@ -7,13 +7,15 @@ pub returns-in-Pcap-clause-packet : goal.returns-in-Pcap-clause-packet
 returns-in-Pcap-clause-packet g c =
     let spans = c.args.spans.now in
     let buffer = c.args.buffer.now in
-    rw c.in-Pcap.is (pcap-lent c.in-Pcap.head spans _ (take spans.size buffer) (c.bytes_in-bytes.ensures ∙ part-lent spans.bytes spans.size buffer buffer c.requires.bytes refl))
+    rw c.in-Pcap.is (pcap-lent c.in-Pcap.head spans _ (take spans.size buffer) (c.bytes_in-bytes.ensures ∙ part-lent spans.bytes spans.size buffer
+    buffer c.requires.bytes refl))
 
 pub returns-in_ok-interface-in-Pcapng-clause-packet : goal.returns-in_ok-interface-in-Pcapng-clause-packet
 returns-in_ok-interface-in-Pcapng-clause-packet g c =
     let spans = c.args.spans.now in
     let buffer = c.args.buffer.now in
-    rw c.in-Pcapng.is (pcapng-lent c.in-Pcapng.order c.in-Pcapng.field-1 c.args.table.now (description_of c.in_ok-interface-in-Pcapng.interface) spans _ c.comment.result.now c.bytes_in-rest.result.now
+    rw c.in-Pcapng.is (pcapng-lent c.in-Pcapng.order c.in-Pcapng.field-1 c.args.table.now (description_of c.in_ok-interface-in-Pcapng.interface) spans
+    _ c.comment.result.now c.bytes_in-rest.result.now
     (take spans.size buffer)
     (known_interface c.get.result description_of c.in_ok-interface-in-Pcapng.interface _ c.in_ok-interface-in-Pcapng.was c.get.ensures)
     (c.bytes_in-bytes.ensures ∙ part-lent spans.bytes spans.size buffer buffer c.requires.bytes refl)

@@ -9,13 +9,15 @@ returns-in_err-read_rest g c =
     let p = err_from_is_err_and c.from_residual-in_err-read_rest.result c.from_residual-in_err-read_rest.ensures.1 in
     rw (p.1, p.2) (reads-no_unit g.I.Input c.args.self.now [] _ _ (search rules)
     (λ t. rw c.requires.unknown (NoUnitCame-following _ _ _ c.in_ok-first.first _ (c.in_ok-first.ensures.ok t)
-    (rest_of_front c.in_ok-first.first _ _ _ 12 refl (search rules) (sym c.begins_section.ensures ∙ c.if-not-begins_section.false) (c.in_err-read_rest.ensures.err t))))
+    (rest_of_front c.in_ok-first.first _ _ _ 12 refl (search rules) (sym c.begins_section.ensures ∙ c.if-not-begins_section.false)
+    (c.in_err-read_rest.ensures.err t))))
     (refl, refl) (omega arith) (λ most. most)
     (λ e. absurd (c.in_err-read_rest.ensures.memory e)))
 
 pub read_block-requires-clause-begins : goal.read_block-requires-clause-begins
 read_block-requires-clause-begins g c =
-    rw c.requires.unknown (section_of_bytes c.read_rest.new.buffer c.in_ok-first.first (first_of c.in_ok-first.first c.read_rest.new.buffer 12 (search rules) c.in_ok-read_rest.ensures.same) (search rules)
+    rw c.requires.unknown (section_of_bytes c.read_rest.new.buffer c.in_ok-first.first
+    (first_of c.in_ok-first.first c.read_rest.new.buffer 12 (search rules) c.in_ok-read_rest.ensures.same) (search rules)
     ∙ sym c.begins_section.ensures ∙ c.if-not-begins_section.false)
 
 pub returns : goal.returns
@@ -24,7 +26,8 @@ returns g c =
     let rest = c.in_ok-read_rest.ensures.moves in
     ReadsUnit-following g.I.Input c.args.self.now c.read_rest.new.input c.read_rest.new.buffer _ _
     (search rules) (search rules) (rest.sure ∙ first.sure) (λ t. rest.told t ∙ first.told t) (λ some. search rules)
-    (λ t. joined_front _ _ _ c.in_ok-first.first c.read_rest.new.buffer 12 (search rules) (c.in_ok-first.ensures.ok t) c.in_ok-read_rest.ensures.same (c.in_ok-read_rest.ensures.ok t))
+    (λ t. joined_front _ _ _ c.in_ok-first.first c.read_rest.new.buffer 12 (search rules) (c.in_ok-first.ensures.ok t) c.in_ok-read_rest.ensures.same
+    (c.in_ok-read_rest.ensures.ok t))
     c.read_block.ensures
 
 pub returns-then-not-begins_section : goal.returns-then-not-begins_section
@@ -33,7 +36,8 @@ returns-then-not-begins_section g c = record {
   sized = search rules;
   consistent = tt;
   known = tt;
-  ok = λ t. rw c.requires.unknown (UnitPassed-following _ _ _ c.in_ok-first.first _ _ (c.in_ok-first.ensures.ok t) (header_passed _ _ c.in_ok-read_header.field-0 (c.in_ok-read_header.ensures.ok t)));
+  ok = λ t. rw c.requires.unknown (UnitPassed-following _ _ _ c.in_ok-first.first _ _ (c.in_ok-first.ensures.ok t)
+      (header_passed _ _ c.in_ok-read_header.field-0 (c.in_ok-read_header.ensures.ok t)));
   err = tt;
   kept = tt;
   grown = omega arith;

@@ -1,4 +1,5 @@
-use Rattle.cap_io.proofs.Common.{◌≡◌, map, not, refl, sym, ap, ◌∙◌, rules, Some, option_map, slice_get-map, captured, interface_in, HasNumber, interface_of, InterfaceNumber}
+use Rattle.cap_io.proofs.Common.{◌≡◌, map, not, refl, sym, ap, ◌∙◌, rules, Some, option_map, slice_get-map, captured, interface_in, HasNumber, interface_of}
+use Rattle.cap_io.proofs.Common.{InterfaceNumber}
 use Rattle.cap_io.proofs.Interfaces.{same_interface, among-keys, number-keys, insert-keys, few-following, first-following, place-of-last}
 use Rattle.cap_io.proofs.numbering.OutputInterfaces.give_number.Goals as goal
 

@@ -1,4 +1,5 @@
-use Rattle.cap_io.proofs.Common.{◌≡◌, ◌<◌, List, ◌++◌, length, map, nat_lt, nat_le, sym, ap, subst, ◌∙◌, arith, length-map, captured, Interface, interface_of, most_output_interfaces, new_among, is_among, interface_in}
+use Rattle.cap_io.proofs.Common.{◌≡◌, ◌<◌, List, ◌++◌, length, map, nat_lt, nat_le, sym, ap, subst, ◌∙◌, arith, length-map, captured, Interface, interface_of}
+use Rattle.cap_io.proofs.Common.{most_output_interfaces, new_among, is_among, interface_in}
 use Rattle.cap_io.proofs.Interfaces.{among-keys, room-full, room-below}
 use Rattle.std.proofs.lemmas.Bool.{lt-ltb}
 use Rattle.cap_io.proofs.numbering.OutputInterfaces.has_room.Goals as goal
@@ -9,12 +10,20 @@ returns-then-len-lt-MOST_OUTPUT_INTERFACES g c =
     let i : Interface = interface_of (captured c.args.packet.now) in
     let upper_bound : length (map interface_in keys) < most_output_interfaces = omega (arith, length-map keys interface_in, c.len.ensures.len) in
     let P : List Interface → Type 0 = λ l. nat_lt c.len.result most_output_interfaces ≡ nat_le (length (l ++ new_among l i)) most_output_interfaces in
-    subst P c.self.view_is (lt-ltb c.len.result most_output_interfaces c.if-len-lt-MOST_OUTPUT_INTERFACES.true ∙ sym (room-below (map interface_in keys) i upper_bound))
+    subst P c.self.view_is (lt-ltb c.len.result most_output_interfaces c.if-len-lt-MOST_OUTPUT_INTERFACES.true
+    ∙ sym (room-below (map interface_in keys) i upper_bound))
 
 pub returns-else-len-lt-MOST_OUTPUT_INTERFACES : goal.returns-else-len-lt-MOST_OUTPUT_INTERFACES
 returns-else-len-lt-MOST_OUTPUT_INTERFACES g c =
     let keys = c.self.inside.keys.keys in
     let i : Interface = interface_of (captured c.args.packet.now) in
-    let size : length (map interface_in keys) ≡ most_output_interfaces = omega (arith, length-map keys interface_in, c.self.invariant, c.len.ensures.len, c.if-len-lt-MOST_OUTPUT_INTERFACES.false) in
+    let size : length (map interface_in keys) ≡ most_output_interfaces = omega (
+      arith,
+      length-map keys interface_in,
+      c.self.invariant,
+      c.len.ensures.len,
+      c.if-len-lt-MOST_OUTPUT_INTERFACES.false,
+    ) in
     let P : List Interface → Type 0 = λ l. c.contains.result ≡ nat_le (length (l ++ new_among l i)) most_output_interfaces in
-    subst P c.self.view_is (c.contains.ensures ∙ among-keys keys c.of.result ∙ ap (is_among (map interface_in keys)) c.of.ensures ∙ sym (room-full (map interface_in keys) i size))
+    subst P c.self.view_is (c.contains.ensures ∙ among-keys keys c.of.result ∙ ap (is_among (map interface_in keys)) c.of.ensures
+    ∙ sym (room-full (map interface_in keys) i size))

@@ -5,25 +5,32 @@ use Rattle.cap_io.proofs.sink.Sink.add_packet.Goals as goal
 
 pub returns-in_default-clause-bytes : goal.returns-in_default-clause-bytes
 returns-in_default-clause-bytes g c = λ tells.
-    let exact : AppendsOrStops c.match-self.written c.args.self.now.written (added_in c.args.self.now (captured c.args.packet.now)) (g.O.Output.written c.match-self.self-inside.output) = rw (← c.self.view_is) (elim c.match-self.branch [
+    let exact : AppendsOrStops c.match-self.written c.args.self.now.written (added_in c.args.self.now (captured c.args.packet.now))
+    (g.O.Output.written c.match-self.self-inside.output) = rw (← c.self.view_is) (elim c.match-self.branch [
       | in-Pcap w ↦ rw (w.written-is, w.self-inside-is) (record-adds _ _ _ _ _ _ _ w.in-Pcap.is (w.write_record-written.ensures.appended tells))
-      | in-Pcapng+in_ok-interface-in-Pcapng w ↦ rw (w.written-is, w.self-inside-is) (block-adds _ _ _ _ _ _ _ _ _ w.in-Pcapng.is w.in_ok-interface-in-Pcapng.ensures.number (w.write_block-written.ensures.appended tells))
+      | in-Pcapng+in_ok-interface-in-Pcapng w ↦ rw (w.written-is, w.self-inside-is)
+          (block-adds _ _ _ _ _ _ _ _ _ w.in-Pcapng.is w.in_ok-interface-in-Pcapng.ensures.number (w.write_block-written.ensures.appended tells))
     ]) in
-    let allowed : Ok (tt {0}) ≡ checked (refusal_in c.args.self.now (captured c.args.packet.now)) (tt {0}) = rw (← c.self.view_is) c.in_ok-check_packet.ensures in
+    let allowed : Ok (tt {0}) ≡ checked (refusal_in c.args.self.now (captured c.args.packet.now)) (tt {0}) =
+    rw (← c.self.view_is) c.in_ok-check_packet.ensures in
     adds-failed _ _ _ _ allowed (rw c.in_default.is at exact)
 
 pub returns-in-Empty-clause-bytes : goal.returns-in-Empty-clause-bytes
 returns-in-Empty-clause-bytes g c = λ tells.
-    let exact : AppendsOrStops c.match-self.written c.args.self.now.written (added_in c.args.self.now (captured c.args.packet.now)) (g.O.Output.written c.match-self.self-inside.output) = rw (← c.self.view_is) (elim c.match-self.branch [
+    let exact : AppendsOrStops c.match-self.written c.args.self.now.written (added_in c.args.self.now (captured c.args.packet.now))
+    (g.O.Output.written c.match-self.self-inside.output) = rw (← c.self.view_is) (elim c.match-self.branch [
       | in-Pcap w ↦ rw (w.written-is, w.self-inside-is) (record-adds _ _ _ _ _ _ _ w.in-Pcap.is (w.write_record-written.ensures.appended tells))
-      | in-Pcapng+in_ok-interface-in-Pcapng w ↦ rw (w.written-is, w.self-inside-is) (block-adds _ _ _ _ _ _ _ _ _ w.in-Pcapng.is w.in_ok-interface-in-Pcapng.ensures.number (w.write_block-written.ensures.appended tells))
+      | in-Pcapng+in_ok-interface-in-Pcapng w ↦ rw (w.written-is, w.self-inside-is)
+          (block-adds _ _ _ _ _ _ _ _ _ w.in-Pcapng.is w.in_ok-interface-in-Pcapng.ensures.number (w.write_block-written.ensures.appended tells))
     ]) in
     rw c.in-Ok.is at exact
 
 pub returns-in_default-state-clause-bytes : goal.returns-in_default-state-clause-bytes
 returns-in_default-state-clause-bytes g c = λ tells.
-    let exact : AppendsOrStops c.match-self.written c.args.self.now.written (added_in c.args.self.now (captured c.args.packet.now)) (g.O.Output.written c.match-self.self-inside.output) = rw (← c.self.view_is) (elim c.match-self.branch [
+    let exact : AppendsOrStops c.match-self.written c.args.self.now.written (added_in c.args.self.now (captured c.args.packet.now))
+    (g.O.Output.written c.match-self.self-inside.output) = rw (← c.self.view_is) (elim c.match-self.branch [
       | in-Pcap w ↦ rw (w.written-is, w.self-inside-is) (record-adds _ _ _ _ _ _ _ w.in-Pcap.is (w.write_record-written.ensures.appended tells))
-      | in-Pcapng+in_ok-interface-in-Pcapng w ↦ rw (w.written-is, w.self-inside-is) (block-adds _ _ _ _ _ _ _ _ _ w.in-Pcapng.is w.in_ok-interface-in-Pcapng.ensures.number (w.write_block-written.ensures.appended tells))
+      | in-Pcapng+in_ok-interface-in-Pcapng w ↦ rw (w.written-is, w.self-inside-is)
+          (block-adds _ _ _ _ _ _ _ _ _ w.in-Pcapng.is w.in_ok-interface-in-Pcapng.ensures.number (w.write_block-written.ensures.appended tells))
     ]) in
     rw c.in-Ok.is at exact

@@ -17,7 +17,15 @@ returns-in-Err-clause-answer g c =
     puts-tell old.state old p (Err c.in-Err.fault) _ (λ f e. c.in_default.not-Broken f (ap (λ (s : SinkView). s.state) c.self.view_is ∙ e))
     (record {
       adds = adds-broken old p c.in-Err.fault _ _ c.in-Err.ensures.answer
-          (ap (λ (s : SinkView). record { format = s.format; state = Broken c.in-Err.fault; interfaces = s.interfaces; written = s.written; failures = s.failures; room = s.room }) c.self-2.view_is);
+          (ap (λ (s : SinkView). record {
+            format = s.format;
+            state = Broken c.in-Err.fault;
+            interfaces = s.interfaces;
+            written = s.written;
+            failures =
+                s.failures;
+            room = s.room;
+          }) c.self-2.view_is);
       broken = refl;
     })
 
@@ -26,8 +34,10 @@ returns-in_default-result g c =
     let old : SinkView = c.args.self.now in
     let p = captured c.args.packet.now in
     rw c.in_default-result.is (record {
-      bytes = λ tells. put-writes-tell old.state old p (Ok tt) c.add_packet-result.new.self (λ f e. c.in_default.not-Broken f (ap (λ (s : SinkView). s.state) c.self.view_is ∙ e)) (c.in_default-result.ensures.bytes tells);
-      answer = puts-tell old.state old p (Ok tt) c.add_packet-result.new.self (λ f e. c.in_default.not-Broken f (ap (λ (s : SinkView). s.state) c.self.view_is ∙ e))
+      bytes = λ tells. put-writes-tell old.state old p (Ok tt) c.add_packet-result.new.self
+          (λ f e. c.in_default.not-Broken f (ap (λ (s : SinkView). s.state) c.self.view_is ∙ e)) (c.in_default-result.ensures.bytes tells);
+      answer = puts-tell old.state old p (Ok tt) c.add_packet-result.new.self
+          (λ f e. c.in_default.not-Broken f (ap (λ (s : SinkView). s.state) c.self.view_is ∙ e))
           (record { adds = c.in_default-result.ensures.answer; broken = tt });
       interfaces = subst FitFile (ap (λ (s : SinkView). s.interfaces) c.self-2.view_is) c.self-2.invariant;
     })

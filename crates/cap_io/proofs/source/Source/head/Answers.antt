@@ -9,6 +9,7 @@ returns-clause-packet g c =
     let lent = λ (l : List ℕ). packet_in_unit (declared_by r.file r.table) r.spans (take r.spans.size l) in
     let view = ap (λ (v : SourceView). v.packet) c.self.view_is in
     elim c.match-self.branch [
-      | in_default+in-Current w ↦ c.packet.ensures.packet ∙ ap lent (ap (λ (b : Bor (List ℕ)). b.now) w.unit-is ∙ w.as_slice.ensures.value) ∙ rw w.in-Current.is at view
+      | in_default+in-Current w ↦ c.packet.ensures.packet ∙ ap lent (ap (λ (b : Bor (List ℕ)). b.now) w.unit-is ∙ w.as_slice.ensures.value)
+          ∙ rw w.in-Current.is at view
       | in-Lent w ↦ c.packet.ensures.packet ∙ ap lent (ap (λ (b : Bor (List ℕ)). b.now) w.unit-is ∙ w.lent_bytes-unit.ensures) ∙ rw w.in-Lent.is at view
     ]

@@ -1,4 +1,5 @@
-use Rattle.cap_io.proofs.Common.{take, ◌+◌, ◌∙◌, Err, arith, length, length-take-le, refl, ap, ap₂, err_from_is_err_and, length-take, declared_by, SourceView, block_at, packet_at, unit_at, view_of}
+use Rattle.cap_io.proofs.Common.{take, ◌+◌, ◌∙◌, Err, arith, length, length-take-le, refl, ap, ap₂, err_from_is_err_and, length-take, declared_by, SourceView}
+use Rattle.cap_io.proofs.Common.{block_at, packet_at, unit_at, view_of}
 use Rattle.cap_io.proofs.Hands.{packet-there}
 use Rattle.cap_io.proofs.Passing.{FindsEnd-next, FindsPacket-next, IsBroken-next, SkipsUnits-next, bounds-next, no-unit-end, stage_between}
 use Rattle.cap_io.specs.declared.source.Stage.{Stage}
@@ -9,27 +10,37 @@ returns-in_err-unit-clause-packets g c =
     let p = err_from_is_err_and c.from_residual.result c.from_residual.ensures.1 in
     let declared = ap (λ (v : SourceView). v.declared) c.self.view_is in
     let new = view_of g.I.Input c.self.inside.stage c.next_unit.new.self c.self.inside.offset in
-    let between = stage_between c.self.inside.stage c.self.inside.reader.spans (unit_at g.I.Input c.self.inside.stage c.self.inside.reader) (ap (λ (v : SourceView). v.phase) c.self.view_is ∙ c.requires.between.phase)
+    let between = stage_between c.self.inside.stage c.self.inside.reader.spans (unit_at g.I.Input c.self.inside.stage c.self.inside.reader)
+    (ap (λ (v : SourceView). v.phase) c.self.view_is ∙ c.requires.between.phase)
     (ap (λ (v : SourceView). v.block) c.self.view_is ∙ c.requires.between.block) c.self.invariant.lies in
-    rw (p.1, p.2) (λ t. IsBroken-next c.args.self.now new c.in_err-unit.field-0.0 c.requires.between (rw (declared, ap (λ (v : SourceView). v.unread) c.self.view_is) at (c.in_err-unit.ensures.err t))
+    rw (p.1, p.2) (λ t. IsBroken-next c.args.self.now new c.in_err-unit.field-0.0 c.requires.between
+    (rw (declared, ap (λ (v : SourceView). v.unread) c.self.view_is) at (c.in_err-unit.ensures.err t))
     (ap₂ declared_by c.in_err-unit.ensures.kept.0 c.in_err-unit.ensures.kept.1 ∙ declared) (ap (λ (v : SourceView). v.offset) c.self.view_is)
-    (omega (arith, c.in_err-unit.ensures.grown, ap (λ (v : SourceView). v.room) c.self.view_is)) (λ e. rw (declared, ap (λ (v : SourceView). v.unread) c.self.view_is) at (c.in_err-unit.ensures.memory (ap Err e) t)) (c.in_err-unit.ensures.moves.told t ∙ ap (λ (v : SourceView). v.given + length v.unread) c.self.view_is)
+    (omega (arith, c.in_err-unit.ensures.grown, ap (λ (v : SourceView). v.room) c.self.view_is))
+    (λ e. rw (declared, ap (λ (v : SourceView). v.unread) c.self.view_is) at (c.in_err-unit.ensures.memory (ap Err e) t))
+    (c.in_err-unit.ensures.moves.told t ∙ ap (λ (v : SourceView). v.given + length v.unread) c.self.view_is)
     (ap (λ s. block_at s c.next_unit.new.self.spans (unit_at g.I.Input s c.next_unit.new.self)) between)
-    (ap (λ s. packet_at s c.next_unit.new.self.spans (declared_by c.next_unit.new.self.file c.next_unit.new.self.table) (unit_at g.I.Input s c.next_unit.new.self)) between))
+    (ap (λ s. packet_at s c.next_unit.new.self.spans (declared_by c.next_unit.new.self.file c.next_unit.new.self.table)
+    (unit_at g.I.Input s c.next_unit.new.self)) between))
 
 pub returns-in-Packet-clause-packets : goal.returns-in-Packet-clause-packets
 returns-in-Packet-clause-packets g c = λ t.
     let declared = ap (λ (v : SourceView). v.declared) c.self.view_is in
     let new = view_of g.I.Input Stage.Current c.next_unit.new.self c.self.inside.offset in
     rw c.in-Packet.is (FindsPacket-next c.args.self.now new c.next_unit.new.self.spans c.next_unit.new.self.buffer.items
-    (rw (declared, ap (λ (v : SourceView). v.unread) c.self.view_is) at (rw c.in-Packet.is at (c.in_ok-unit.ensures.ok t))) refl refl (no-unit-end c.args.self.now _ c.requires.between (ap (λ (v : SourceView). v.offset) c.self.view_is)) (omega (arith, c.in_ok-unit.ensures.grown, ap (λ (v : SourceView). v.room) c.self.view_is)) (omega (arith, length-take c.next_unit.new.self.spans.size c.next_unit.new.self.buffer.items)) refl)
+    (rw (declared, ap (λ (v : SourceView). v.unread) c.self.view_is) at (rw c.in-Packet.is at (c.in_ok-unit.ensures.ok t))) refl refl
+    (no-unit-end c.args.self.now _ c.requires.between (ap (λ (v : SourceView). v.offset) c.self.view_is))
+    (omega (arith, c.in_ok-unit.ensures.grown, ap (λ (v : SourceView). v.room) c.self.view_is))
+    (omega (arith, length-take c.next_unit.new.self.spans.size c.next_unit.new.self.buffer.items)) refl)
 
 pub returns-in-Other-clause-packets : goal.returns-in-Other-clause-packets
 returns-in-Other-clause-packets g c = λ t.
     let declared = ap (λ (v : SourceView). v.declared) c.self.view_is in
     let new = view_of g.I.Input c.self.inside.stage c.next_unit.new.self (c.self.inside.offset + c.in-Other.size) in
     SkipsUnits-next c.args.self.now new c.in-Other.size c.requires.between
-    (rw (declared, ap (λ (v : SourceView). v.unread) c.self.view_is) at (rw c.in-Other.is at (c.in_ok-unit.ensures.ok t))) (ap (λ (v : SourceView). v.offset + c.in-Other.size) c.self.view_is) (omega (arith, c.in_ok-unit.ensures.grown, ap (λ (v : SourceView). v.room) c.self.view_is))
+    (rw (declared, ap (λ (v : SourceView). v.unread) c.self.view_is) at (rw c.in-Other.is at (c.in_ok-unit.ensures.ok t)))
+    (ap (λ (v : SourceView). v.offset + c.in-Other.size) c.self.view_is)
+    (omega (arith, c.in_ok-unit.ensures.grown, ap (λ (v : SourceView). v.room) c.self.view_is))
     (rw (declared) at (rw c.in-Other.is at c.in_ok-unit.ensures.fits))
 
 pub returns-in-End-clause-packets : goal.returns-in-End-clause-packets
@@ -37,15 +48,19 @@ returns-in-End-clause-packets g c = λ t.
     let declared = ap (λ (v : SourceView). v.declared) c.self.view_is in
     let new = view_of g.I.Input Stage.Ended c.next_unit.new.self c.self.inside.offset in
     rw c.in-End.is (FindsEnd-next c.args.self.now new c.requires.between
-    (rw (declared, ap (λ (v : SourceView). v.unread) c.self.view_is) at (rw c.in-End.is at (c.in_ok-unit.ensures.ok t))) (ap (λ (v : SourceView). v.offset) c.self.view_is) (omega (arith, c.in_ok-unit.ensures.grown, ap (λ (v : SourceView). v.room) c.self.view_is)) refl refl refl)
+    (rw (declared, ap (λ (v : SourceView). v.unread) c.self.view_is) at (rw c.in-End.is at (c.in_ok-unit.ensures.ok t)))
+    (ap (λ (v : SourceView). v.offset) c.self.view_is) (omega (arith, c.in_ok-unit.ensures.grown, ap (λ (v : SourceView). v.room) c.self.view_is))
+    refl refl refl)
 
 pub returns-in_err-unit-clause-bounds : goal.returns-in_err-unit-clause-bounds
 returns-in_err-unit-clause-bounds g c =
     let p = err_from_is_err_and c.from_residual.result c.from_residual.ensures.1 in
     let reads = c.in_err-unit.ensures in
-    let between = stage_between c.self.inside.stage c.self.inside.reader.spans (unit_at g.I.Input c.self.inside.stage c.self.inside.reader) (ap (λ (v : SourceView). v.phase) c.self.view_is ∙ c.requires.between.phase)
+    let between = stage_between c.self.inside.stage c.self.inside.reader.spans (unit_at g.I.Input c.self.inside.stage c.self.inside.reader)
+    (ap (λ (v : SourceView). v.phase) c.self.view_is ∙ c.requires.between.phase)
     (ap (λ (v : SourceView). v.block) c.self.view_is ∙ c.requires.between.block) c.self.invariant.lies in
-    rw (p.1, p.2, ← c.self.view_is, between) (bounds-next _ _ _ reads.moves.grown reads.moves.failed reads.moves.sure reads.moves.enough (omega arith) (reads.bounded c.self.invariant.bounded) reads.grown tt (omega (arith, reads.moves.grown), omega (arith, reads.moves.at_most)))
+    rw (p.1, p.2, ← c.self.view_is, between) (bounds-next _ _ _ reads.moves.grown reads.moves.failed reads.moves.sure reads.moves.enough (omega arith)
+    (reads.bounded c.self.invariant.bounded) reads.grown tt (omega (arith, reads.moves.grown), omega (arith, reads.moves.at_most)))
 
 pub returns-in-Packet-clause-bounds : goal.returns-in-Packet-clause-bounds
 returns-in-Packet-clause-bounds g c =
@@ -53,25 +68,39 @@ returns-in-Packet-clause-bounds g c =
     let new = c.next_unit.new.self in
     let sized = rw c.in-Packet.is at reads.sized in
     let counted = rw c.in-Packet.is at reads.moves.counted in
-    let between = stage_between c.self.inside.stage c.self.inside.reader.spans (unit_at g.I.Input c.self.inside.stage c.self.inside.reader) (ap (λ (v : SourceView). v.phase) c.self.view_is ∙ c.requires.between.phase)
+    let between = stage_between c.self.inside.stage c.self.inside.reader.spans (unit_at g.I.Input c.self.inside.stage c.self.inside.reader)
+    (ap (λ (v : SourceView). v.phase) c.self.view_is ∙ c.requires.between.phase)
     (ap (λ (v : SourceView). v.block) c.self.view_is ∙ c.requires.between.block) c.self.invariant.lies in
-    rw (c.in-Packet.is, ← c.self.view_is, between) (bounds-next _ _ _ reads.moves.grown reads.moves.failed reads.moves.sure reads.moves.enough (omega (arith, length-take new.spans.size new.buffer.items)) (reads.bounded c.self.invariant.bounded) reads.grown (omega (arith, counted, length-take-le new.spans.size new.buffer.items sized.0.there))
-    ((omega (arith, counted, sized.0.some), sized.1, packet-there (declared_by new.file new.table) new.spans (take new.spans.size new.buffer.items) (rw c.in-Packet.is at reads.known)), refl))
+    rw (c.in-Packet.is, ← c.self.view_is, between) (bounds-next _ _ _ reads.moves.grown reads.moves.failed reads.moves.sure reads.moves.enough
+    (omega (arith, length-take new.spans.size new.buffer.items)) (reads.bounded c.self.invariant.bounded) reads.grown
+    (omega (arith, counted, length-take-le new.spans.size new.buffer.items sized.0.there)) (
+      (
+        omega (arith, counted, sized.0.some),
+        sized.1,
+        packet-there (declared_by new.file new.table) new.spans (take new.spans.size new.buffer.items)
+            (rw c.in-Packet.is at reads.known),
+      ),
+      refl,
+    ))
 
 pub returns-in-Other-clause-bounds : goal.returns-in-Other-clause-bounds
 returns-in-Other-clause-bounds g c =
     let reads = c.in_ok-unit.ensures in
     let sized = rw c.in-Other.is at reads.sized in
     let counted = rw c.in-Other.is at reads.moves.counted in
-    let between = stage_between c.self.inside.stage c.self.inside.reader.spans (unit_at g.I.Input c.self.inside.stage c.self.inside.reader) (ap (λ (v : SourceView). v.phase) c.self.view_is ∙ c.requires.between.phase)
+    let between = stage_between c.self.inside.stage c.self.inside.reader.spans (unit_at g.I.Input c.self.inside.stage c.self.inside.reader)
+    (ap (λ (v : SourceView). v.phase) c.self.view_is ∙ c.requires.between.phase)
     (ap (λ (v : SourceView). v.block) c.self.view_is ∙ c.requires.between.block) c.self.invariant.lies in
-    rw (← c.self.view_is, between) (bounds-next _ _ _ reads.moves.grown reads.moves.failed reads.moves.sure reads.moves.enough (omega arith) (reads.bounded c.self.invariant.bounded) reads.grown (omega (arith, counted))
+    rw (← c.self.view_is, between) (bounds-next _ _ _ reads.moves.grown reads.moves.failed reads.moves.sure reads.moves.enough (omega arith)
+    (reads.bounded c.self.invariant.bounded) reads.grown (omega (arith, counted))
     (omega (arith, counted, sized.0), sized.1, record { phase = refl; block = refl; packet = refl }))
 
 pub returns-in-End-clause-bounds : goal.returns-in-End-clause-bounds
 returns-in-End-clause-bounds g c =
     let reads = c.in_ok-unit.ensures in
     let counted = rw c.in-End.is at reads.moves.counted in
-    let between = stage_between c.self.inside.stage c.self.inside.reader.spans (unit_at g.I.Input c.self.inside.stage c.self.inside.reader) (ap (λ (v : SourceView). v.phase) c.self.view_is ∙ c.requires.between.phase)
+    let between = stage_between c.self.inside.stage c.self.inside.reader.spans (unit_at g.I.Input c.self.inside.stage c.self.inside.reader)
+    (ap (λ (v : SourceView). v.phase) c.self.view_is ∙ c.requires.between.phase)
     (ap (λ (v : SourceView). v.block) c.self.view_is ∙ c.requires.between.block) c.self.invariant.lies in
-    rw (c.in-End.is, ← c.self.view_is, between) (bounds-next _ _ _ reads.moves.grown reads.moves.failed reads.moves.sure reads.moves.enough (omega arith) (reads.bounded c.self.invariant.bounded) reads.grown (omega (arith, counted)) refl)
+    rw (c.in-End.is, ← c.self.view_is, between) (bounds-next _ _ _ reads.moves.grown reads.moves.failed reads.moves.sure reads.moves.enough
+    (omega arith) (reads.bounded c.self.invariant.bounded) reads.grown (omega (arith, counted)) refl)

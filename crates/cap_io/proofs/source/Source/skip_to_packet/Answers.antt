@@ -17,21 +17,25 @@ loop-init g c = record {
 pub returns-in_err-read_unit-clause-packets : goal.returns-in_err-read_unit-clause-packets
 returns-in_err-read_unit-clause-packets g c =
     let p = err_from_is_err_and c.from_residual.result c.from_residual.ensures.1 in
-    rw (p.1, p.2) (λ t. IsBroken-then c.args.self.now c.loop.self c.read_unit.new.self c.in_err-read_unit.field-0.0 (c.loop.invariant.packets t) c.loop.invariant.between.block c.loop.invariant.counted (c.in_err-read_unit.ensures.packets t))
+    rw (p.1, p.2) (λ t. IsBroken-then c.args.self.now c.loop.self c.read_unit.new.self c.in_err-read_unit.field-0.0 (c.loop.invariant.packets t)
+    c.loop.invariant.between.block c.loop.invariant.counted (c.in_err-read_unit.ensures.packets t))
 
 pub returns-in-Packet-clause-packets : goal.returns-in-Packet-clause-packets
 returns-in-Packet-clause-packets g c = λ t.
-    FindsPacket-then c.args.self.now c.loop.self c.read_unit.new.self (c.loop.invariant.packets t) c.loop.invariant.between.block (rw c.in-Packet.is at (c.in_ok-read_unit.ensures.packets t))
+    FindsPacket-then c.args.self.now c.loop.self c.read_unit.new.self (c.loop.invariant.packets t) c.loop.invariant.between.block
+    (rw c.in-Packet.is at (c.in_ok-read_unit.ensures.packets t))
 
 pub returns-in-End-clause-packets : goal.returns-in-End-clause-packets
 returns-in-End-clause-packets g c = λ t.
-    FindsEnd-then c.args.self.now c.loop.self c.read_unit.new.self (c.loop.invariant.packets t) c.loop.invariant.between.block (rw c.in-End.is at (c.in_ok-read_unit.ensures.packets t))
+    FindsEnd-then c.args.self.now c.loop.self c.read_unit.new.self (c.loop.invariant.packets t) c.loop.invariant.between.block
+    (rw c.in-End.is at (c.in_ok-read_unit.ensures.packets t))
 
 pub loop-preserved : goal.loop-preserved
 loop-preserved g c =
     let bounds = c.in_ok-read_unit.ensures.bounds in
     let passed = bounds.passed _ (ap Ok c.in-Other.is) in record {
-      packets = λ t. SkipsUnits-then c.args.self.now c.loop.self c.read_unit.new.self _ (c.loop.invariant.packets t) c.loop.invariant.between.block (rw c.in-Other.is at (c.in_ok-read_unit.ensures.packets t));
+      packets = λ t. SkipsUnits-then c.args.self.now c.loop.self c.read_unit.new.self _ (c.loop.invariant.packets t) c.loop.invariant.between.block
+          (rw c.in-Other.is at (c.in_ok-read_unit.ensures.packets t));
       between = passed.2;
       given = omega (arith, c.loop.invariant.given, bounds.given);
       failures = bounds.failures ∙ omega (arith, c.loop.invariant.failures);
@@ -43,12 +47,15 @@ loop-preserved g c =
 pub returns-in_err-read_unit-clause-bounds : goal.returns-in_err-read_unit-clause-bounds
 returns-in_err-read_unit-clause-bounds g c =
     let p = err_from_is_err_and c.from_residual.result c.from_residual.ensures.1 in
-    rw (p.1, p.2) (bounds-then c.args.self.now c.loop.self c.read_unit.new.self (Err c.in_err-read_unit.field-0.0) c.loop.invariant.given c.loop.invariant.failures c.loop.invariant.sure c.loop.invariant.room c.loop.invariant.counted c.in_err-read_unit.ensures.bounds)
+    rw (p.1, p.2) (bounds-then c.args.self.now c.loop.self c.read_unit.new.self (Err c.in_err-read_unit.field-0.0) c.loop.invariant.given
+    c.loop.invariant.failures c.loop.invariant.sure c.loop.invariant.room c.loop.invariant.counted c.in_err-read_unit.ensures.bounds)
 
 pub returns-in-Packet-clause-bounds : goal.returns-in-Packet-clause-bounds
 returns-in-Packet-clause-bounds g c =
-    bounds-then c.args.self.now c.loop.self c.read_unit.new.self (Ok NextUnit.Packet) c.loop.invariant.given c.loop.invariant.failures c.loop.invariant.sure c.loop.invariant.room c.loop.invariant.counted (rw c.in-Packet.is at c.in_ok-read_unit.ensures.bounds)
+    bounds-then c.args.self.now c.loop.self c.read_unit.new.self (Ok NextUnit.Packet) c.loop.invariant.given c.loop.invariant.failures
+    c.loop.invariant.sure c.loop.invariant.room c.loop.invariant.counted (rw c.in-Packet.is at c.in_ok-read_unit.ensures.bounds)
 
 pub returns-in-End-clause-bounds : goal.returns-in-End-clause-bounds
 returns-in-End-clause-bounds g c =
-    bounds-then c.args.self.now c.loop.self c.read_unit.new.self (Ok NextUnit.End) c.loop.invariant.given c.loop.invariant.failures c.loop.invariant.sure c.loop.invariant.room c.loop.invariant.counted (rw c.in-End.is at c.in_ok-read_unit.ensures.bounds)
+    bounds-then c.args.self.now c.loop.self c.read_unit.new.self (Ok NextUnit.End) c.loop.invariant.given c.loop.invariant.failures
+    c.loop.invariant.sure c.loop.invariant.room c.loop.invariant.counted (rw c.in-End.is at c.in_ok-read_unit.ensures.bounds)

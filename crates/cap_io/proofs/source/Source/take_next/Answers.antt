@@ -1,4 +1,5 @@
-use Rattle.cap_io.proofs.Common.{rules, true, ◌≡◌, ◌+◌, ℕ, List, length, take, drop, refl, ap, ◌∙◌, subst, arith, PacketCame, Declared, declared_by, packet_in_unit, Reading, SourceView, end_offset}
+use Rattle.cap_io.proofs.Common.{rules, true, ◌≡◌, ◌+◌, ℕ, List, length, take, drop, refl, ap, ◌∙◌, subst, arith, PacketCame, Declared, declared_by}
+use Rattle.cap_io.proofs.Common.{packet_in_unit, Reading, SourceView, end_offset}
 use Rattle.cap_io.proofs.Hands.{takes-next}
 use Rattle.cap_io.proofs.source.Source.take_next.Goals as goal
 
@@ -23,7 +24,8 @@ returns-clause-found g c =
       sure = g.I.Input.sure c.lend_unit.new.input.input;
       room = length c.self.inside.reader.buffer.items;
     } in
-    let place : c.self.inside.offset + c.from.result ≡ end_offset c.args.self.now = omega (arith, ap (λ (v : SourceView). v.offset) view, c.from.ensures, c.current_size-size.ensures) in
+    let place : c.self.inside.offset + c.from.result ≡ end_offset c.args.self.now =
+    omega (arith, ap (λ (v : SourceView). v.offset) view, c.from.ensures, c.current_size-size.ensures) in
     let P : SourceView → Type 0 = λ v. PacketCame v.declared v.unread hand spans known unread in
     λ is. takes-next g.I.Input.tells spans hand c.args.self.now new lent.lies lent.known (search rules)
     (lent.counted ∙ ap (λ (v : SourceView). v.given + spans.size) view)

@@ -13,7 +13,9 @@ returns-then-given-lt-GIVEN_END-clause-passes g c =
       bound = search rules;
       bytes = (
         rw (came, take-take (length c.args.buf.now) (length c.args.buf.now) (reader_buffer c.args.self.now.reader.reader) (omega arith))
-            (held-consumed (reader_capacity c.args.self.now.reader.reader == 0) (reader_buffer c.args.self.now.reader.reader) (g.R.Read.remaining (reader_inner c.args.self.now.reader.reader)) _ (length c.args.buf.now) (omega (arith, c.if-room-held.true, ap (length {A = ℕ}) c.buffer-held.ensures)) c.consume.ensures.bytes),
+            (held-consumed (reader_capacity c.args.self.now.reader.reader == 0) (reader_buffer c.args.self.now.reader.reader)
+            (g.R.Read.remaining (reader_inner c.args.self.now.reader.reader)) _ (length c.args.buf.now)
+            (omega (arith, c.if-room-held.true, ap (length {A = ℕ}) c.buffer-held.ensures)) c.consume.ensures.bytes),
         λ none some. absurd (omega (arith, none, some, c.copy_from_slice.ensures.len)),
       );
       hands = search rules;

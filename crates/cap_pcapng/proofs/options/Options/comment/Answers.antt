@@ -9,7 +9,8 @@ returns-clause-value c =
     elim c.match-next.branch [
       | in_default w ↦
           let misfit : IsErr w.in_default.field-0 = search rules in
-          let item : options_left c.loop-option.self ≡ item_of w.in_default.field-0 ∷ options_left c.next.new.self = rw w.in_default.is at c.next.ensures.steps in
+          let item : options_left c.loop-option.self ≡ item_of w.in_default.field-0 ∷ options_left c.next.new.self =
+          rw w.in_default.is at c.next.ensures.steps in
           misfit-fitting_options _ _ _ w.in_default.field-0 misfit item
       | in_default-2 w ↦
           let over = rw w.in_default.is at c.next.ensures.steps in

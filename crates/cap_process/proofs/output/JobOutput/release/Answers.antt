@@ -6,6 +6,20 @@ pub returns-clause-kept : goal.returns-clause-kept
 returns-clause-kept g c =
     elim c.match-self.branch [
       | in-Capture w ↦ rw (w.self-inside-is, ← c.self.view_is, w.in-Capture.is) (ap Capture w.release.ensures.kept)
-      | in-Text w ↦ rw (w.self-inside-is, ← c.self.view_is, w.in-Text.is, w.release-in-Text.ensures.written, w.release-in-Text.ensures.failures, w.release-in-Text.ensures.room) refl
-      | in-Lines w ↦ rw (w.self-inside-is, ← c.self.view_is, w.in-Lines.is, w.release-in-Lines.ensures.written, w.release-in-Lines.ensures.failures, w.release-in-Lines.ensures.room) refl
+      | in-Text w ↦ rw (
+        w.self-inside-is,
+        ← c.self.view_is,
+        w.in-Text.is,
+        w.release-in-Text.ensures.written,
+        w.release-in-Text.ensures.failures,
+        w.release-in-Text.ensures.room,
+      ) refl
+      | in-Lines w ↦ rw (
+        w.self-inside-is,
+        ← c.self.view_is,
+        w.in-Lines.is,
+        w.release-in-Lines.ensures.written,
+        w.release-in-Lines.ensures.failures,
+        w.release-in-Lines.ensures.room,
+      ) refl
     ]

@@ -1,4 +1,5 @@
-use Rattle.cap_process.proofs.Common.{[], arith, refl, ◌≡◌, ◌∙◌, ap, sym, get_or, ◌-◌, ◌<◌, ◌≤◌, length, get_or_default, get_or_from_slice_get, slice_get-get_or, option_copied, links_at, mark_at}
+use Rattle.cap_process.proofs.Common.{[], arith, refl, ◌≡◌, ◌∙◌, ap, sym, get_or, ◌-◌, ◌<◌, ◌≤◌, length, get_or_default, get_or_from_slice_get}
+use Rattle.cap_process.proofs.Common.{slice_get-get_or, option_copied, links_at, mark_at}
 use Rattle.cap_process.proofs.{Marks.is_there, Trees.ended, Trees.least, Trees.past_top, Trees.top_of}
 use Rattle.cap_process.proofs.window.Window.contains.Goals as goal
 
@@ -15,7 +16,8 @@ returns-then-is_same_mark g c =
     let step = least c.loop-step.invariant.way in
     let inside : c.loop-step.limit - c.loop-step.step < length c.self.inside.marks.items = omega (arith, c.loop-step.invariant.within, step) in
     let is : get_or c.self.inside.marks.items (c.loop-step.limit - c.loop-step.step) c.args.mark.now ≡ c.unwrap.result.now =
-    get_or_from_slice_get c.self.inside.marks.items (c.loop-step.limit - c.loop-step.step) c.unwrap.result.now c.args.mark.now (sym c.get.ensures ∙ ap option_copied c.unwrap.ensures) in
+    get_or_from_slice_get c.self.inside.marks.items (c.loop-step.limit - c.loop-step.step) c.unwrap.result.now c.args.mark.now
+    (sym c.get.ensures ∙ ap option_copied c.unwrap.ensures) in
     let equal : c.unwrap.result.now ≡ c.args.mark.now = c.is_same_mark.ensures.0 c.if-is_same_mark.true in
     rw (← c.self.view_is) ((λ _. (c.loop-step.limit - c.loop-step.step, inside, is ∙ equal)), (λ _. refl))
 
@@ -29,12 +31,14 @@ loop-step-preserved g c =
     let here : mark_at w.marks.items top ≡ c.unwrap.result.now =
     get_or_from_slice_get w.marks.items top c.unwrap.result.now _ (sym c.get.ensures ∙ ap option_copied c.unwrap.ensures) in
     let links : links_at w.links.items top ≡ c.unwrap-in-loop-step.result.now =
-    get_or_from_slice_get w.links.items top c.unwrap-in-loop-step.result.now _ (sym c.get-in-loop-step.ensures ∙ ap option_copied c.unwrap-in-loop-step.ensures) in
+    get_or_from_slice_get w.links.items top c.unwrap-in-loop-step.result.now _
+    (sym c.get-in-loop-step.ensures ∙ ap option_copied c.unwrap-in-loop-step.ensures) in
     let t = top_of c.loop-step.invariant.way c.loop-step-test.true in
     let step = least c.loop-step.invariant.way in
     rw (c.link-step.ensures, c.mark_bit.ensures, ← links) (record {
       way = t.below;
-      lacks = past_top t (λ equal. let yes = c.is_same_mark.ensures.1 (sym here ∙ equal) in let never = c.if-is_same_mark.false in cc) c.loop-step.invariant.lacks;
+      lacks = past_top t (λ equal. let yes = c.is_same_mark.ensures.1 (sym here ∙ equal) in let never = c.if-is_same_mark.false in cc)
+          c.loop-step.invariant.lacks;
       within = omega (arith, c.loop-step.invariant.within);
     })
 
@@ -56,4 +60,5 @@ overflow_sub-step g c =
 pub unwrap-requires : goal.unwrap-requires
 unwrap-requires g c =
     let step = least c.loop-step.invariant.way in
-    is_there _ _ (c.get.ensures ∙ slice_get-get_or c.self.inside.marks.items (c.loop-step.limit - c.loop-step.step) (record { length = 0; digest = [] }) (omega (arith, c.loop-step.invariant.within, step)))
+    is_there _ _ (c.get.ensures ∙ slice_get-get_or c.self.inside.marks.items (c.loop-step.limit - c.loop-step.step)
+    (record { length = 0; digest = [] }) (omega (arith, c.loop-step.invariant.within, step)))

@@ -1,4 +1,5 @@
-use Rattle.cap_tools.proofs.Common.{◌≡◌, ℕ, ◌+◌, List, Some, ap, ap₂, subst, Option, IsTold, MessagesView, Preparing, preparing_of, option_map, JobView, end_message, ending}
+use Rattle.cap_tools.proofs.Common.{◌≡◌, ℕ, ◌+◌, List, Some, ap, ap₂, subst, Option, IsTold, MessagesView, Preparing, preparing_of, option_map, JobView}
+use Rattle.cap_tools.proofs.Common.{end_message, ending}
 use Rattle.cap_tools.proofs.job.Job.end.Goals as goal
 
 pub returns-clause-ended : goal.returns-clause-ended
@@ -6,7 +7,14 @@ returns-clause-ended g c =
     let preparing : Option Preparing = option_map preparing_of c.self.inside.preparation in
     let with : List (List ℕ) → ℕ → JobView = λ names status. record {
       preparing = preparing;
-      state = record { inputs = c.self.inside.inputs; policy = c.self.inside.selector.policy; state = c.self.inside.selector.state; names = names; output = c.self.inside.output; decided = c.self.inside.decided };
+      state = record {
+        inputs = c.self.inside.inputs;
+        policy = c.self.inside.selector.policy;
+        state = c.self.inside.selector.state;
+        names = names;
+        output = c.self.inside.output;
+        decided = c.self.inside.decided;
+      };
       programs = c.self.inside.selector.programs;
       err = c.end.new.self.device;
       turns = c.self.inside.turns + 1;

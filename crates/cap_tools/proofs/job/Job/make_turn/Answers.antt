@@ -11,4 +11,5 @@ returns-then-is_some g c = one_step c.prepare.ensures
 
 pub returns-in-Some : goal.returns-in-Some
 returns-in-Some g c =
-    one_step (after-end g.I.Input.tells g.O.Output.tells g.E.Output.tells _ c.args.self.now c.in-Some.status c.self.view_is c.self.invariant c.in-Some.is (ap (λ (v : JobView). v.preparing) (sym c.self.view_is) ∙ none-before c.self.inside.preparation (sym c.if-is_some.ensures)))
+    one_step (after-end g.I.Input.tells g.O.Output.tells g.E.Output.tells _ c.args.self.now c.in-Some.status c.self.view_is c.self.invariant
+    c.in-Some.is (ap (λ (v : JobView). v.preparing) (sym c.self.view_is) ∙ none-before c.self.inside.preparation (sym c.if-is_some.ensures)))

@@ -1,4 +1,5 @@
-use Rattle.cap_tools.proofs.Common.{◌≡◌, ◌∙◌, ℕ, ◌+◌, List, Option, None, Some, refl, ap, ap₂, arith, subst, common_steps, option_map, refusal_status, Preparing, preparing_of, JobView, state_at, RefusesStart}
+use Rattle.cap_tools.proofs.Common.{◌≡◌, ◌∙◌, ℕ, ◌+◌, List, Option, None, Some, refl, ap, ap₂, arith, subst, common_steps, option_map, refusal_status}
+use Rattle.cap_tools.proofs.Common.{Preparing, preparing_of, JobView, state_at, RefusesStart}
 use Rattle.cap_tools.proofs.Weights.{is-light}
 use Rattle.cap_tools.proofs.job.Job.refuse.Goals as goal
 
@@ -14,11 +15,18 @@ returns-clause-refused g c =
       turns = c.self.inside.turns + 1;
       done = Some status;
     } in
-    let P : JobView → Type 0 = λ v. RefusesStart c.args.refusal g.E.Output.tells v (refusal_status c.args.refusal) (with preparing c.refuse.new.self.names c.status-status.result) in
+    let P : JobView → Type 0 = λ v. RefusesStart c.args.refusal g.E.Output.tells v (refusal_status c.args.refusal)
+    (with preparing c.refuse.new.self.names c.status-status.result) in
     let N : Option Preparing → JobView = λ p. with p c.refuse.new.self.names c.status-status.result in
-    subst P c.self.view_is (record { status_is = refl; exact = c.refuse.ensures.exact; new_is = ap N none ∙ ap₂ (with None) c.refuse.ensures.names c.status-status.ensures })
+    subst P c.self.view_is (record {
+      status_is = refl;
+      exact = c.refuse.ensures.exact;
+      new_is = ap N none ∙ ap₂ (with None) c.refuse.ensures.names
+          c.status-status.ensures;
+    })
 
 pub returns-clause-keeps : goal.returns-clause-keeps
 returns-clause-keeps g c = λ p.
-    let light = is-light (state_at c.refuse.new.self.names c.self.inside.inputs c.self.inside.selector c.self.inside.output c.self.inside.decided) c.self.invariant.1 c.self.invariant.2 in
+    let light = is-light (state_at c.refuse.new.self.names c.self.inside.inputs c.self.inside.selector c.self.inside.output c.self.inside.decided)
+    c.self.invariant.1 c.self.invariant.2 in
     grind (arith, common_steps, light)

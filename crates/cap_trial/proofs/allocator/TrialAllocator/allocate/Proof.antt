@@ -1,6 +1,14 @@
 -- A growth that is admitted is the inner allocator's; the refused one has no memory. Assumes
 -- `Logic`.
-use Rattle.cap_trial.proofs.Common.{◌≡◌, ℕ, Bool, ◌+◌, ◌^◌, ◌<◌, true, false, List, [], ◌∷◌, Ok, Err, refl, w64, Bor, proved, Al, α, seen, token, Answer, answer_val, Answer-typed, Answer-Ok, Answer-err, takes_key, Takes, at_takes, Answered, Takes-goes, Takes-gives, answers, Ura, Ty, Args, Fn, a_type, dnil, dcons, Val, vbool, vint, vptr, inst_fn, SProp, ent, id⊢, Lft, Share, ftrue, fsep, froom, flft, Memory, size, align, capped, up, Routine, WpFn, Tables, Logic, ◌⊑◌, ⊑_trans, Fun, fact, tables, fm_of, ‵, raw, ◌⊛◌, some, later, given, learn, ◌$◌, ◌∵◌, !, Sq, qed, move, keep, use0, use1, use2, split, join, pick, fsplit, fjoin, suffices, await, prop, at_ret, done, stop, fld, addr, lit, no_more, and_then, first, branches, skips, exec, returns, returns_within, enter, alloc_all, pass_all, free_all, look_at, get, through, sets, lands_as, env, usize, RefOf, yes, unhide, bounded, param, hidden_shr, uint_vals, uint_Tells, owns, block_ptr, shr_vals, Slot, plain, types_at, heard, nothing, calls_at, Ended, Clauses, Triple, Stays, stay_dropped, walk_of, ends_at, Goes-dropped}
+use Rattle.cap_trial.proofs.Common.{◌≡◌, ℕ, Bool, ◌+◌, ◌^◌, ◌<◌, true, false, List, [], ◌∷◌, Ok, Err, refl, w64, Bor, proved, Al, α, seen, token, Answer}
+use Rattle.cap_trial.proofs.Common.{answer_val, Answer-typed, Answer-Ok, Answer-err, takes_key, Takes, at_takes, Answered, Takes-goes, Takes-gives, answers}
+use Rattle.cap_trial.proofs.Common.{Ura, Ty, Args, Fn, a_type, dnil, dcons, Val, vbool, vint, vptr, inst_fn, SProp, ent, id⊢, Lft, Share, ftrue, fsep, froom}
+use Rattle.cap_trial.proofs.Common.{flft, Memory, size, align, capped, up, Routine, WpFn, Tables, Logic, ◌⊑◌, ⊑_trans, Fun, fact, tables, fm_of, ‵, raw, ◌⊛◌}
+use Rattle.cap_trial.proofs.Common.{some, later, given, learn, ◌$◌, ◌∵◌, !, Sq, qed, move, keep, use0, use1, use2, split, join, pick, fsplit, fjoin, suffices}
+use Rattle.cap_trial.proofs.Common.{await, prop, at_ret, done, stop, fld, addr, lit, no_more, and_then, first, branches, skips, exec, returns, returns_within}
+use Rattle.cap_trial.proofs.Common.{enter, alloc_all, pass_all, free_all, look_at, get, through, sets, lands_as, env, usize, RefOf, yes, unhide, bounded, param}
+use Rattle.cap_trial.proofs.Common.{hidden_shr, uint_vals, uint_Tells, owns, block_ptr, shr_vals, Slot, plain, types_at, heard, nothing, calls_at, Ended}
+use Rattle.cap_trial.proofs.Common.{Clauses, Triple, Stays, stay_dropped, walk_of, ends_at, Goes-dropped}
 use Rattle.std.proofs.VecSteps.Shapes.{after}
 use contract.Running.{tables_of}
 use types.Part.{agg}
@@ -57,28 +65,36 @@ module _ (Z : Al) {M : Type 1} {𝓤 : Ura M} (𝓛 : Logic 𝓤) (at_mem : Memo
         let Sized : Type 0 = (capped (size τ) ≡ n) × (capped (align τ) ≡ a) in
         -- from the tokens and what is answered to the end
         let none : Sq 𝓛 (‵ (flft κ₁ q₁) ∷ (‵ (flft κ₂ q₂) ⊛ ‵ ftrue) ∷ []) (prop (Post (answer_val false 0 0))) =
-        nothing ! $ suffices ! _ (ends_at 𝓛 (ended Z) (stayed Z) clauses W-ghost (answer_val false 0 0) (Err (record {})) (tt, (tt, (tt, tt))) (tt, (tt, (tt, tt)))) $
+        nothing ! $ suffices ! _ (ends_at 𝓛 (ended Z) (stayed Z) clauses W-ghost (answer_val false 0 0) (Err (record {})) (tt, (tt, (tt, tt)))
+        (tt, (tt, (tt, tt)))) $
         use0 𝓛 (‵ (Answer.own_val (Err (record {})) (answer_val false 0 0 ∷ []))) (Answer-err 𝓛) $
         nothing ! $ nothing ! $ fjoin ! $ nothing ! $ fjoin ! $ nothing ! $ fjoin ! $ join ! $ move ! (2 ∷ 3 ∷ []) $ join ! $ join ! $ done ! in
-        let block : (b o : ℕ) → Sq 𝓛 (‵ (fsep (froom τ b o) (token Z handle τ (block_ptr b o))) ∷ ‵ (flft κ₁ q₁) ∷ (‵ (flft κ₂ q₂) ⊛ ‵ ftrue) ∷ []) (prop (Post (answer_val true b o))) = λ b o.
+        let block : (b o : ℕ) → Sq 𝓛 (‵ (fsep (froom τ b o) (token Z handle τ (block_ptr b o))) ∷ ‵ (flft κ₁ q₁) ∷ (‵ (flft κ₂ q₂) ⊛ ‵ ftrue) ∷ [])
+        (prop (Post (answer_val true b o))) = λ b o.
         suffices ! _ (ends_at 𝓛 (ended Z) (stayed Z) clauses W-ghost (answer_val true b o) (Ok (block_ptr b o)) (tt, (tt, (tt, tt))) (tt, (tt, (tt, tt)))) $
         use0 𝓛 (‵ (Answer.own_val (Ok (block_ptr b o)) (answer_val true b o ∷ []))) (Answer-Ok 𝓛 b o) $
         nothing ! $ nothing ! $ fjoin ! $ nothing ! $ fjoin ! $ nothing ! $ fjoin ! $ join ! $ move ! (2 ∷ 3 ∷ []) $ join ! $ join ! $ done ! in
-        qed 𝓛 (((‵ (flft κ₁ q₁) ⊛ ‵ (flft κ₂ q₂) ⊛ ‵ ftrue) ⊛ ‵ (owns (types_at (ended Z).signature.params W-ghost.0.0) W-ghost.0.3 W-ghost.0.4)) ∷ (raw (fact 𝓤 (κ₂ ⊑ Z.row.lives)) ⊛ raw (fact 𝓤 Sized)) ∷ []) ∵
+        qed 𝓛 (((‵ (flft κ₁ q₁) ⊛ ‵ (flft κ₂ q₂) ⊛ ‵ ftrue) ⊛ ‵ (owns (types_at (ended Z).signature.params W-ghost.0.0) W-ghost.0.3 W-ghost.0.4)) ∷
+        (raw (fact 𝓤 (κ₂ ⊑ Z.row.lives)) ⊛ raw (fact 𝓤 Sized)) ∷ []) ∵
         move ! (1 ∷ []) $ split ! $ heard ! (κ₂ ⊑ Z.row.lives) (λ lives. heard ! Sized (λ sized.
-        split ! $ split ! $ move ! (2 ∷ []) $ fsplit ! $ fsplit ! $ move ! (1 ∷ []) $ unhide ! $ fsplit ! $ fsplit ! $ use1 𝓛 (‵ (seen Z κ₁ at handle)) (id⊢ 𝓤 _) $
+        split ! $ split ! $ move ! (2 ∷ []) $ fsplit ! $ fsplit ! $ move ! (1 ∷ []) $ unhide ! $ fsplit ! $ fsplit ! $ use1 𝓛
+        (‵ (seen Z κ₁ at handle)) (id⊢ 𝓤 _) $
         move ! (1 ∷ []) $ fsplit ! $ use1 𝓛 (‵ (hidden_shr P.the_row κ₁ r.now.plan plan_at.0 plan_at.1)) (id⊢ 𝓤 _) $ keep ! (0 ∷ 6 ∷ 2 ∷ 7 ∷ []) $
         -- [the plan; its token; the handle; the other tokens]
-        enter ! 𝓣.C 𝓣.Λ (body Z) values _ $ alloc_all ! (λ l. pass_all ! refl ((tt, tt), ((tt, record { fits = n_fits }), ((tt, record { fits = a_fits }), tt))) $
+        enter ! 𝓣.C 𝓣.Λ (body Z) values _ $ alloc_all !
+        (λ l. pass_all ! refl ((tt, tt), ((tt, record { fits = n_fits }), ((tt, record { fits = a_fits }), tt))) $
         sets ! (addr ! (through ! refl (fld ! refl (stop !)))) refl (tt, tt) $
         use2 𝓛 (raw ((Admits 𝓛 at_mem run).pre counted)) (Admits-goes 𝓛 at_mem run κ₁ q₁ plan_at r.now.plan) $
         calls_at ! (fm_of 𝓤 H 𝓛.laws 𝓣) (Admits 𝓛 at_mem run) counts counted (and_then ! (get ! refl) (no_more !)) (λ v.
-        use1 𝓛 (later (some (λ (y : Bool). given (v ≡ vbool y) (‵ (flft κ₁ q₁))))) (Admits-gives 𝓛 at_mem run κ₁ q₁ plan_at r.now.plan v) $ await ! tt $ pick ! (λ y. learn ! (λ is.
+        use1 𝓛 (later (some (λ (y : Bool). given (v ≡ vbool y) (‵ (flft κ₁ q₁))))) (Admits-gives 𝓛 at_mem run κ₁ q₁ plan_at r.now.plan v) $ await ! tt
+        $ pick ! (λ y. learn ! (λ is.
         lands_as ! is refl (tt, tt) $
         first ! $ branches ! (get ! refl)
         (λ admitted. sets ! (addr ! (through ! refl (fld ! refl (stop !)))) refl (tt, tt) $ move ! (1 ∷ []) $
-        use2 𝓛 (raw ((Takes Z 𝓛 at_mem run).pre asked)) (Takes-goes Z 𝓛 at_mem run κ₁ q₁ at handle (⊑_trans κ₁ κ₂ Z.row.lives inner lives) n a τ sized.0 sized.1 n_fits a_fits) $
-        calls_at ! (fm_of 𝓤 H 𝓛.laws 𝓣) (Takes Z 𝓛 at_mem run) takes asked (and_then ! (get ! refl) (and_then ! (get ! refl) (and_then ! (get ! refl) (no_more !)))) (λ w.
+        use2 𝓛 (raw ((Takes Z 𝓛 at_mem run).pre asked)) (Takes-goes Z 𝓛 at_mem run κ₁ q₁ at handle (⊑_trans κ₁ κ₂ Z.row.lives inner lives) n a τ
+        sized.0 sized.1 n_fits a_fits) $
+        calls_at ! (fm_of 𝓤 H 𝓛.laws 𝓣) (Takes Z 𝓛 at_mem run) takes asked
+        (and_then ! (get ! refl) (and_then ! (get ! refl) (and_then ! (get ! refl) (no_more !)))) (λ w.
         use1 𝓛 (later (raw (Answered Z 𝓛 at_mem run handle τ w) ⊛ ‵ (flft κ₁ q₁))) (Takes-gives Z 𝓛 at_mem run κ₁ q₁ at handle n a τ w) $ await ! tt $ split ! $
         answers Z ! at_mem run handle τ w
         (λ b o e. fjoin ! $ lands_as ! e refl (Answer-typed true b o) $ returns_within ! Post refl (look_at ! 0 refl) $ free_all ! refl $ block b o)

@@ -1,5 +1,12 @@
 -- A block goes back to the inner allocator. Assumes `Logic`.
-use Rattle.cap_trial.proofs.Common.{◌≡◌, ℕ, ◌+◌, ◌^◌, ◌<◌, List, [], ◌∷◌, refl, w64, Bor, proved, Al, α, seen, token, gives_key, Gives, at_gives, Gives-goes, Gives-Gives, Ura, Ty, Args, Fn, a_type, dnil, dcons, Val, vint, vptr, vunit, inst_fn, SProp, ent, id⊢, never_e, Lft, Share, ffalse, ftrue, fsep, froom, flft, Memory, size, align, capped, up, Routine, WpFn, Tables, Logic, ◌⊑◌, ⊑_trans, Fun, fact, tables, fm_of, Item, ‵, raw, ◌⊛◌, later, given, learn, ◌$◌, ◌∵◌, !, qed, by, move, keep, use1, split, split3, join, fsplit, fjoin, feq_i, suffices, await, done, stop, fld, addr, of_opd, unit_lit, no_more, and_then, returns, enter, alloc_all, pass_all, free_all, look_at, get, through, sets, lands_as, usize, RawPtr, RefOf, yes, unhide, bounded, param, uint_vals, uint_Tells, owns, Ptr, block_ptr, null_ptr, ptr_val, rawptr_vals, rawptr_Tells, shr_vals, Slot, plain, types_at, heard, nothing, calls_at, Ended, Clauses, Triple, Stays, stay_dropped, walk_of, ends_at, Goes-dropped}
+use Rattle.cap_trial.proofs.Common.{◌≡◌, ℕ, ◌+◌, ◌^◌, ◌<◌, List, [], ◌∷◌, refl, w64, Bor, proved, Al, α, seen, token, gives_key, Gives, at_gives, Gives-goes}
+use Rattle.cap_trial.proofs.Common.{Gives-Gives, Ura, Ty, Args, Fn, a_type, dnil, dcons, Val, vint, vptr, vunit, inst_fn, SProp, ent, id⊢, never_e, Lft, Share}
+use Rattle.cap_trial.proofs.Common.{ffalse, ftrue, fsep, froom, flft, Memory, size, align, capped, up, Routine, WpFn, Tables, Logic, ◌⊑◌, ⊑_trans, Fun, fact}
+use Rattle.cap_trial.proofs.Common.{tables, fm_of, Item, ‵, raw, ◌⊛◌, later, given, learn, ◌$◌, ◌∵◌, !, qed, by, move, keep, use1, split, split3, join, fsplit}
+use Rattle.cap_trial.proofs.Common.{fjoin, feq_i, suffices, await, done, stop, fld, addr, of_opd, unit_lit, no_more, and_then, returns, enter, alloc_all}
+use Rattle.cap_trial.proofs.Common.{pass_all, free_all, look_at, get, through, sets, lands_as, usize, RawPtr, RefOf, yes, unhide, bounded, param, uint_vals}
+use Rattle.cap_trial.proofs.Common.{uint_Tells, owns, Ptr, block_ptr, null_ptr, ptr_val, rawptr_vals, rawptr_Tells, shr_vals, Slot, plain, types_at, heard}
+use Rattle.cap_trial.proofs.Common.{nothing, calls_at, Ended, Clauses, Triple, Stays, stay_dropped, walk_of, ends_at, Goes-dropped}
 use contract.Running.{tables_of}
 use Rattle.cap_trial.specs.contracts.allocator.Trial as T
 use Rattle.cap_trial.specs.contracts.allocator.TrialAllocator.deallocate as F
@@ -33,7 +40,16 @@ module _ (Z : Al) {M : Type 1} {𝓤 : Ura M} (𝓛 : Logic 𝓤) (at_mem : Memo
 
   module _ (κ₁ κ₂ : Lft) (q₁ q₂ : Share) (inner : κ₁ ⊑ κ₂) (r : Bor (T.the_row Z.row).Denot) (n a : ℕ) (τ : Ty) where
     abbrev W-ghost : Ptr → (walk_of 𝓛 (ended Z) (stayed Z) clauses).Ghost
-    W-ghost x = (((κ₁, (κ₂, tt)), (q₁, (q₂, tt)), (inner, tt), (r, (x, (n, (a, tt)))), (shr_vals r, (rawptr_vals x, (vint w64 n ∷ [], (vint w64 a ∷ [], tt))))), τ)
+    W-ghost x = (
+      (
+        (κ₁, (κ₂, tt)),
+        (q₁, (q₂, tt)),
+        (inner, tt),
+        (r, (x, (n, (a, tt)))),
+        (shr_vals r, (rawptr_vals x, (vint w64 n ∷ [], (vint w64 a ∷ [], tt)))),
+      ),
+      τ,
+    )
 
     abbrev values : Ptr → List Val
     values x = vptr r.ref_ptr.0 r.ref_ptr.1 ∷ ptr_val x ∷ vint w64 n ∷ vint w64 a ∷ []
@@ -47,7 +63,8 @@ module _ (Z : Al) {M : Type 1} {𝓤 : Ura M} (𝓛 : Logic 𝓤) (at_mem : Memo
     abbrev Sized : Type 0
     Sized = (capped (size τ) ≡ n) × (capped (align τ) ≡ a)
 
-    walk : n < 2 ^ 64 → a < 2 ^ 64 → (x : Ptr) → ent 𝓤 ((walk_of 𝓛 (ended Z) (stayed Z) clauses).pre (W-ghost x)) (WpFn 𝓤 H 𝓣.C 𝓣.Λ (body Z) (values x) (Post x))
+    walk : n < 2 ^ 64 → a < 2 ^ 64 → (x : Ptr) → ent 𝓤 ((walk_of 𝓛 (ended Z) (stayed Z) clauses).pre (W-ghost x))
+        (WpFn 𝓤 H 𝓣.C 𝓣.Λ (body Z) (values x) (Post x))
     -- nothing lies at null
     walk n_fits a_fits null_ptr =
         qed 𝓛 (entry null_ptr ∷ (raw (fact 𝓤 (κ₂ ⊑ Z.row.lives)) ⊛ raw (fact 𝓤 Sized) ⊛ ‵ (fsep ffalse (token Z r.now.inner τ null_ptr))) ∷ []) ∵
@@ -60,14 +77,19 @@ module _ (Z : Al) {M : Type 1} {𝓤 : Ura M} (𝓛 : Logic 𝓤) (at_mem : Memo
         qed 𝓛 (entry x ∷ (raw (fact 𝓤 (κ₂ ⊑ Z.row.lives)) ⊛ raw (fact 𝓤 Sized) ⊛ ‵ (fsep (froom τ b o) (token Z handle τ x))) ∷ []) ∵
         move ! (1 ∷ []) $ split3 ! $ heard ! (κ₂ ⊑ Z.row.lives) (λ lives. heard ! Sized (λ sized. fsplit ! $
         -- [the block; its token; what came in]
-        move ! (2 ∷ []) $ split ! $ split ! $ move ! (2 ∷ []) $ fsplit ! $ fsplit ! $ move ! (1 ∷ []) $ unhide ! $ fsplit ! $ fsplit ! $ use1 𝓛 (‵ (seen Z κ₁ at handle)) (id⊢ 𝓤 _) $
+        move ! (2 ∷ []) $ split ! $ split ! $ move ! (2 ∷ []) $ fsplit ! $ fsplit ! $ move ! (1 ∷ []) $ unhide ! $ fsplit ! $ fsplit ! $ use1 𝓛
+        (‵ (seen Z κ₁ at handle)) (id⊢ 𝓤 _) $
         keep ! (0 ∷ 5 ∷ 7 ∷ 8 ∷ 6 ∷ []) $ join ! $ move ! (2 ∷ 0 ∷ []) $ join ! $ move ! (1 ∷ 0 ∷ []) $ join ! $
-        use1 𝓛 (raw ((Gives Z 𝓛 at_mem run).pre given_back)) (Gives-goes Z 𝓛 at_mem run κ₁ q₁ at handle (⊑_trans κ₁ κ₂ Z.row.lives inner lives) b o n a τ sized.0 sized.1 n_fits a_fits) $
+        use1 𝓛 (raw ((Gives Z 𝓛 at_mem run).pre given_back)) (Gives-goes Z 𝓛 at_mem run κ₁ q₁ at handle (⊑_trans κ₁ κ₂ Z.row.lives inner lives) b o n
+        a τ sized.0 sized.1 n_fits a_fits) $
         -- [what the inner allocator is handed; the other tokens]
-        enter ! 𝓣.C 𝓣.Λ (body Z) (values x) _ $ alloc_all ! (λ l. pass_all ! refl ((tt, tt), ((tt, tt), ((tt, record { fits = n_fits }), ((tt, record { fits = a_fits }), tt)))) $
+        enter ! 𝓣.C 𝓣.Λ (body Z) (values x) _ $ alloc_all !
+        (λ l. pass_all ! refl ((tt, tt), ((tt, tt), ((tt, record { fits = n_fits }), ((tt, record { fits = a_fits }), tt)))) $
         sets ! (addr ! (through ! refl (fld ! refl (stop !)))) refl (tt, tt) $
-        calls_at ! (fm_of 𝓤 H 𝓛.laws 𝓣) (Gives Z 𝓛 at_mem run) gives given_back (and_then ! (get ! refl) (and_then ! (get ! refl) (and_then ! (get ! refl) (and_then ! (get ! refl) (no_more !))))) (λ v.
-        use1 𝓛 (later (given (v ≡ vunit) (‵ (flft κ₁ q₁)))) (Gives-Gives Z 𝓛 at_mem run κ₁ q₁ at handle b o n a τ v) $ await ! tt $ learn ! (λ is. lands_as ! is refl (tt, tt) $
+        calls_at ! (fm_of 𝓤 H 𝓛.laws 𝓣) (Gives Z 𝓛 at_mem run) gives given_back
+        (and_then ! (get ! refl) (and_then ! (get ! refl) (and_then ! (get ! refl) (and_then ! (get ! refl) (no_more !))))) (λ v.
+        use1 𝓛 (later (given (v ≡ vunit) (‵ (flft κ₁ q₁)))) (Gives-Gives Z 𝓛 at_mem run κ₁ q₁ at handle b o n a τ v) $ await ! tt $ learn !
+        (λ is. lands_as ! is refl (tt, tt) $
         sets ! (of_opd ! (unit_lit !)) refl (tt, tt) $ returns ! (look_at ! 0 refl) $ free_all ! refl $
         suffices ! _ (ends_at 𝓛 (ended Z) (stayed Z) clauses (W-ghost x) vunit tt (tt, (tt, (tt, (tt, tt)))) (tt, (tt, (tt, (tt, tt))))) $
         -- nothing is ensured; the result; the four parameters
@@ -85,5 +107,6 @@ deallocate_spec 𝓤 𝓛 𝓜 𝓡 wired Y laws g d drops met _ =
     proved 𝓛 (ended Z) (stayed Z) (F.clauses Y g d drops 𝓛 𝓜.mem 𝓡.returns) 𝓜 𝓡
     (Goes-dropped 𝓛 2 (self Z) yes (λ κs x f. refl), (Goes-dropped 𝓛 2 (plain (λ _. RawPtr)) yes (λ κs x f. refl), (number, (number, tt))))
     (F.Key.name (args Z)) (body Z) (code.unfolded 𝓤 𝓛.H 𝓜 𝓡 wired (Y, tt) d drops)
-    (λ κs. (shr_vals, (rawptr_vals, (uint_vals w64, (uint_vals w64, tt))))) (λ κs. ((λ r vs s. s.0), (rawptr_Tells, (uint_Tells w64, (uint_Tells w64, tt))))) (λ κs qs bounds a τ are.
+    (λ κs. (shr_vals, (rawptr_vals, (uint_vals w64, (uint_vals w64, tt)))))
+    (λ κs. ((λ r vs s. s.0), (rawptr_Tells, (uint_Tells w64, (uint_Tells w64, tt))))) (λ κs qs bounds a τ are.
     walk Z 𝓛 𝓜.mem 𝓡.returns 𝓣 (met.deallocate drops) κs.0 κs.1.0 qs.0 qs.1.0 bounds.0 a.0 a.1.1.0 a.1.1.1.0 τ are.1.1.0.1 are.1.1.1.0.1 a.1.0)

@@ -8,7 +8,8 @@ pub returns-in-Ok-clause-ok : goal.returns-in-Ok-clause-ok
 returns-in-Ok-clause-ok c =
     let e = c.in-Ok.ensures.ok in
     let r = c.in-Ok.read in
-    let u = block_unit c.args.form c.args.section c.args.first (first_interfaces c.args.count c.args.table.now) c.args.text.now r.order r.size (first_interfaces r.effect.interfaces c.read_block.new.table) r.effect.packet
+    let u = block_unit c.args.form c.args.section c.args.first (first_interfaces c.args.count c.args.table.now) c.args.text.now r.order r.size
+    (first_interfaces r.effect.interfaces c.read_block.new.table) r.effect.packet
     c.requires.begins e.stands e.of in
     let P : Option ℕ → Type 0 = λ link. BeginsWithUnit c.args.form (first_interfaces c.args.count c.args.table.now) c.args.text.now c.read_block.new.table
     (record { size = r.size; form = FileState.Pcapng r.order link; interfaces = r.effect.interfaces; packet = r.effect.packet }) in
@@ -24,4 +25,5 @@ returns-in-Ok-clause-ok c =
 
 pub returns-in-Err-clause-err : goal.returns-in-Err-clause-err
 returns-in-Err-clause-err c =
-    no_unit c.args.form c.args.section c.args.first (first_interfaces c.args.count c.args.table.now) c.args.text.now (length c.args.table.now) c.in-Err.why c.requires.begins c.in-Err.ensures.err
+    no_unit c.args.form c.args.section c.args.first (first_interfaces c.args.count c.args.table.now) c.args.text.now (length c.args.table.now)
+    c.in-Err.why c.requires.begins c.in-Err.ensures.err

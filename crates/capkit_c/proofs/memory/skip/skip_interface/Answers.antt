@@ -27,7 +27,8 @@ returns c =
     let room = c.if-count-table.false in
     let same = c.append_interface.ensures.same in
     let there = c.requires.there in
-    let added : first_interfaces (most_known c.args.reader.now (length t)) t ++ i ∷ [] ≡ following = ap (λ n. first_interfaces n t ++ i ∷ []) (sym counted.value) ∙ sym c.append_interface.ensures.put in
+    let added : first_interfaces (most_known c.args.reader.now (length t)) t ++ i ∷ [] ≡ following = ap (λ n. first_interfaces n t ++ i ∷ [])
+    (sym counted.value) ∙ sym c.append_interface.ensures.put in
     let order = c.args.order in
     let r' = c.new_at.result in
     let new = c.new_at.ensures in
@@ -37,4 +38,5 @@ returns c =
     (ap (λ (l : List Described). PcapngFile (first_link_after c.args.first (section_of order l)) (section_of order l)) added
     ∙ ap (λ link. PcapngFile link (section_of order following)) (sym (c.first_link_type-link.ensures order))
     ∙ declared_after (form.Pcapng order c.first_link_type-link.result) r' t' (count + 1) new.form new.interfaces inside most)
-    (is_after c.args.capture.now c.args.frame.now.length c.args.reader.now r' t' (form.Pcapng order c.first_link_type-link.result) (count + 1) new.offset there c.requires.some new.form new.link new.interfaces inside most) same
+    (is_after c.args.capture.now c.args.frame.now.length c.args.reader.now r' t' (form.Pcapng order c.first_link_type-link.result) (count + 1)
+    new.offset there c.requires.some new.form new.link new.interfaces inside most) same

@@ -15,6 +15,7 @@ returns c =
       | else-is_empty w ↦ rw w.start-is (named _ name _ (sym c.is_empty.ensures ∙ w.if-is_empty.false) padding.padded c.option_header-option.ensures)
     ] in
     unrefused _ _ _ _ _ c.put_parts.result refl
-    (interface_joined c.args.packet.now.link c.args.packet.now.snap c.padding_after-padding.result name c.interface_header-head.result option c.interface_end-end.result
+    (interface_joined c.args.packet.now.link c.args.packet.now.snap c.padding_after-padding.result name c.interface_header-head.result option
+    c.interface_end-end.result
     padding.short name_is c.interface_header-head.ensures c.interface_end-end.ensures)
     c.put_parts.ensures

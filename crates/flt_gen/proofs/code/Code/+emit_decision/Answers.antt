@@ -60,7 +60,8 @@ returns-then-not-is_parted g t c =
     let by = case_tests a.link a.direction in
     let whole : false ≡ is_parted by a.word a.cases.now c.middle-at.result = search rules in
     subst (λ (x : Formula). Emits r.result (emit_formula a.link x a.to.yes a.to.no a.self.now) r.new.self)
-    (decision_halves a.few a.most by a.word a.cases.now (omega arith) (omega arith) c.test_at-test.result c.middle-at.result false c.test_at-test.ensures c.middle-at.ensures
+    (decision_halves a.few a.most by a.word a.cases.now (omega arith) (omega arith) c.test_at-test.result c.middle-at.result false
+    c.test_at-test.ensures c.middle-at.ensures
     (sym c.if-all_keep.false ∙ c.all_keep.ensures ∙ ap (λ n. all_keep by a.word (Exactly n) a.cases.now) c.lowest.ensures) whole)
     r.ensures
 
@@ -74,12 +75,14 @@ returns g t c =
     let upper = decision a.few (a.most - 1) by a.word (drop at a.cases.now) in
     let lower = decision a.few (a.most - 1) by a.word (take at a.cases.now) in
     let test = c.from_test.ensures ∙ ap (from_test c.test_at-test.result) (c.lowest-number.ensures ∙ ap lowest c.test_at-2.ensures) in
-    let yes = ap (λ cs. emit_formula a.link (decision a.few (a.most - 1) by a.word cs) a.to.yes a.to.no c.emit_decision-2.new.self) (sym (take_rest a.cases.now at)) ∙ c.in_ok-yes-2.ensures in
+    let yes = ap (λ cs. emit_formula a.link (decision a.few (a.most - 1) by a.word cs) a.to.yes a.to.no c.emit_decision-2.new.self)
+    (sym (take_rest a.cases.now at)) ∙ c.in_ok-yes-2.ensures in
     subst (λ (e : Block). Emits r.result e r.new.self)
     (sym (ap (λ (x : Formula). emit_formula a.link x a.to.yes a.to.no a.self.now)
     (sym (ap (λ x. Split x upper lower) test
     ∙ decision_halves a.few a.most by a.word a.cases.now (omega arith) (omega arith) c.test_at-test.result at true c.test_at-test.ensures c.middle-at.ensures
     (sym c.if-all_keep.false ∙ c.all_keep.ensures ∙ ap (λ n. all_keep by a.word (Exactly n) a.cases.now) c.lowest.ensures) apart))
-    ∙ ap (λ (e : Block). let f = emit_formula a.link upper a.to.yes a.to.no e.code in emit_elementary c.from_test.result f.entry e.entry f.code) c.in_ok-no.ensures
+    ∙ ap (λ (e : Block). let f = emit_formula a.link upper a.to.yes a.to.no e.code in emit_elementary c.from_test.result f.entry e.entry f.code)
+    c.in_ok-no.ensures
     ∙ ap (λ (f : Block). emit_elementary c.from_test.result f.entry c.in_ok-no.no f.code) yes))
     r.ensures

@@ -6,8 +6,14 @@ use Rattle.flt_lang.proofs.reader.Reader.read_after_operand.Goals as goal
 
 pub returns-in_err-reduced-in_default-clause-reads : goal.returns-in_err-reduced-in_default-clause-reads
 returns-in_err-reduced-in_default-clause-reads g c =
-    failed c.from_residual.result c.in_err-reduced-in_default.ensures.reads c.from_residual.ensures.1 (λ none. next_read c.args.first _ c.args.self.now.frames c.args.operand c.args.self.now.nodes _ _
-    (elim c.in_default.branch [ in_default-via-in-Some+else-operand_precedence-ge1 w ↦ inr (rw w.operand_precedence.ensures at w.if-operand_precedence-ge1.false) | in_default-via-in_default w ↦ inl (sym c.number_with_prefix.ensures.value ∙ w.in_default.is) ])
+    failed c.from_residual.result c.in_err-reduced-in_default.ensures.reads c.from_residual.ensures.1
+    (λ none. next_read c.args.first _ c.args.self.now.frames c.args.operand c.args.self.now.nodes _ _
+    (elim c.in_default.branch [
+      | in_default-via-in-Some+else-operand_precedence-ge1 w ↦
+          inr (rw w.operand_precedence.ensures at w.if-operand_precedence-ge1.false)
+      | in_default-via-in_default w ↦
+          inl (sym c.number_with_prefix.ensures.value ∙ w.in_default.is)
+    ])
     c.token_precedence.ensures none)
 
 pub returns-in-Some-clause-reads : goal.returns-in-Some-clause-reads
@@ -17,5 +23,10 @@ returns-in-Some-clause-reads g c =
 pub returns-in_ok-reduced-in_default-clause-reads : goal.returns-in_ok-reduced-in_default-clause-reads
 returns-in_ok-reduced-in_default-clause-reads g c =
     same_given (next_read c.args.first _ c.args.self.now.frames c.args.operand c.args.self.now.nodes _ _
-    (elim c.in_default.branch [ in_default-via-in-Some+else-operand_precedence-ge1 w ↦ inr (rw w.operand_precedence.ensures at w.if-operand_precedence-ge1.false) | in_default-via-in_default w ↦ inl (sym c.number_with_prefix.ensures.value ∙ w.in_default.is) ])
+    (elim c.in_default.branch [
+      | in_default-via-in-Some+else-operand_precedence-ge1 w ↦
+          inr (rw w.operand_precedence.ensures at w.if-operand_precedence-ge1.false)
+      | in_default-via-in_default w ↦
+          inl (sym c.number_with_prefix.ensures.value ∙ w.in_default.is)
+    ])
     c.token_precedence.ensures c.in_ok-reduced-in_default.ensures.reads.ok) c.shift_or_close.ensures.reads

@@ -1,5 +1,5 @@
 // What axe-core would look at on such a page, by the names of its rules: each function lists what
-// breaks its rule. The last expression is what check_access.py gets.
+// breaks its rule. The last expression is what check_page.py gets.
 (() => {
   const all = (selector) => [...document.querySelectorAll(selector)];
   const start = (element) => element.outerHTML.slice(0, 80);
@@ -27,19 +27,17 @@
       return levels.filter((level, at) => at && level > levels[at - 1] + 1);
     },
     "landmark-one-main": () => (all("main").length === 1 ? [] : ["main"]),
-    "landmark-unique": () => repeated(all("[role=region]").map((e) => e.getAttribute("aria-label"))),
-    "region": () => outside("h1,h2,h3,p,table,svg,pre,[role=listbox]", "main,header").map(start),
+    "landmark-unique": () => repeated(all("[role=region]").map((e) => e.getAttribute("aria-label")
+      || document.getElementById(e.getAttribute("aria-labelledby")).textContent)),
+    "region": () => outside("h1,h2,h3,p,table,pre,[role=listbox]", "main,header").map(start),
     "bypass": () => (document.querySelector(document.querySelector("a.skip").hash) ? [] : ["skip"]),
-    "label": () => all("select,input").filter((e) => !e.labels.length).map(start),
-    "svg-img-alt": () => all("svg,[role=img]").filter((e) => !e.parentNode.closest("[role=img]")
-      && !(e.getAttribute("role") === "img" && e.getAttribute("aria-label"))).map(start),
+    "label": () => all("select,input,textarea").filter((e) => !e.labels.length && !e.hasAttribute("aria-labelledby")).map(start),
     "aria-labelledby": () => all("[aria-labelledby]").filter((e) =>
       !document.getElementById(e.getAttribute("aria-labelledby"))).map(start),
     "aria-required-children": () => [...without("[role=listbox]", "[role=option]"),
-      ...without("[role=table]", "[role=row]"), ...without("[role=row]", "[role$=cell],[role$=header]")].map(start),
+      ...without("table", "tr")].map(start),
     "aria-required-parent": () => [...outside("[role=option]", "[role=listbox]"),
-      ...outside("[role=cell],[role=rowheader],[role=columnheader]", "[role=row]"),
-      ...outside("[role=row]", "[role=table]")].map(start),
+      ...outside("tr", "table")].map(start),
     "aria-valid-attr-value": () => all("[aria-activedescendant]").filter((e) => {
       const active = document.getElementById(e.getAttribute("aria-activedescendant"));
       return !active || active.getAttribute("aria-selected") !== "true";
@@ -47,12 +45,11 @@
     "one-selected": () => all("[aria-selected=true]").slice(1).map(start),
     "scope-attr-valid": () => all("th").filter((e) => !["row", "col"].includes(e.scope)).map(start),
     "table-caption": () => all("table").filter((e) => !e.caption).map(start),
-    "table-name": () => all("[role=table]").filter((e) => !e.getAttribute("aria-label")).map(start),
     "list": () => foreign("ul,ol", ["LI"]).map(start),
     "definition-list": () => foreign("dl", ["DT", "DD"]).map(start),
     "tabindex": () => all("[tabindex]").filter((e) => e.tabIndex > 0).map(start),
     "scrollable-region-focusable": () => all("body *").filter((e) => e.tabIndex < 0 && moves(e)).map(start),
-    "nested-interactive": () => all("[role=option] a,[role=option] button,[role=img] [tabindex]").map(start),
+    "nested-interactive": () => all("[role=option] a,[role=option] button").map(start),
     "colour-alone": () => all("[role=option]").filter((e) =>
       !e.querySelector(".spoken").textContent.trim()).map(start),
   };
@@ -65,8 +62,6 @@
     sum + linear(value / 255) * [0.2126, 0.7152, 0.0722][at], 0);
   const ground = (element) => {
     for (let at = element; at; at = at.parentElement) {
-      const box = at.tagName === "g" ? getComputedStyle(at.querySelector("rect")).fill : "none";
-      if (box !== "none") return box;
       const colour = getComputedStyle(at).backgroundColor;
       if (numbers(colour)[3] !== 0) return colour;
     }
@@ -77,7 +72,7 @@
     return size >= 24 || (size >= 18.66 && style.fontWeight >= 700) ? 3 : 4.5;
   };
   const isDrawn = (text) => text.data.trim() && text.parentElement.getClientRects().length
-    && !text.parentElement.closest("script,style,noscript,[hidden],.spoken");
+    && !text.parentElement.closest("script,style,noscript,[hidden],.spoken,.mirror,:disabled");
   const lowContrasts = () => {
     const seen = new Map();
     const walk = document.createTreeWalker(document.body, NodeFilter.SHOW_TEXT);
@@ -85,8 +80,7 @@
       const element = walk.currentNode.parentElement;
       if (!isDrawn(walk.currentNode)) continue;
       const style = getComputedStyle(element);
-      const ink = element.closest("svg") ? style.fill : style.color;
-      const [more, less] = [light(ink), light(ground(element))].sort((one, other) => other - one);
+      const [more, less] = [light(style.color), light(ground(element))].sort((one, other) => other - one);
       const ratio = (more + 0.05) / (less + 0.05);
       seen.set(element.tagName + " " + ratio.toFixed(2), ratio < needed(style));
     }
