@@ -4,32 +4,13 @@
 usage: salvage.py [-F FORMAT] [-n ROW] [--like FILE] IN OUT    (- is standard input or output)
 
 A file that capkit reads to its end is written as `capkit edit` does. In another one the packets are
-written up to the first damage, and from then on by these rules. A unit is a record or a block.
-1. A chain is a row of units with consistent lengths, each of which begins at the end of the last.
-2. It is believed if no packet can carry it (64 KiB and 32 units, or 2 MiB). ROW (3) units suffice
-   if they lead to the end of the file or to a file header, or if they are from one second before
-   the last packet to a day after it (a minute, if the clock wasn't set), and two of the first three
-   records have a sign of rule 4. A file header at the end of the last unit needs no chain.
-3. The first chain wins; if chains meet, the one with most units before. Its start is left out if it
-   is earlier than the last packet and the rest isn't: a lost packet may have carried it.
-4. A record next to damage needs two of four signs: it begins at the end of the last one; it ends at
-   the chain; its time is within a day of one near it, and these agree; its lengths are equal, and
-   no less than 14 or all near it, or it is as long as the longest of them. Times before 1971 aren't
-   a sign, but one against it if they aren't between those next to it. Without two it is dropped:
-   the first records of a chain, and the last eight before damage. Bytes that are read in two ways
-   go to the side with more signs. A chain is dropped if reading it ends within ROW records.
-5. Reading stops, and a chain is refused, 4 bytes off (fractions are captured lengths) or 1 byte off
-   (lengths are 256 times too long, and the record 1 byte off has more signs).
-6. Corrected and reported are a fraction of a second or more (0, if a record follows and one sign is
-   present), a damaged length (if the other one leads to the chain), a time out of range (0), the
-   version and link type field, options that capkit refuses, and text mode. Packets whose interface
-   isn't known are dropped. --like takes a lost beginning from another FILE of the same program.
-docs/RELIABILITY.md says what can still be made up. IN isn't changed; it is copied if it is a pipe
-or in text mode. OUT gets its name at the end. The status is 0 if IN was in order, 1 if not or if
-nothing was written, 2 if the command line is wrong. Needs Python 3.10.
+written up to the first damage, and from then on by the rules in docs/RELIABILITY.md. IN is copied if
+it is a pipe or in text mode. OUT gets its name at the end. The status is 0 if IN was in order, 1 if
+not or if nothing was written, 2 if the command line is wrong. Needs Python 3.10.
 """
 import argparse
 import contextlib
+import functools
 import itertools
 import os
 import re
@@ -40,9 +21,8 @@ import sys
 import tempfile
 from collections import deque
 
-FORMS = {b"\xd4\xc3\xb2\xa1": ("<", 10**6), b"\x4d\x3c\xb2\xa1": ("<", 10**9),
-         b"\xa1\xb2\xc3\xd4": (">", 10**6), b"\xa1\xb2\x3c\x4d": (">", 10**9)}
-MAGICS = {form: magic for magic, form in FORMS.items()}
+MAGICS = {(it, units): struct.pack(it + "I", magic) for it in "<>" for units, magic in ((10**6, 0xA1B2C3D4), (10**9, 0xA1B23C4D))}
+FORMS = {magic: form for form, magic in MAGICS.items()}
 SECTION, INTERFACE, OBSOLETE, SIMPLE, ENHANCED = 0x0A0D0D0A, 1, 2, 3, 6
 LEAST = {SECTION: 28, INTERFACE: 20, OBSOLETE: 12, SIMPLE: 16, ENHANCED: 32}
 SECTION_TYPE, ORDER_MAGIC = b"\n\r\r\n", 0x1A2B3C4D
@@ -82,6 +62,9 @@ class Source:
         return self.data, self.base
 
     def get(self, at, size):
+        place = at - self.base
+        if 0 <= place and at + size <= min(self.base + len(self.data), self.size):
+            return self.data[place : place + size]
         return os.pread(self.held.fileno(), size, at)
 
     def may_try(self, at):
@@ -134,12 +117,11 @@ class Output:
     def put(self, data):
         """Writes to capkit. A capture of pcap becomes pcapng by a capkit of its own before."""
         self.settle()
-        pipe = subprocess.PIPE
-        self.final = self.final or subprocess.Popen(self.words, stdin=pipe, bufsize=ZONE)
+        self.final = self.final or subprocess.Popen(self.words, stdin=subprocess.PIPE, bufsize=ZONE)
         if self.header and not self.piece:
             self.final.stdin.flush()
-            words = ["capkit", "edit", "-F", "pcapng", "-", "-"]
-            self.piece = subprocess.Popen(words, stdin=pipe, stdout=self.final.stdin, bufsize=ZONE)
+            words, out = [*self.words[:3], "pcapng", "-", "-"], self.final.stdin
+            self.piece = subprocess.Popen(words, stdin=subprocess.PIPE, stdout=out, bufsize=ZONE)
             self.piece.stdin.write(self.header)
         (self.piece or self.final).stdin.write(data)
 
@@ -153,8 +135,7 @@ class Output:
         self.places += 1
         self.left_out += size
         if self.places <= NOTES:
-            text = f"{size} bytes left out{text}" if size else text
-            report(f"{self.source.name}: offset {at}: {text}")
+            report(f"{self.source.name}: offset {at}: {f'{size} bytes left out' if size else ''}{text}")
 
 
 class Reader:
@@ -165,6 +146,9 @@ class Reader:
         shapes = (struct.Struct(order + it).unpack_from for it in ("HH", "II", "III", "IIII", "q"))
         self.option, self.sizes, self.ends, self.unpack, self.offset = shapes
 
+    def steps(self, at):
+        return self.step(at, *self.source.load(at))
+
     def head(self, at):
         return self.unpack(self.source.get(at, 16).ljust(16, b"\0"))
 
@@ -172,20 +156,23 @@ class Reader:
         time = self.source.time
         return -EARLIER <= self.when(at) - time <= (NEAR if time > UNSET else 60 * (time > 0))
 
-    def chain(self, start, is_headed=False):
-        """The starts of the units in a row from a place on, and the end of the last, if believed."""
-        source, bounds, end, step = self.source, [start], start, self.step
-        held = source.load(start)
-        while end and end <= source.size and end - start <= (INSIDE, FAR)[len(bounds) <= UNITS]:
+    def row(self, start, known=()):
+        """The starts of the units in a row and the end of the last, up to a known place; what follows."""
+        bounds, end, step, size = [start], start, self.step, self.source.size
+        held = self.source.load(start)
+        while end and end <= size and end not in known and end - start <= (INSIDE, FAR)[len(bounds) <= UNITS]:
             end = step(end, *held)
-            bounds += [end] if end and end <= source.size else []
-        source.tried += len(bounds)
-        if end and end <= source.size:
+            bounds += [end] if end and end <= size else []
+        self.source.tried += len(bounds)
+        return bounds, end
+
+    def chain(self, start, is_headed=False):
+        """The units in a row from a place on, if they are believed."""
+        source, (bounds, end) = self.source, self.row(start)
+        if end and end <= source.size or bounds[1:] and capture_at(source, self.out, bounds[-1]):
             return bounds
-        if len(bounds) > 1 and capture_at(source, self.out, bounds[-1]):
-            return bounds
-        is_right = bounds[-1] == source.size or is_headed and end or (
-            self.is_sure and source.time is NO_TIME or all(map(self.is_near, bounds[: self.TIMED])))
+        is_timely = self.is_sure and source.time is NO_TIME or all(map(self.is_near, bounds[: self.TIMED]))
+        is_right = bounds[-1] == source.size or is_headed and end or is_timely
         return bounds if len(bounds) > source.row and is_right else None
 
     def first(self, begin, end, passes):
@@ -194,12 +181,11 @@ class Reader:
             best = self.chain(place)
             if not best or place < passes and (place in self.last or best[-1] <= passes):
                 continue
-            known = set(best)
+            known = dict(zip(best, itertools.count()))
             for other in self.source.places(*self.likely, place + 1, min(place + 4096, best[-1])):
-                bounds = self.chain(other) or []
-                meets = min(known.intersection(bounds), default=None)
-                if meets and bounds.index(meets) > best.index(meets):
-                    best, known = bounds, set(bounds)
+                row, meets = self.row(other, known)
+                if len(row) - 1 > known.get(meets, len(row)) and (row := self.chain(other)):
+                    best, known = row, dict(zip(row, itertools.count()))
             if best := self.grounded(best, passes):
                 self.after = best[:-1][:DOUBTED]
                 return self.without_carried(best)
@@ -207,9 +193,8 @@ class Reader:
 
     def without_carried(self, bounds):
         """A chain without what a lost packet may have carried: its start, if it is too early."""
-        first = self.source.time - EARLIER
-        late = list(itertools.dropwhile(lambda it: self.when(it) < first, bounds[:-1]))
-        is_carried = len(late) > 3 and late[0] - bounds[0] <= INSIDE
+        late = [*itertools.dropwhile(lambda it: self.when(it) < self.source.time - EARLIER, bounds[:-1])]
+        is_carried = len(late) > 3 and 0 < late[0] - bounds[0] <= INSIDE
         return late + bounds[-1:] if is_carried and all(map(self.is_near, late[:3])) else bounds
 
 
@@ -225,8 +210,7 @@ class Records(Reader):
         if self.units is None:
             self.units = 10**9 if max(self.head(it)[1] for it in self.after) >= 10**6 else 10**6
             self.out.note(at, f"no file header: read as pcap of link type {self.link}")
-        header = struct.pack(self.order + "HHIIII", 2, 4, 0, 0, LONGEST, self.link)
-        self.out.begin(MAGICS[self.order, self.units] + header)
+        self.out.begin(MAGICS[self.order, self.units] + struct.pack(self.order + "HHIIII", 2, 4, 0, 0, LONGEST, self.link))
 
     def when(self, at):
         return self.head(at)[0]
@@ -248,36 +232,37 @@ class Records(Reader):
     def end(self, at):
         return at + 16 + self.head(at)[2]
 
-    def signs(self, at, around, far=0):
-        """How many of two signs a record has, time and lengths; -1 if its lengths are none."""
-        seconds, part, captured, original = self.head(at)
-        others = [self.head(it) for it in around if it != at]
-        times, sizes = [it[0] for it in others], [it[2] for it in others]
-        after = sum(it < at for it in around)
-        is_set = min(times, default=0) > UNSET and all(
-            sum(abs(it - time) <= NEAR for it in times) > 1 for time in times)
-        is_near = is_set and (any(abs(it - seconds) <= NEAR for it in times) or far)
-        if max(times, default=UNSET) < UNSET:  # no sign, but one against the record
+    def heads(self, *places):
+        return {it: self.head(it) for it in sorted(set(places))}
+
+    def signs(self, at, around):
+        """How many of two signs a record has, time and lengths, less those against it."""
+        seconds, part, captured, original = around.get(at) or self.head(at)
+        others = [head for it, head in around.items() if it != at]
+        times, _, sizes, _ = zip(*others) if others else [()] * 4
+        count = lambda time: sum(it > UNSET and abs(it - time) <= NEAR for it in times)
+        is_near = count(seconds) > 0 or -(sum(count(it) > 1 for it in times) > max(1, len(times) - 2))
+        if max(times, default=UNSET) < UNSET:
+            after = sum(it < at for it in around)
             close = times[max(0, after - 1) : after + 1]
             is_near = (min(close) - EARLIER <= seconds <= max(close) + 60) - 1
-        is_whole = captured == original != part and captured >= min([SHORTEST, *sizes])
-        is_whole |= captured in sizes and captured == max(sizes)
-        are_odd = 2 * sum(0 < it[2] <= it[3] for it in others) < len(others)
-        return is_near + is_whole if 0 < captured <= original or are_odd else -1
+        is_whole = min([SHORTEST, *sizes]) <= captured == original <= max([INSIDE, *sizes]) and original != part
+        is_whole |= captured == max([0, *sizes])
+        are_odd = 2 * sum(0 < it[2] <= it[3] <= LONGEST for it in others) < len(others)
+        return is_near + (is_whole if 0 < captured <= original <= LONGEST or are_odd else -1)
 
     def grounded(self, bounds, passes):
         """A chain from the first record on that has enough signs; None if it gets too short."""
         ends, least = [passes, *map(self.end, self.last)], min(len(bounds), self.source.row + 1)
         while len(bounds) >= least:
-            around = [*self.last, *bounds[:-1][:DOUBTED]]
-            signs = lambda places: [self.signs(it, around, -1) for it in places]
-            read = signs(it for it in self.last if self.end(it) > bounds[0])
-            new = signs(it for it in bounds[:UNITS] if it < max(ends))
-            some = [it > 0 for it in signs(bounds[:-1][:3])]
-            is_row = some[0] and (len(bounds) > UNITS or 2 * sum(some) >= len(some))
-            if is_row and sum(new) + len(new) >= sum(read) + len(read):
+            around = self.heads(*self.last, *bounds[:-1][:DOUBTED])
+            weight = lambda places: sum(1 + self.signs(it, around) for it in places)
+            some = (self.signs(it, around) > 0 for it in bounds[:-1][:3])
+            is_row = next(some) and (len(bounds) > UNITS or sum(some) > 0 or len(bounds) < 4)
+            read = (it for it in self.last if self.end(it) > bounds[0])
+            if is_row and weight(it for it in bounds[:UNITS] if it < max(ends)) >= weight(read):
                 return bounds
-            bounds = bounds[1:]
+            bounds, self.source.tried = bounds[1:], self.source.tried + 10
         return None
 
     def read_held(self, at, data, base):
@@ -290,15 +275,13 @@ class Records(Reader):
         while place <= stop and (end := place + 16 + after[2]) <= size and after[2] <= LONGEST:
             (seconds, part, captured, original), after = after, unpack(data, end)
             is_pair = captured & 255 and captured <= original <= LONGEST
-            is_off = part == captured and seconds < units and (
-                0 < after[1] <= after[2] or end + 12 > size)
+            is_off = part == captured and seconds < units and (0 < after[1] <= after[2] or end + 12 > size)
             if part < units and (is_pair and not is_off or not captured and original):
                 append(base + place)
             else:
                 is_next = is_pair and part >= units and 0 < after[2] <= after[3] <= LONGEST
-                is_near = abs(seconds - after[0]) < NEAR * (seconds > UNSET)
-                is_next &= is_near or captured in (original, after[2])
-                if not is_next and self.is_fault(data, base, place, odd):
+                is_next &= captured in (original, after[2]) or abs(seconds - after[0]) < NEAR * (seconds > UNSET)
+                if not is_next and self.is_fault(base + place, odd):
                     break
                 (odd if part >= units else self.last).append(base + place)
                 if part >= units:
@@ -309,37 +292,35 @@ class Records(Reader):
             out.note(it, "a fraction of a second or more, written as 0")
         if odd:
             out.put(made)
-            later, self.is_odd = [it for it in self.last if it > odd[-1]], True
-            self.last = deque(later, DOUBTED)
+            self.last, self.is_odd = deque((it for it in self.last if it > odd[-1]), DOUBTED), True
         out.keep(base + done, base + place)
         out.packets += packets
         return base + place
 
-    def is_fault(self, data, base, place, odd):
+    def is_fault(self, at, odd):
         """Whether this isn't a record (of any fraction), or reading is off by 4 bytes, or by 1."""
-        seconds, part, captured, original = self.unpack(data, place)
-        at, is_pair, last = base + place, 0 < captured <= original <= LONGEST, [*self.last]
+        seconds, part, captured, original = self.head(at)
+        is_pair, around = 0 < captured <= original <= LONGEST, self.heads(*self.last)
         real, end = at + (1 if self.order == "<" else -1), at + 16 + captured
         if is_pair and not captured & 255:
-            is_real = self.step(self.end(real), *self.source.load(at))
-            if self.signs(real, last) + bool(is_real) > self.signs(at, last) + (original & 255 > 0):
+            signs = self.signs(real, around) + bool(self.steps(self.end(real)))
+            if signs > self.signs(at, around) + (original & 255 > 0):
                 return True
         if part >= self.units or not captured | original:
-            around = sorted([*last, *odd[-DOUBTED:], *[end] * (end < self.source.size)])
-            signs = self.signs(at, around) + bool(self.step(end, data, base))
-            return not is_pair or signs < 2
-        return 0 < captured == part and seconds < self.units and self.step(end - 4, data, base)
+            around = self.heads(*around, *odd[-DOUBTED:], *[end] * (end < self.source.size))
+            return not is_pair or self.signs(at, around) + bool(self.steps(end)) < 2
+        is_off = 0 < captured == part and seconds < self.units and self.steps(end - 4)
+        return is_off or self.signs(at, around) < -1
 
     def settle(self, at, place):
         """Drops records in the way of a chain, or puts one right; returns the end of those kept."""
-        last, around = self.last, [*self.last, *(it for it in self.after if it >= place)]
-        is_cut = (self.step(at, *self.source.load(at)) or 0) > self.source.size
-        goal = at if is_cut and self.signs(at, around) > 0 else place
+        last, around = self.last, self.heads(*self.last, *(it for it in self.after if it >= place))
+        goal = at if (self.steps(at) or 0) > self.source.size and self.signs(at, around) > 0 else place
         is_short = last and last[0] == self.origin and len(last) < self.source.row
-        while last and (is_short or (end := self.end(last[-1])) > place
-                        or self.signs(last[-1], around) + (end in (place, goal)) < 1):
+        weight = lambda it: -1 if self.end(it) > place else self.signs(it, around) + (self.end(it) in (place, goal))
+        while last and (is_short or weight(last[-1]) < 1):
             at = last.pop()
-            around.remove(at)
+            del around[at]
             self.out.packets -= 1
             self.out.kept = self.out.kept[0], at
         size = place - at - 16
@@ -350,8 +331,7 @@ class Records(Reader):
             self.out.note(at, why if size != was else f"a fraction of {part}, written as 0")
             if part >= self.units:
                 self.is_odd, part = True, 0
-            header = struct.pack(self.order + "IIII", seconds, part, size, original)
-            self.out.put(header + self.source.get(at + 16, size))
+            self.out.put(struct.pack(self.order + "IIII", seconds, part, size, original) + self.source.get(at + 16, size))
             self.out.packets += 1
             return place
         return at
@@ -362,8 +342,8 @@ class Blocks(Reader):
     is_sure, TIMED, grounded = True, 1, lambda self, bounds, _: bounds
     LIKELY = {"<": (re.compile(rb"\0\0\0(?<=[\1-\3\6]\0\0\0)"), 1, b"\0"),
               ">": (re.compile(rb"\0\0\0[\1-\3\6]"), 0, b"\0")}
-    # Of a section's interfaces the times, blocks, first snap length, if one is lost; last options.
-    faces, described, snap, is_torn, options = [], b"", 0, False, None
+    # A section's interfaces: ticks and offsets, blocks, the first snap length, whether one is lost.
+    faces, described, snap, is_torn = [], b"", 0, False
 
     def begin(self, at):
         """A section header, if there is none."""
@@ -372,15 +352,14 @@ class Blocks(Reader):
             self.out.note(at, "no section header")
             if len(self.described) > ZONE:
                 self.faces, self.described, self.is_torn = [], b"", True
-            header = (SECTION, 28, ORDER_MAGIC, 1, 0, -1, 28)
-            self.out.put(struct.pack(self.order + "IIIHHqI", *header) + self.described)
+            header = struct.pack(self.order + "IIIHHqI", SECTION, 28, ORDER_MAGIC, 1, 0, -1, 28)
+            self.out.put(header + self.described)
 
     def when(self, at):
         """The time of a packet; no number if it isn't known."""
         kind, _, face, high = self.head(at)
-        if kind != ENHANCED or face >= len(self.faces):
-            return NO_TIME
-        return (high << 32 | self.head(at + 16)[0]) / self.times(face)[2]
+        is_known = kind == ENHANCED and face < len(self.faces)
+        return (high << 32 | self.head(at + 16)[0]) / self.faces[face][0] if is_known else NO_TIME
 
     def step(self, at, data, base):
         """The end of a block; past the end of the file if it is cut; None if it isn't one."""
@@ -441,17 +420,16 @@ class Blocks(Reader):
             return b"", " (an interface whose number isn't known)"
         if not self.faces:
             self.described, self.snap = bytearray(), self.sizes(data, at + 8)[1] or 2**32
-        block = data[at : at + size]
-        if (options := block[16:-4]) != self.options:
-            self.options, self.found = options, self.read_options(options)
-        if not self.found[0]:
+        found = self.read_options((block := data[at : at + size])[16:-4])
+        if not found:
             block = block[:4] + SHORT[self.order] + block[8:16] + SHORT[self.order]
-        self.faces.append(self.found)
+        self.faces.append(found or (10**6, 0))
         self.described += block if len(self.described) <= ZONE else b""
-        return SAME if self.found[0] else (block, "an interface, without its options")
+        return SAME if found else (block, "an interface, without its options")
 
+    @functools.lru_cache(1)
     def read_options(self, options):
-        """Whether capkit reads an interface's options, and the ticks of a second and the offset."""
+        """The ticks of a second and the offset, if capkit reads an interface's options."""
         option, found, code, place, end = self.option, {}, 1, 0, len(options)
         while place < end and code:
             code, length = option(options, place)
@@ -463,17 +441,14 @@ class Blocks(Reader):
         if given is not None:
             (offset,) = self.offset(given) if len(given) == 8 else (2**63,)
             is_right = is_right and -offset * second < 2**64 and offset * 10**9 < self.out.most
-        return [True, second, offset] if is_right else [False, 10**6, 0]
+        return (second, offset) if is_right else None
 
-    def times(self, face):
-        """Of an interface the least and greatest ticks, those of a second, the least as written."""
-        found = self.faces[face]
-        if len(found) == 3:
-            _, second, offset = found
-            least, most = max(0, -offset * second), self.out.most - offset * 10**9
-            time = struct.pack(self.order + "II", least >> 32, least % 2**32)
-            found.append((least, -(-most * second // 10**9) - 1, second, time))
-        return found[3]
+    @functools.lru_cache(MOST_INTERFACES)
+    def times(self, second, offset):
+        """The least and greatest ticks of an interface, and the least as written."""
+        least, most = max(0, -offset * second), self.out.most - offset * 10**9
+        time = struct.pack(self.order + "II", least >> 32, least % 2**32)
+        return least, -(-most * second // 10**9) - 1, time
 
     def enhanced(self, data, place, size):
         """A packet, with the least time if its own is out of range."""
@@ -484,8 +459,8 @@ class Blocks(Reader):
             return b"", " (a packet whose interface isn't known)"
         if not captured | self.sizes(data, place + 20)[1]:
             return b"", " (a packet without a length)"
-        least, greatest, second, time = self.times(face)
-        self.source.time = (ticks := high << 32 | low) / second
+        least, greatest, time = self.times(*self.faces[face])
+        self.source.time = (ticks := high << 32 | low) / self.faces[face][0]
         self.out.packets += 1
         if least <= ticks <= greatest:
             return SAME
@@ -523,8 +498,7 @@ def capture_at(source, out, at):
         reader.units, reader.link = units, link & 0xFFFF
         is_right = (major, minor, link) == (2, 4, reader.link)
         if not at and not is_right:
-            was = f"version {major}.{minor} and a link type field of {link:#x}"
-            out.note(at, f"{was}, written as 2.4 and {reader.link}")
+            out.note(at, f"version {major}.{minor} and a link type field of {link:#x}, written as 2.4 and {reader.link}")
         return (reader, at + 24) if is_right or not at else None
     return None
 
@@ -536,7 +510,7 @@ def like(name, source, out):
             raise OSError(0, "capkit doesn't read it to its end", name)
         reader, at = capture_at(other := Source(held, name, 1), Output(other, out.form, ""), 0)
         reader.read_held(at, *other.load(0))
-    reader.source, reader.out = source, out
+    reader.source, reader.out, reader.last = source, out, deque(maxlen=DOUBTED)
     return reader
 
 
@@ -554,7 +528,8 @@ def find(source, out, readers, begin, passes):
             source.tried += 8
             is_free = source.may_try(at) or source.header in (b"", source.get(at, 24))
             if at and is_free and (capture := capture_at(source, out, at)):
-                if at == passes or (capture[0].chain(capture[1], True) or [0])[-1] > passes:
+                bounds = capture[0].chain(capture[1], True) or [0]
+                if at == passes or bounds[-1] > passes and capture[0].without_carried(bounds) is bounds:
                     return at, *capture
         if reader:
             return place, reader, place
@@ -581,14 +556,12 @@ def salvage(source, out, guessed):
             fault, at = at, reader.read_held(at, *source.load(at))
         if fault == source.size:
             break
-        last = list(itertools.takewhile(lambda it: reader.step(it, *source.load(it)), reader.last))
+        last = list(itertools.takewhile(reader.steps, reader.last))
         source.time = reader.when(last[-1]) if last else source.time
         passes = [*reader.last, fault][len(last)] if last else fault  # or a damaged record before
         begin = max(reader.last[0] + 1 if reader.last else fault, place + 1)
-        readers = list(seen.values())
         source.tried += 40
-        if not source.may_try(fault):
-            readers, begin = [reader], fault + 4096
+        readers, begin = ([*seen.values()], begin) if source.may_try(fault) else ([reader], fault + 4096)
         place, other, at = find(source, out, readers, begin, passes)
         if (end := reader.settle(fault, place)) < place:
             out.note(end, "", place - end)
@@ -662,8 +635,7 @@ def main():
         signal.signal(number, lambda *_: sys.exit(1))
     part = path = given.OUT
     if path != "-" and (os.path.isfile(path) or not os.path.exists(path)):
-        path = os.path.realpath(path)
-        part = f"{path}.{os.getpid()}.part"
+        part = f"{(path := os.path.realpath(path))}.{os.getpid()}.part"
     try:
         out = 1 if path == "-" else path
         for name in (0 if given.IN == "-" else given.IN, given.like or given.IN):

@@ -21,8 +21,8 @@ for name in big-endian.pcap cooked.pcap damaged.pcap day.pcap four.pcap mirror.p
     out/filter tcp "../samples/$name" 2>&1 || true
 done >out/filter.txt
 cmp out/filter.txt tests/filter.txt || bad=1
-# The names that are visible are those of the package's symbols file.
-nm -D --defined-only out/libcapkit.so.0 | sed 's/.* T \(.*\)/ \1@Base/' | sort >out/symbols.txt
+# The names that are visible, with their version, are those of the package's symbols file.
+nm -D --defined-only out/libcapkit.so.0 | sed 's/.* [AT] / /; s/@@.*//; s/$/@libcapkit.so.0/' | sort >out/symbols.txt
 sed 1d ../packaging/libcapkit0.symbols | cut -d ' ' -f 1-2 | sort | cmp - out/symbols.txt || { echo 'other names are visible'; bad=1; }
 if have c++; then
     printf '#include <capkit.h>\nint main() { size_t most; return capkit_bound("tcp", 3, &most) != CAPKIT_OK; }\n' >out/plus.cc
@@ -97,6 +97,7 @@ done
 status=0
 out/explain 'tcp prt 80' 2>out/explain.txt || status=$?
 { test $status = 2 && grep -q '^explain: unknown word (at byte 5)$' out/explain.txt; } || { echo 'explain: no refusal'; bad=1; }
+tests/two_versions.sh || bad=1
 tests/fuzz.sh "$inputs" || bad=1
 ./check_packages.sh || bad=1
 if [ -e /usr/include/pcap/pcap.h ]; then

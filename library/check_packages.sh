@@ -72,7 +72,7 @@ check_python() {
     printf '#!/bin/sh\nunset LD_LIBRARY_PATH\nexec "%s/venv/bin/python" -I page.py\n' "$packages" >"$packages/python-page"
     chmod +x "$packages/python-page"
     if have mypy; then
-        MYPYPATH=python/src mypy --strict --no-error-summary python/src/capkit python/tests/typed.py || wrong 'Python: types'
+        MYPYPATH=python/src mypy --cache-dir "$packages/mypy" --strict --no-error-summary python/src/capkit python/tests/typed.py || wrong 'Python: types'
     fi
 }
 remove_python() {

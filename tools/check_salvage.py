@@ -13,8 +13,8 @@ time, original length and bytes (if the damage is in times, by the last two):
   true     packets of the capture, each once, also  again    the same packet once more
            with another time, if its own bytes were damaged
   changed  packets that aren't true, but have one of these in common with one whose own bytes were
-           damaged: a time that no other packet has, or a time and the captured length; the second and
-           both lengths; all bytes; both lengths and the first or last 12 bytes; the first 24 bytes
+           damaged: a time that no other packet has, or a time and one of the lengths; the second and
+           both lengths; all bytes; the captured length and the first or last 12 bytes; the first 24 bytes
   false    all others: they were made up            missed   undamaged packets that weren't read
 
 The status is 1 if salvage.py wrote a false packet, fewer true ones than capkit, tcpdump or editcap,
@@ -361,19 +361,21 @@ def beginning_gone(chance):
 
 
 def carried(chance):
-    """A capture that packets carry, of up to a day before them; damage stands right before one of those."""
+    """A capture that packets carry, of up to a day before them; damage stands right before one of those, for some
+    before that with the file header."""
     form = chance.choice(FORMS)
     own = [chance.choice(pool)]
     later = 0 if own[0][0][0] > 10**17 else 15 * 10**17  # a clock that wasn't set
     before, inner, after = ([(when + later, *rest) for when, *rest in plain(chance, own)] for _ in range(3))
     ago = chance.randrange(2, 80_000) * 10**9 + inner[-1][0] - before[-1][0]
-    text = bytes(Capture([(when - ago, *rest) for when, *rest in inner[:300]], chance.choice((form, *FORMS))).data)
+    inner = inner[: chance.choice((5, 30, 300))]
+    text = bytes(Capture([(when - ago, *rest) for when, *rest in inner], chance.choice((form, *FORMS))).data)
     parts = [bytes(54) + text[at : at + 1400] for at in range(0, len(text), 1400)]
     begin = len(before)
     packets = [*before, *[(before[-1][0] + 1000 * (number + 1), len(it), it) for number, it in enumerate(parts)], *after]
     one = Capture([(max(when, before[-1][0]) if number >= begin else when, *rest)
                    for number, (when, *rest) in enumerate(packets)], form)
-    place = one.units[begin + chance.randrange(len(parts))][0]
+    place = one.units[begin + chance.choice((0, chance.randrange(len(parts))))][0]
     low, high = max(one.first, place - chance.randrange(100)), place + chance.randrange(1, 90)
     return replaced(one, low, high, chance.randbytes(high - low))
 
@@ -410,11 +412,12 @@ def marks(packet, times):
     when, original, data = packet
     size = len(data)
     yield "time", when, size if times[when] > 1 else None
+    yield "original", when, original
     yield "lengths", when // 10**9, size, original
     if size:
         yield "data", data
-        yield "front", size, original, data[:12]
-        yield "back", size, original, data[-12:]
+        yield "front", size, data[:12]
+        yield "back", size, data[-12:]
     if size >= 24:
         yield "begins", data[:24]
 
@@ -545,7 +548,8 @@ def try_sample(name, given):
             source.write_bytes(data[:size])
             forms = ["pcap", "nsecpcap", "pcapng"] if size == len(data) else ["nsecpcap"]
             for form in forms:
-                own.unlink(missing_ok=True)
+                for it in (own, edited):
+                    it.unlink(missing_ok=True)
                 status, said, took = call([SCRIPT, "-F", form, "IN", "OUT"], source, own)
                 edit = call(["capkit", "edit", "-F", form, "IN", "OUT"], source, edited)[0]
                 whole = edited.read_bytes() if edited.exists() else b""

@@ -136,13 +136,27 @@ func (f *full) Write(bytes []byte) (int, error) {
 
 func TestAfterAFailedWriteEveryCallFails(t *testing.T) {
 	writer := capkit.NewWriter(&full{200}, capkit.Pcapng)
-	for i, want := range []error{nil, io.ErrShortWrite, io.ErrShortWrite} {
-		if err := writer.Write(packet(make([]byte, 60))); err != want {
+	for i, want := range []error{nil, io.ErrShortWrite} {
+		if err := writer.Write(packet(make([]byte, 60))); err != nil {
 			t.Error(i, err)
 		}
+		if err := writer.Flush(); err != want || writer.Written() != 1 {
+			t.Error(i, err, writer.Written())
+		}
 	}
-	if err := writer.Close(); err != io.ErrShortWrite {
-		t.Error(err)
+	for _, call := range []func() error{func() error { return writer.Write(packet(nil)) }, writer.Flush, writer.Close} {
+		if err := call(); err != io.ErrShortWrite {
+			t.Error(err)
+		}
+	}
+	// The call that finds it returns it, however many packets come.
+	writer = capkit.NewWriter(&full{200}, capkit.Pcapng)
+	count, err := 0, error(nil)
+	for ; err == nil; count++ {
+		err = writer.Write(packet(make([]byte, 60)))
+	}
+	if err != io.ErrShortWrite || count > 512 || writer.Written() != 0 || writer.Close() != err {
+		t.Error(count, err, writer.Written())
 	}
 }
 
@@ -249,15 +263,19 @@ func TestZeroValues(t *testing.T) {
 	if err := writer.Write(packet(arp())); !errors.Is(err, os.ErrInvalid) {
 		t.Error(err)
 	}
-	if err := capkit.NewWriter(io.Discard, 9).Write(packet(arp())); !errors.Is(err, os.ErrInvalid) {
-		t.Error(err)
+	for _, it := range []*capkit.Writer{capkit.NewWriter(io.Discard, 9), capkit.NewWriter(nil, capkit.Pcapng)} {
+		if err := it.Write(packet(arp())); !errors.Is(err, os.ErrInvalid) {
+			t.Error(err)
+		}
 	}
 	closed := capkit.NewWriter(io.Discard, capkit.Pcapng)
 	if err := closed.Close(); err != nil {
 		t.Error(err)
 	}
-	if err := closed.Write(packet(arp())); !errors.Is(err, os.ErrClosed) {
-		t.Error(err)
+	for _, err := range []error{closed.Write(packet(arp())), closed.Flush()} {
+		if !errors.Is(err, os.ErrClosed) {
+			t.Error(err)
+		}
 	}
 }
 

@@ -1,6 +1,7 @@
 /* The units of a packet by one call, for languages from which a call, or each of its arguments, takes longer
  * than a unit does: the packages for Go and Python have this in them, over calls of capkit.h. */
 #include <capkit.h>
+#include <string.h>
 
 /* What is written of a capture so far. */
 struct put_writer {
@@ -45,6 +46,19 @@ static uint32_t put_record(struct put_writer *writer, const struct put_packet *i
     return put;
 }
 
+/* Whether a packet is of the interface that was described last, as most packets are. */
+static int is_of_last(const struct put_writer *writer, const struct capkit_interface *interfaces,
+                      const struct put_packet *it, const char *name)
+{
+    const struct capkit_interface *last;
+    if (writer->pcapng.interfaces == 0)
+        return 0;
+    last = &interfaces[writer->pcapng.interfaces - 1];
+    return last->snap == it->snap && last->link_type == it->link_type &&
+           last->name_length == it->name_length &&
+           (it->name_length == 0 || memcmp(last->name, name, it->name_length) == 0);
+}
+
 /* Writes a packet's block to a buffer, after the units that come before it. */
 static uint32_t put_block(struct put_writer *writer, struct capkit_interface *interfaces, size_t room,
                           const struct put_packet *it, const uint8_t *bytes, const char *name,
@@ -55,6 +69,9 @@ static uint32_t put_block(struct put_writer *writer, struct capkit_interface *in
     const struct capkit_writer before = writer->pcapng;
     size_t unit;
     uint32_t put;
+    if (is_of_last(writer, interfaces, it, name))
+        return capkit_write_packet(before.interfaces - 1, it->time, it->original, bytes, it->captured,
+                                   comment, it->comment_length, buffer, size, length);
     *length = 0;
     do {
         put = capkit_writer_put(&writer->pcapng, interfaces, room, &packet, name, it->name_length, bytes,

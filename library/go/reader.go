@@ -135,21 +135,22 @@ func (r *Reader) Skipped() uint64 { return r.skipped }
 //
 // After an error of the source the next call reads on from there: no packet is lost or comes twice. After
 // each of the others every call has the same.
-func (r *Reader) Next() (Packet, error) {
+func (r *Reader) Next() (packet Packet, err error) {
 	for r.err == nil {
 		if r.given == r.count {
-			if err := r.more(); err != nil {
-				return Packet{}, err
+			if err = r.more(); err != nil {
+				return packet, err
 			}
 			continue
 		}
 		found := &r.batch[r.given]
 		r.given, r.end = r.given+1, found.end
 		if r.isWanted(&found.packet) {
-			return r.packet(&found.packet), nil
+			r.copyTo(&packet, &found.packet)
+			return packet, nil
 		}
 	}
-	return Packet{}, r.err
+	return packet, r.err
 }
 
 // isWanted is whether a packet of the batch matches. Its program was run if it is for its link type.
@@ -261,33 +262,25 @@ func (r *Reader) Offset() int64 {
 	return r.base + int64(r.end)
 }
 
-func (r *Reader) packet(found *C.struct_capkit_packet) Packet {
-	data := make([]byte, found.captured)
-	copy(data, r.buffer[found.at:])
-	return Packet{
-		Time:           time.Unix(0, int64(found.time)).UTC(),
-		LinkType:       uint16(found.link_type),
-		Data:           data,
-		OriginalLength: uint32(found.original),
-		Comment:        r.comment(found),
-		InterfaceName:  r.name(found._interface),
-		SnapLength:     uint32(found.snap),
-		ZeroLength:     found.original == 0 && found.captured > 0,
+// copyTo sets what was found of a packet.
+func (r *Reader) copyTo(packet *Packet, found *C.struct_capkit_packet) {
+	bytes := r.buffer[found.at:][:found.captured]
+	data := make([]byte, len(bytes)) // in the form that Go doesn't clear first
+	copy(data, bytes)
+	packet.Data, packet.Time = data, time.Unix(0, int64(found.time)).UTC()
+	packet.LinkType, packet.SnapLength = uint16(found.link_type), uint32(found.snap)
+	packet.OriginalLength = uint32(found.original)
+	packet.ZeroLength = found.original == 0 && found.captured > 0
+	if found.options_length > 0 {
+		packet.Comment = r.comment(found)
 	}
-}
-
-func (r *Reader) name(number C.uint32_t) string {
-	if number >= r.reader.interfaces {
-		return ""
+	if found._interface < r.reader.interfaces {
+		it := &r.table[found._interface]
+		packet.InterfaceName = C.GoStringN(&it.name[0], C.int(it.name_length))
 	}
-	it := &r.table[number]
-	return C.GoStringN(&it.name[0], C.int(it.name_length))
 }
 
 func (r *Reader) comment(found *C.struct_capkit_packet) string {
-	if found.options_length == 0 {
-		return ""
-	}
 	buffer := make([]byte, found.options_length)
 	length := C.capkit_comment(&r.reader, (*C.uint8_t)(start(r.buffer)), C.size_t(r.size),
 		found, (*C.char)(unsafe.Pointer(&buffer[0])), C.size_t(len(buffer)))

@@ -54,6 +54,17 @@ func TestReadersShareAnExpression(t *testing.T) {
 	})
 }
 
+func TestEachHasAWriter(t *testing.T) {
+	capture, packets := capture100()
+	together(func(int) {
+		for i := 0; i < 20; i++ {
+			if again := written(capkit.Pcapng, packets...); !bytes.Equal(again, capture) {
+				t.Error(len(again))
+			}
+		}
+	})
+}
+
 func TestAFilterIsShared(t *testing.T) {
 	filter := must(capkit.Compile("arp", capkit.LinkEthernet))
 	text := filter.String()

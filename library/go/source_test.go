@@ -221,11 +221,11 @@ func TestAnOutputThatTakesAPart(t *testing.T) {
 	for _, it := range []struct{ told, want error }{{full, full}, {nil, io.ErrShortWrite}} {
 		out := &part{most: 200, err: it.told}
 		writer := capkit.NewWriter(out, capkit.Pcapng)
-		if err := writer.Write(packet(arp())); err != nil {
-			t.Error(err)
-		}
+		check(writer.Write(packet(arp())))
+		check(writer.Flush())
+		check(writer.Write(packet(make([]byte, 300))))
 		for i := 0; i < 2; i++ {
-			if err := writer.Write(packet(make([]byte, 300))); err != it.want {
+			if err := writer.Flush(); err != it.want {
 				t.Error(err)
 			}
 		}
@@ -239,40 +239,110 @@ func TestAnOutputThatTakesAPart(t *testing.T) {
 	}
 }
 
-// Many packets by one call are the bytes of one call each, up to the first that is refused.
-func TestWriteAll(t *testing.T) {
-	_, packets := capture100()
-	for i := range packets {
-		packets[i].InterfaceName = "name"[:i%5]
+// oneByOne is what is written of packets one by one, and which of them are refused.
+func oneByOne(format capkit.Format, packets []capkit.Packet) (capture []byte, refused []int) {
+	var out bytes.Buffer
+	writer := capkit.NewWriter(&out, format)
+	for i, it := range packets {
+		if writer.Write(it) != nil {
+			refused = append(refused, i)
+		}
+		check(writer.Flush())
 	}
-	large := packet(make([]byte, 250000))
-	many := append(append(append([]capkit.Packet{}, packets...), large, large, large, large, large, large), packets...)
-	for _, format := range []capkit.Format{capkit.Pcapng, capkit.Pcap, capkit.PcapNanoseconds} {
-		for _, wrong := range []int{-1, 0, 1, 63, 64, 150, len(many) - 1} {
-			these, want := append([]capkit.Packet{}, many...), len(many)
-			if wrong >= 0 {
-				these[wrong].Time, want = time.Unix(1<<40, 0), wrong
+	check(writer.Close())
+	return out.Bytes(), refused
+}
+
+// Packets that are gathered are the bytes of those that are written one by one, and a refused one has its own error.
+func TestGatheredPackets(t *testing.T) {
+	random := rand.New(rand.NewSource(3))
+	for round := 0; round < 60; round++ {
+		var packets []capkit.Packet
+		for i := 0; i < 1500; i++ {
+			it := packet(bytes.Repeat([]byte{byte(i)}, random.Intn(1<<random.Intn(10))))
+			it.Comment, it.InterfaceName = "comment"[:random.Intn(8)], "name"[:random.Intn(5)]
+			it.SnapLength += uint32(random.Intn(3))
+			switch random.Intn(300) {
+			case 0:
+				it.Time = time.Unix(1<<40, 0)
+			case 1:
+				it.Time = time.Unix(1<<32, 0).UTC() // which pcap refuses, and pcapng has
+			case 2:
+				it.Comment = string(make([]byte, 65536))
+			case 3:
+				it.InterfaceName = string(make([]byte, 256))
+			case 4:
+				it.Data = make([]byte, 1<<20)
+			case 5:
+				it.Data = make([]byte, 100000+random.Intn(100000))
+			case 6:
+				it.LinkType = capkit.LinkRaw
 			}
-			var out bytes.Buffer
-			writer := capkit.NewWriter(&out, format)
-			count, err := writer.WriteAll(these)
-			if count != want || (wrong >= 0) != errors.Is(err, capkit.ErrTimeOutOfRange) {
-				t.Fatal(format, wrong, count, err)
+			packets = append(packets, it)
+		}
+		format := capkit.Format(round % 3)
+		want, refused := oneByOne(format, packets)
+		kept := uint64(len(packets) - len(refused))
+		var out bytes.Buffer
+		writer := capkit.NewWriter(&out, format)
+		for i, it := range packets {
+			err := writer.Write(it)
+			if len(refused) > 0 && refused[0] == i {
+				var why *capkit.WriteError
+				if refused = refused[1:]; !errors.As(err, &why) {
+					t.Fatal(format, i, err)
+				}
+			} else if err != nil {
+				t.Fatal(format, i, err)
 			}
-			// Others can be written after it.
-			if count < len(these) {
-				count, err = writer.WriteAll(these[count+1:])
+			for at := range it.Data { // its bytes are the caller's again
+				it.Data[at] ^= 0xff
 			}
-			rest := append(append([]capkit.Packet{}, these[:want]...), these[len(these)-count:]...)
-			if wrong < 0 {
-				rest = these
+			if random.Intn(1000) == 0 {
+				check(writer.Flush())
 			}
-			if err != nil || writer.Close() != nil || !bytes.Equal(out.Bytes(), written(format, rest...)) {
-				t.Error(format, wrong, count, err, out.Len())
-			}
+		}
+		if err := writer.Close(); err != nil || !bytes.Equal(out.Bytes(), want) || writer.Written() != kept || len(refused) > 0 {
+			t.Fatal(format, round, err, out.Len(), len(want), writer.Written(), refused)
 		}
 	}
 }
+
+// A live output has each packet after Flush, and all of many without it, except the last ones.
+func TestWhatIsGatheredIsFlushed(t *testing.T) {
+	var out bytes.Buffer
+	writer := capkit.NewWriter(&out, capkit.Pcapng)
+	for i := 0; i < 3; i++ {
+		check(writer.Write(packet(arp())))
+		check(writer.Flush())
+		if packets, err := read(of(out.Bytes())); len(packets) != i+1 || err != io.EOF {
+			t.Error(i, len(packets), err)
+		}
+	}
+	for i := 0; i < 2000; i++ {
+		check(writer.Write(packet(make([]byte, 2000))))
+	}
+	packets, err := read(of(out.Bytes()))
+	if len(packets) < 1900 || err != io.EOF || uint64(len(packets)) != writer.Written() {
+		t.Error(len(packets), err, writer.Written())
+	}
+}
+
+// After a panic of the output nothing more is written.
+func TestAnOutputThatPanics(t *testing.T) {
+	writer := capkit.NewWriter(panics{}, capkit.Pcap)
+	func() {
+		defer func() { recover() }()
+		writer.Write(packet(arp()))
+	}()
+	if err := writer.Write(packet(arp())); err == nil || writer.Written() != 0 || writer.Close() != err {
+		t.Error(err)
+	}
+}
+
+type panics struct{}
+
+func (panics) Write([]byte) (int, error) { panic("full") }
 
 func TestWhatIsTooLong(t *testing.T) {
 	for _, change := range []struct {
@@ -296,9 +366,14 @@ func TestWhatIsTooLong(t *testing.T) {
 		if err := writer.Write(wrong); !errors.Is(err, change.want) {
 			t.Error(err)
 		}
-		count, err := writer.WriteAll([]capkit.Packet{good, good, wrong, good})
-		if count != 2 || !errors.Is(err, change.want) || !bytes.Equal(out.Bytes(), written(capkit.Pcapng, good, good)) {
-			t.Error(count, err)
+		check(writer.Write(good))
+		check(writer.Write(good))
+		if err := writer.Write(wrong); !errors.Is(err, change.want) {
+			t.Error(err)
+		}
+		check(writer.Write(good))
+		if err := writer.Close(); err != nil || !bytes.Equal(out.Bytes(), written(capkit.Pcapng, good, good, good)) {
+			t.Error(err)
 		}
 	}
 	// What is as long as can be, in each way.
@@ -333,19 +408,19 @@ func TestAnOutputThatTakesAPartOfMany(t *testing.T) {
 			out.err = nil
 		}
 		writer := capkit.NewWriter(out, capkit.Pcapng)
-		count, err := writer.WriteAll(packets)
-		if err == nil || writer.Write(packets[0]) != err || writer.Close() != err || !bytes.HasPrefix(whole, out.Bytes()) {
-			t.Fatal(count, err, out.Len())
+		for _, it := range packets {
+			if writer.Write(it) != nil {
+				break
+			}
 		}
+		err := writer.Flush()
+		if err == nil || writer.Write(packets[0]) != err || writer.Close() != err || !bytes.HasPrefix(whole, out.Bytes()) {
+			t.Fatal(err, out.Len())
+		}
+		count := writer.Written()
 		end := len(written(capkit.Pcapng, packets[:count]...))
 		if next := len(written(capkit.Pcapng, packets[:count+1]...)); count > 0 && out.Len() < end || out.Len() >= next {
 			t.Error(count, out.Len(), end, next)
 		}
-		if again, err := writer.WriteAll(packets); again != 0 || err == nil {
-			t.Error(again, err)
-		}
-	}
-	if count, err := capkit.NewWriter(io.Discard, capkit.Pcap).WriteAll(nil); count != 0 || err != nil {
-		t.Error(count, err)
 	}
 }

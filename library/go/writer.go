@@ -25,28 +25,33 @@ const (
 	mostUnits = C.CAPKIT_SECTION_SIZE + C.CAPKIT_MOST_INTERFACE_SIZE + C.CAPKIT_MOST_UNIT
 	// besides is how many of these aren't its own bytes and comment.
 	besides = C.CAPKIT_SECTION_SIZE + C.CAPKIT_MOST_INTERFACE_SIZE + 64
-	// mostStaged is how many packets are put by one call, and enoughStaged after how many bytes none is added.
-	mostStaged, enoughStaged = 64, 1 << 16
+	// mostGathered is how many packets are gathered at most, and enoughGathered after how many bytes none is added.
+	mostGathered, enoughGathered = 512, 1 << 16
+	// mostInterfaces is how many interfaces a pcapng file has at most, and late when times begin that not every
+	// format has, in nanoseconds since 1970.
+	mostInterfaces, late = 4096, 1 << 32 * uint64(time.Second)
 )
 
-// Writer writes packets to a capture, the same bytes as capkit(1) writes. It is for one goroutine at a
-// time.
+// Writer writes packets to a capture, the same bytes as capkit(1) writes. It gathers packets, so its last ones
+// are written by Close, or by Flush. It is for one goroutine at a time.
 type Writer struct {
 	out        io.Writer
-	isWritten  bool // whether a packet was written
+	isBegun    bool   // whether something was written
+	written    uint64 // how many packets the output has
 	state      C.struct_put_writer
 	interfaces []C.struct_capkit_interface // that are written of a pcapng file
-	staged     []C.struct_put_packet       // packets that are put by one call,
-	bytes      []byte                      // what they have, if they are many,
-	number     C.size_t                    // and how many of them were put
-	buffer     []byte                      // where their units are
+	gathered   [mostGathered]C.struct_put_packet
+	count      int      // how many there are,
+	bytes      []byte   // what they have, one after another,
+	number     C.size_t // and how many of them a call put
+	buffer     []byte   // where their units are
 	failure    error
 }
 
-// NewWriter writes nothing yet: the file's header is written with the first packet. Each Write is one
-// call of out.Write, so an out that is a file is best a bufio.Writer.
+// NewWriter writes nothing yet: the file's header is written with the first packets. Up to 512 packets, or
+// 64 KiB, are one call of out.Write, so out needs no buffer of its own.
 func NewWriter(out io.Writer, format Format) *Writer {
-	w := &Writer{out: out, buffer: make([]byte, 2048)}
+	w := &Writer{out: out}
 	switch format {
 	case Pcapng:
 		w.state.is_pcapng = 1
@@ -56,62 +61,66 @@ func NewWriter(out io.Writer, format Format) *Writer {
 	default:
 		w.failure = os.ErrInvalid
 	}
+	if out == nil {
+		w.failure = os.ErrInvalid
+	}
 	return w
 }
 
-// Write appends a packet. A *WriteError is why the format can't hold it: nothing of it was written, and
-// other packets can be. Any other error is that of the output, which every later call has too: the output
-// has all packets before this one, and of this one's bytes as many as it took. After Close it is
-// os.ErrClosed. A pcap file has packets of one link type, a pcapng file at most 4,096 interfaces (link
-// type, snap length and name), of which a Reader reads the first 256.
+// Write appends a packet, whose bytes may be changed after it. A *WriteError is why the format can't hold it:
+// nothing of it is written, and other packets can be. Any other error is that of the output, which every later
+// call has too; it may be of a call for packets before this one. After Close it is os.ErrClosed. A pcap file has
+// packets of one link type, a pcapng file at most 4,096 interfaces (link type, snap length and name), of which
+// a Reader reads the first 256.
 func (w *Writer) Write(packet Packet) error {
 	if w.failure != nil {
 		return w.failure
 	}
-	w.staged = append(w.staged[:0], staged(&packet, len(packet.Data)))
-	w.makeRoom(1, len(packet.Data)+len(packet.Comment))
-	put := C.put_packet(&w.state, &w.interfaces[0], C.size_t(len(w.interfaces)), &w.staged[0],
-		(*C.uint8_t)(start(packet.Data)), packet.InterfaceName, packet.Comment,
-		(*C.uint8_t)(start(w.buffer)), C.size_t(len(w.buffer)))
-	if put != C.CAPKIT_WRITTEN {
-		return &WriteError{Code(put)}
+	when := nanoseconds(packet.Time)
+	if !w.surelyHolds(&packet, when) {
+		return w.writeAlone(&packet, when)
 	}
-	_, err := w.put(int(w.staged[0].end))
-	return err
+	w.add(&packet, when)
+	w.bytes = append(w.bytes, packet.Data...)
+	if packet.InterfaceName != "" || packet.Comment != "" {
+		w.bytes = append(append(w.bytes, packet.InterfaceName...), packet.Comment...)
+	}
+	if w.count == mostGathered || len(w.bytes) >= enoughGathered {
+		return w.Flush()
+	}
+	return nil
 }
 
-// WriteAll appends packets as Write does one by one, but faster: up to 64 are one call of the library, and
-// one of out.Write. It returns how many were written, and why the one after them wasn't. If the output
-// failed, it has these, and of the bytes after them as many as it took.
-func (w *Writer) WriteAll(packets []Packet) (written int, err error) {
-	for written < len(packets) && err == nil {
-		if w.failure != nil {
-			return written, w.failure
-		}
-		w.stage(packets[written:])
-		w.makeRoom(len(w.staged), len(w.bytes))
-		put := C.put_packets(&w.state, &w.interfaces[0], C.size_t(len(w.interfaces)), &w.staged[0],
-			C.size_t(len(w.staged)), (*C.uint8_t)(start(w.bytes)), (*C.uint8_t)(start(w.buffer)),
-			C.size_t(len(w.buffer)), &w.number)
-		if w.number > 0 {
-			length := 0
-			length, err = w.put(int(w.staged[w.number-1].end))
-			written += w.whole(length)
-		}
-		if err == nil && put != C.CAPKIT_WRITTEN && (put != C.CAPKIT_NO_ROOM_IN_BUFFER || w.number == 0) {
-			err = &WriteError{Code(put)}
-		}
+// Flush writes the packets that were gathered. It doesn't flush the output. Its error is that of the output,
+// which then has the packets that Written counts, and of the bytes after them as many as it took.
+func (w *Writer) Flush() error {
+	if w.failure != nil || w.count == 0 {
+		return w.failure
 	}
-	return written, err
+	w.makeRoom(w.count, len(w.bytes))
+	put := C.put_packets(&w.state, &w.interfaces[0], C.size_t(len(w.interfaces)), &w.gathered[0],
+		C.size_t(w.count), (*C.uint8_t)(start(w.bytes)), (*C.uint8_t)(start(w.buffer)),
+		C.size_t(len(w.buffer)), &w.number)
+	w.count, w.bytes = 0, w.bytes[:0]
+	w.send()
+	if w.failure == nil && put != C.CAPKIT_WRITTEN {
+		w.failure = &WriteError{Code(put)}
+	}
+	return w.failure
 }
 
-// Close writes the file's header if there was no packet. It neither flushes nor closes the output.
+// Written is how many packets the output has, whole and in the order of the calls.
+func (w *Writer) Written() uint64 { return w.written }
+
+// Close is Flush, and writes the file's header if there was no packet. It neither flushes nor closes the
+// output.
 func (w *Writer) Close() error {
 	if w.failure == os.ErrClosed {
 		return nil
 	}
-	if w.failure == nil && !w.isWritten {
-		w.put(int(C.put_header(&w.state, (*C.uint8_t)(start(w.buffer)), C.size_t(len(w.buffer)))))
+	if w.Flush() == nil && !w.isBegun {
+		w.makeRoom(1, 0)
+		w.sendBytes(int(C.put_header(&w.state, (*C.uint8_t)(start(w.buffer)), C.size_t(len(w.buffer)))))
 	}
 	if w.failure != nil {
 		return w.failure
@@ -120,40 +129,43 @@ func (w *Writer) Close() error {
 	return nil
 }
 
-// first is the beginning of a text that is refused if it is longer than most, which shows by its beginning.
-func first(text string, most int) string {
-	if len(text) > most {
-		return text[:most+1]
+// surelyHolds is whether no call can refuse a packet, as capkit.h has the reasons, so that it can be gathered.
+// Every other packet is written by a call of its own, which has its error.
+func (w *Writer) surelyHolds(packet *Packet, when uint64) bool {
+	if len(packet.Data)+len(packet.Comment) > math.MaxUint16 || len(packet.InterfaceName) > math.MaxUint8 || when >= late {
+		return false
 	}
-	return text
+	if w.state.is_pcapng != 0 {
+		return w.state.pcapng.interfaces <= mostInterfaces-mostGathered
+	}
+	return w.state.has_header != 0 && w.state.link_type == C.uint16_t(packet.LinkType)
 }
 
-// stage collects packets, at least one, for one call of the library.
-func (w *Writer) stage(packets []Packet) {
-	w.staged, w.bytes = w.staged[:0], w.bytes[:0]
-	for i := range packets {
-		if i == mostStaged || len(w.bytes) >= enoughStaged {
-			break
-		}
-		it := &packets[i]
-		data, name, comment := it.Data, first(it.InterfaceName, math.MaxUint8), first(it.Comment, math.MaxUint16)
-		if len(data) > C.CAPKIT_MOST_UNIT {
-			data = data[:C.CAPKIT_MOST_UNIT+1] // which is refused as well
-		}
-		one := staged(it, len(data))
-		one.name_length, one.comment_length = C.size_t(len(name)), C.size_t(len(comment))
-		w.staged = append(w.staged, one)
-		w.bytes = append(append(append(w.bytes, data...), name...), comment...)
+// writeAlone writes a packet after those that were gathered.
+func (w *Writer) writeAlone(packet *Packet, when uint64) error {
+	if w.Flush() != nil {
+		return w.failure
 	}
+	w.add(packet, when)
+	w.count = 0
+	w.makeRoom(1, len(packet.Data)+len(packet.Comment))
+	put := C.put_packet(&w.state, &w.interfaces[0], C.size_t(len(w.interfaces)), &w.gathered[0],
+		(*C.uint8_t)(start(packet.Data)), packet.InterfaceName, packet.Comment,
+		(*C.uint8_t)(start(w.buffer)), C.size_t(len(w.buffer)))
+	if put != C.CAPKIT_WRITTEN {
+		return &WriteError{Code(put)}
+	}
+	w.number = 1
+	return w.send()
 }
 
-// staged is what counts of a packet besides its bytes and texts.
-func staged(packet *Packet, captured int) C.struct_put_packet {
-	return C.struct_put_packet{
-		time: C.uint64_t(nanoseconds(packet.Time)), captured: C.size_t(captured),
-		original: C.uint32_t(packet.original()), snap: C.uint32_t(packet.SnapLength),
-		link_type: C.uint16_t(packet.LinkType),
-	}
+// add adds what counts of a packet besides its bytes and texts.
+func (w *Writer) add(packet *Packet, when uint64) {
+	it := &w.gathered[w.count]
+	w.count++
+	it.time, it.captured, it.original = C.uint64_t(when), C.size_t(len(packet.Data)), C.uint32_t(packet.original())
+	it.name_length, it.comment_length = C.size_t(len(packet.InterfaceName)), C.size_t(len(packet.Comment))
+	it.snap, it.link_type = C.uint32_t(packet.SnapLength), C.uint16_t(packet.LinkType)
 }
 
 // nanoseconds is a time since 1970, or one that is refused.
@@ -165,10 +177,14 @@ func nanoseconds(it time.Time) uint64 {
 	return uint64(since)
 }
 
-// makeRoom makes room for the interfaces and the units of packets: always enough for the first one.
+// makeRoom makes room for the interfaces and the units of packets.
 func (w *Writer) makeRoom(count, length int) {
-	for len(w.interfaces) < int(w.state.pcapng.interfaces)+count {
-		w.interfaces = append(w.interfaces, C.struct_capkit_interface{})
+	interfaces := 1 // a pcap file has none, and a call the address of one
+	if w.state.is_pcapng != 0 {
+		interfaces = int(w.state.pcapng.interfaces) + count
+	}
+	if more := interfaces - len(w.interfaces); more > 0 {
+		w.interfaces = append(w.interfaces, make([]C.struct_capkit_interface, more)...)
 	}
 	room := length + count*besides
 	if room > mostUnits {
@@ -179,25 +195,31 @@ func (w *Writer) makeRoom(count, length int) {
 	}
 }
 
-// put writes this many bytes of the buffer, and returns how many the output took.
-func (w *Writer) put(length int) (count int, err error) {
+// send writes the units of the packets that a call put.
+func (w *Writer) send() error {
+	if w.number == 0 {
+		return nil
+	}
+	taken := w.sendBytes(int(w.gathered[w.number-1].end))
+	for i := range w.gathered[:w.number] {
+		if int(w.gathered[i].end) <= taken {
+			w.written++
+		}
+	}
+	return w.failure
+}
+
+// sendBytes writes the first bytes of the buffer, and returns how many of them the output took.
+func (w *Writer) sendBytes(length int) int {
 	if w.out == nil {
 		w.failure = os.ErrInvalid
-		return 0, w.failure
+		return 0
 	}
-	w.isWritten = true
-	count, err = w.out.Write(w.buffer[:length])
-	if err == nil && count != length {
+	w.isBegun, w.failure = true, io.ErrShortWrite // if it panics
+	taken, err := w.out.Write(w.buffer[:length])
+	if err == nil && taken != length {
 		err = io.ErrShortWrite
 	}
 	w.failure = err
-	return count, err
-}
-
-// whole is how many packets have all their units in the first bytes of the buffer.
-func (w *Writer) whole(length int) (count int) {
-	for count < int(w.number) && int(w.staged[count].end) <= length {
-		count++
-	}
-	return count
+	return taken
 }

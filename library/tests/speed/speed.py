@@ -1,7 +1,8 @@
 #!/usr/bin/env python3
-"""Measures reading, filtering and writing 1,000,000 packets in each language, and in libpcap and gopacket.
+"""Measures reading, filtering and writing 1,000,000 packets in each language, and in libpcap and gopacket, and counts the
+lines of the examples.
 
-usage: speed.py [ROUNDS] [LANGUAGE..]     by default 7 rounds and c libpcap rust go gopacket python
+usage: speed.py [ROUNDS] [LANGUAGE..]     by default 7 rounds and c rust go python libpcap gopacket
 
 Each cell is the least CPU time (user and system, in s) of all rounds, in each of which all programs run one after
 another. It builds the programs in out/speed, uses the library that `make` and `make python` left in out/, and says which
@@ -19,15 +20,16 @@ OUT = LIBRARY / "out/speed"
 HOSTS = "ip or " + " or ".join(f"host 10.9.{n // 128}.{2 * n % 256}" for n in range(300))
 COLUMNS = {  # what a program is called with, after its name; {out} is a file
     "read pcap": ("read", "m.pcap"),
-    "tcp port 80": ("match", "m.pcap", "tcp port 80"),
-    "300 hosts or ip": ("match", "m.pcap", HOSTS),
+    "`tcp port 80`": ("match", "m.pcap", "tcp port 80"),
+    "`ip or` 300 hosts": ("match", "m.pcap", HOSTS),
     "read pcapng": ("read", "m.pcapng"),
-    "pcap": ("pcap", "m.pcap", "out.pcap"),
-    "pcapng": ("pcapng", "m.pcap", "out.pcapng"),
-    "pcap, WriteAll": ("pcap-all", "m.pcap", "out.pcap"),
-    "pcapng, WriteAll": ("pcapng-all", "m.pcap", "out.pcapng"),
+    "read and write pcap": ("pcap", "m.pcap", "out.pcap"),
+    "read pcap, write pcapng": ("pcapng", "m.pcap", "out.pcapng"),
 }
-LACKS = {"libpcap": {"pcapng"}, "gopacket": {"tcp port 80", "300 hosts or ip"}}
+LACKS = {"libpcap": {"read pcap, write pcapng"}, "gopacket": {"`tcp port 80`", "`ip or` 300 hosts"}}
+NAMES = {"c": "C", "rust": "Rust", "go": "Go", "python": "Python", "libpcap": "C, libpcap", "gopacket": "Go, gopacket (pcapgo)"}
+# The examples, which do the same in each language.
+EXAMPLES = {"C": "examples/{}.c", "Python": "python/examples/{}.py", "Rust": "rust/examples/{}.rs", "Go": "go/examples/{}/main.go"}
 
 
 def run(*words, **env):
@@ -89,7 +91,7 @@ def main():
     rounds = int(sys.argv[1]) if sys.argv[1:] else 7
     prepare()
     programs = {}
-    for language in sys.argv[2:] or ["c", "libpcap", "rust", "go", "gopacket", "python"]:
+    for language in sys.argv[2:] or list(NAMES):
         try:
             programs[language] = build(language)
         except (subprocess.CalledProcessError, OSError) as error:
@@ -99,7 +101,7 @@ def main():
     for _ in range(rounds):
         for column, words in COLUMNS.items():
             for language, program in programs.items():
-                if column in LACKS.get(language, ()) or "WriteAll" in column and language != "go":
+                if column in LACKS.get(language, ()):
                     continue
                 taken, count, compiled = measure([*program, *words])
                 if counts.setdefault(column, count) != count:
@@ -112,7 +114,11 @@ def main():
     for language in programs:
         row = [f"{least[it]:.3f}" + (f" (+ {compiling[it]:.2f} to compile)" if it in compiling else "") if it in least else "-"
                for it in ((language, column) for column in COLUMNS)]
-        print("|", " | ".join([language, *row]), "|")
+        print("|", " | ".join([NAMES[language], *row]), "|")
+    print("\n|", " | ".join(["lines, with heads and comments", *EXAMPLES]), "|\n|" + "---|" * (len(EXAMPLES) + 1))
+    for example in ("filter", "keep"):
+        counts = [len((LIBRARY / path.format(example)).read_text().splitlines()) for path in EXAMPLES.values()]
+        print("|", " | ".join([f"`{example}`", *map(str, counts)]), "|")
 
 
 main()

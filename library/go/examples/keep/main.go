@@ -6,7 +6,6 @@
 package main
 
 import (
-	"bufio"
 	"fmt"
 	"io"
 	"os"
@@ -40,14 +39,13 @@ func keep(expression *capkit.Expression, name, out string) error {
 		return err
 	}
 	defer file.Close()
-	buffer := bufio.NewWriter(file)
-	writer := capkit.NewWriter(buffer, capkit.Pcapng)
+	writer := capkit.NewWriter(file, capkit.Pcapng)
 	for end == nil {
 		if end = writer.Write(packet); end == nil {
 			packet, end = reader.Next()
 		}
 	}
-	for _, finish := range []func() error{writer.Close, buffer.Flush, file.Close} {
+	for _, finish := range []func() error{writer.Close, file.Close} {
 		if err := finish(); err != nil {
 			return err
 		}
