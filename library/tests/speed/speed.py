@@ -62,7 +62,8 @@ def build(language):
         run("go", "build", "-o", program, f"example.com/{language}", GO111MODULE="off", GOPATH=f"{OUT}/go:/usr/share/gocode", GOFLAGS="")
     else:
         run(sys.executable, "-m", "pip", "-q", "install", "--no-index", "--target", OUT / "python", *(LIBRARY / "out/python").glob("*.whl"))
-        return [sys.executable, str(HERE / "capkit.py")]
+        program.write_text((HERE / "capkit.py").read_text())  # by another name than the package's
+        return [sys.executable, str(program)]
     return [str(program)]
 
 
