@@ -76,7 +76,7 @@ WORDS = [
     (r"\balso (?:where|that|of|those|one|by|from|under|if|at|after|in|when|as)\b", "even if, including, too"),
     (r"(?<!here )\b(?:is|are|was|were) no (?!longer\b|more\b)\w+", "isn't a, aren't"),
     (r"\b(?:is|are|was|were) to (?!the\b|an?\b)\w+", "must, should, will"),
-    (r"(?<!many )\b(?:unit|test|run|file|block|bytes?|instructions?|ns|two|four|one|\d[\d,.]*) an? (?:call|packet|side|second|row|thousand|subject|type)\b"
+    (r"(?<!many )\b(?:unit|test|run|file|block|bytes?|instructions?|steps?|ns|two|four|one|\d[\d,.]*) an? (?:call|packet|side|second|row|thousand|subject|type)\b"
      r"|\bof (?:a )?processors?\b", "per packet; CPU minutes"),
     (r"\b(?:anew|dear(?:er|est)?|mended|needless|alike|nevertheless|beside|but for|some \d[\d,]*)\b",
      "again, expensive, fixed, unnecessary, the same, next to, except, about"),
