@@ -187,7 +187,7 @@ int main(int argc, char **argv)
         wrong += least_of_all(large[i], most_terms(large[i])) > 8 << 20;
     while (fgets(line, sizeof line, f)) {
         line[strcspn(line, "\n")] = 0;
-        wrong += least_of_all(line, line) > 16 << 10;
+        wrong += least_of_all(line, line) > 24 << 10;
     }
     least_of_all("refused", "tcp prt 80");
     least_of_all("not UTF-8", "tcp \xff");
