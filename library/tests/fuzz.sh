@@ -1,6 +1,6 @@
 #!/bin/sh
 # Gives damaged captures, expressions and listings to every call (mutants.c), under the sanitizers of addresses and undefined
-# behaviour, and then of threads. It needs libcapkit.a (make).
+# behaviour, and then of threads; then all sizes of memory to the calls that take it (lent.c). It needs libcapkit.a (make).
 #
 # usage: library/tests/fuzz.sh [INPUTS]       of damaged captures for each (100000)
 set -eu
@@ -17,4 +17,12 @@ for sanitizer in address,undefined thread; do
     fi
     "$program" 1 "$inputs" 4 ../samples/*.pcap* || bad=1
 done
+# The calls over memory that the caller lends.
+if ${CC:-cc} -g -O1 -Wall -Wextra -std=c11 -D_GNU_SOURCE -Iinclude -fsanitize=address,undefined -fno-sanitize-recover=all \
+    -o out/lent-address tests/lent.c out/libcapkit.a; then
+    out/lent-address tests/expressions.txt >out/lent.txt || bad=1
+    tail -n 1 out/lent.txt
+else
+    echo 'without -fsanitize=address,undefined'
+fi
 exit $bad
