@@ -1,4 +1,5 @@
--- What is counted, kept and searched of packets that come one after another, and how the verdicts on them end a job.
+-- The verdicts on packets that come one after another select a list of packets, and end the job at
+-- one of them.
 use Rattle.cap_process.proofs.Common.{map-append, ◌≡◌, ℕ, zero, suc, drop, ◌+◌, ◌-◌, ◌^◌, ◌<◌, ◌≤◌, ◌==◌, ◌&&◌, Bool, true, false, if◌then◌else◌, nat_le, min}
 use Rattle.cap_process.proofs.Common.{max, Option, None, Some, option_or, unwrap_or, List, [], ◌∷◌, ◌++◌, length, refl, sym, ◌∙◌, ap, arith, subst, nat_tests}
 use Rattle.cap_process.proofs.Common.{append_assoc, append-nil, sum_by-append, take-nil, sum_by, IfSome, Captured, Fault, TimeOutOfRange, Kind, Placed, Ending}

@@ -1,4 +1,4 @@
--- How far a job comes over events that came, and over what comes next.
+-- The progress of a job over some events determines its progress over those after them.
 use Rattle.cap_process.proofs.Common.{◌≡◌, List, [], ◌∷◌, ◌++◌, Option, None, Some, refl, ◌∙◌, ap, Event, SequenceEnd, Sequence, with_front, Policy, Form}
 use Rattle.cap_process.proofs.Common.{JobProgress, no_progress, unless_ended, apply_event, next_progress, apply_events, end_with, end_unless_ended}
 use Rattle.cap_process.proofs.Common.{final_progress, ℕ, ◌+◌, sym, subst, append_assoc, append-nil, Captured, Fault, Placed, Kind, Report, Packet, InputEnd}

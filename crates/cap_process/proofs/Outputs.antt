@@ -1,4 +1,4 @@
--- Where a job writes, from one call to the next.
+-- What a job's output holds after each packet, report and close.
 use Rattle.cap_process.proofs.Common.{◌≡◌, inl, inr, ℕ, ◌+◌, Bool, List, [], ◌∷◌, ◌++◌, length, Option, None, Some, Ok, Err, refl, sym, ◌∙◌, ap, add-zero, true}
 use Rattle.cap_process.proofs.Common.{append_assoc, append-nil, Stops, Captured, Fault, NoMemory, WriteFailed, Format, Options, takes_memory, added_text}
 use Rattle.cap_process.proofs.Common.{refusal_of, Report, Complete, SelectorState, Form, AsCapture, AsReports, AsLines, closing_text, lines_text, final_text}

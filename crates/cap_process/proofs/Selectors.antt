@@ -1,4 +1,5 @@
--- What a selector returns.
+-- A selector returns the verdict that its policy gives, and adds to its counts what the packet
+-- adds.
 use Rattle.cap_process.proofs.Common.{◌≡◌, ℕ, ◌+◌, ◌^◌, ◌<◌, ◌≤◌, nat_le, Bool, true, false, length, if◌then◌else◌, List, Option, None, Some, Ok, refl, sym}
 use Rattle.cap_process.proofs.Common.{◌∙◌, ap, arith, nat_tests, Captured, TooManyPackets, WindowView, Mark, Policy, Edit, Filter, KeepAll, Count}
 use Rattle.cap_process.proofs.Common.{SelectorState, Judgement, Pass, PassLast, Skip, is_too_many, judge, judge_by, refuses, is_last, Tally, tally_with}
