@@ -1,5 +1,5 @@
-//! Runs of a caller's instructions, which no program counts: of a valid program, step by step with
-//! the machine's state before each, and of instructions that weren't checked.
+//! Runs of a caller's instructions, which no program counts: step by step, with the machine's state
+//! before each step, if the program is valid, and of instructions that weren't checked.
 //!
 //! Each step is the machine's own (`execute`, `advance` of `flt_bpf`). The jobs don't use this
 //! crate, so the only runner that they can name counts.
