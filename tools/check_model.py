@@ -4,7 +4,7 @@
 usage: check_model.py [CRATE..]      the first check only for these crates
 
 1. Each definition that a public function's contract cites has a comment. A function is public if other crates or C can name it.
-   A definition is in specs/ or specs/inside/ as meaning.py states, and CONTRACTS.md's table of lines has the right counts.
+   A definition is in specs/ or specs/inside/ as meaning.py states, and CONTRACTS.md's table of lines is about right.
 2. A contract in a fenced block of a page, and a clause in backquotes, is in src/ as it is shown; `..` is text that was left out.
 3. A field `Name.field` and a file exist; `path::name` is an item, in CONTRACTS' tables a public one; the clauses that
    CONTRACTS' rows name are those of the row's functions; and any other name in backquotes is a word of some source, edit or
@@ -45,16 +45,16 @@ def uncommented_definitions(sources, crates):
 
 
 def misplaced_definitions(sources):
-    """Yields the definitions of specs/ that no promise rests on, those of specs/inside/ that one does, and what CONTRACTS.md
-    counts otherwise."""
+    """Yields the definitions of specs/ that no promise rests on, those of specs/inside/ that one does, and numbers of CONTRACTS.md
+    that are over 2 % off."""
     meaning = Meaning(sources)
     for spec, name, is_believed in meaning.misplaced():
         what = "must be believed" if is_believed else "only helps proofs"
         yield f"{spec.path.relative_to(ROOT)}: {name} {what}"
     model = (INSIDE / "CONTRACTS.md").read_text()
-    for name, *shown in re.findall(r"^\| `?([\w: ]+)`? \| ([\d,]+) \| ([\d,]+) \|$", model, re.MULTILINE):
+    for name, *shown in re.findall(r"^\| `?([\w: ]+)`? \| about ([\d,]+) \| about ([\d,]+) \|$", model, re.MULTILINE):
         count, lines = figures(sources, meaning.closure_of(TOGETHER.get(name, [name])))
-        if shown != [f"{count:,}", f"{lines:,}"]:
+        if any(abs(int(number.replace(",", "")) - is_) > is_ / 50 for number, is_ in zip(shown, (count, lines))):
             yield f"docs/inside/CONTRACTS.md: {name} rests on {count:,} definitions of {lines:,} lines"
 
 
