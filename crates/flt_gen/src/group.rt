@@ -14,7 +14,7 @@ ghost use Rattle.flt_gen.specs.inside.Group.{has_networks, case_goes_with, with_
 ghost use Rattle.flt_gen.specs.inside.Group.{larger_by, entry_formula};
 
 use crate::address::Hosts;
-use crate::cases::{Case, case_of, put_case, same_words};
+use crate::cases::{Case, are_either, case_of, put_case, same_words};
 use crate::code::{Code, Targets};
 use crate::elementary::Interval;
 use crate::intervals::{Numbers, Room};
@@ -43,6 +43,10 @@ const FEWEST_CASES: usize = 8;
 /// others of the list.
 const FEWEST_ADDRESSES: usize = 20;
 
+/// How many addresses on either side are: the code of three might be longer than their bound
+/// allows.
+const FEWEST_EITHER: usize = 4;
+
 /// A member: a value with its qualifiers, or a relation.
 #[derive(Clone, Copy)]
 pub enum Entry {
@@ -62,7 +66,9 @@ pub struct Group<A: Allocator> {
     first: Interval,
     /// The numbers of all, which ascend by their beginnings.
     all: Vec<Interval, A>,
-    /// The members that are compared word by word, which ascend; the others have numbers.
+    /// The member that stands first, if they are compared word by word; else they have numbers.
+    case: Option<Case>,
+    /// The members that are compared word by word, which ascend.
     cases: Vec<Case, A>,
     /// The members, of which the first in the expression is the latest.
     entries: Stack<Entry, A>,
@@ -79,6 +85,7 @@ impl<A: Allocator> Model for Group<A> {
       is_plain = g.is_plain;
       first = g.first;
       all = g.all.items;
+      case = g.case;
       cases = g.cases.items;
       entries = g.entries;
     } };
@@ -184,6 +191,7 @@ impl<A: Allocator> Group<A> {
         self.is_plain = true;
         self.first = Interval { low: 0, high: 0 };
         self.all.clear();
+        self.case = None;
         self.cases.clear();
         self.entries.clear();
     }
@@ -202,7 +210,7 @@ impl<A: Allocator> Group<A> {
         ensures { result ≡ goes_with qualifiers self.now self.now.entries }
     {
         self.is_empty()
-            || (self.cases.is_empty()
+            || (self.case.is_none()
                 && (same_type(qualifiers.value_type, self.qualifiers.value_type)
                     && (same_protocol(qualifiers.protocol, self.qualifiers.protocol)
                         && (same_direction(qualifiers.direction, self.qualifiers.direction)
@@ -217,10 +225,10 @@ impl<A: Allocator> Group<A> {
         if self.is_empty() {
             return true;
         }
-        match self.cases.first() {
+        match self.case {
             None => false,
             Some(other) => {
-                same_words(*other, case)
+                same_words(direction, other, case)
                     && same_direction(direction, self.qualifiers.direction)
                     && self.entries.entries().len() < MOST_TOGETHER
             }
@@ -244,6 +252,7 @@ impl<A: Allocator> Group<A> {
         put_case(&mut self.cases, case)?;
         self.entries.push(entry)?;
         self.qualifiers = qualifiers;
+        self.case = Some(case);
         Ok(true)
     }
 
@@ -281,9 +290,10 @@ impl<A: Allocator> Group<A> {
     fn is_searched(&self) -> bool
         ensures { result ≡ is_searched self.now }
     {
-        let fewest = match self.cases.first() {
+        let fewest = match self.case {
             None if self.is_plain => 2,
             None => FEWEST_RANGES,
+            Some(case) if are_either(self.qualifiers.direction, case) => FEWEST_EITHER,
             Some(Case::Ip6(_, _)) => FEWEST_ADDRESSES,
             Some(_) => FEWEST_CASES,
         };
@@ -304,8 +314,8 @@ impl<A: Allocator> Group<A> {
         if !self.is_searched() {
             return code.emit_rows(link, self.entries.entries(), to);
         }
-        if !self.cases.is_empty() {
-            return code.emit_cases(link, self.qualifiers.direction, &self.cases, to);
+        if let Some(first) = self.case {
+            return code.emit_cases(link, self.qualifiers.direction, first, &self.cases, to);
         }
         let has_networks = self.has_networks();
         let numbers = self.room.numbers(has_networks, self.first, &self.all)?;
@@ -385,6 +395,7 @@ impl<A: Allocator + Clone> Group<A> {
             is_plain: true,
             first: Interval { low: 0, high: 0 },
             all: Vec::new(alloc.clone()?),
+            case: None,
             cases: Vec::new(alloc.clone()?),
             entries: Stack::new(alloc.clone()?),
             room: Room::new(alloc)?,
