@@ -1,6 +1,7 @@
 -- Decision trees of cases: they read as one case after the other, and have few tests.
 use Rattle.flt_gen.proofs.Ascending.{if_case, each_is}
-use Rattle.flt_gen.proofs.Common.{◌≡◌, ℕ, zero, suc, ◌+◌, ◌-◌, ◌*◌, ◌/◌, ◌^◌, ◌<◌, ◌≤◌, List, [], ◌∷◌, ◌++◌, length, map, max, length-take, take, drop, Bool, true}
+use Rattle.flt_gen.proofs.Common.{◌≡◌, ℕ, zero, suc, ◌+◌, ◌-◌, ◌*◌, ◌/◌, ◌^◌, ◌<◌, ◌≤◌, List, [], ◌∷◌, ◌++◌, length, map, max, length-take, take, drop, Bool}
+use Rattle.flt_gen.proofs.Common.{true}
 use Rattle.flt_gen.proofs.Common.{false, Option, Some, None, refl, sym, ap, ap₂, ◌∙◌, subst, arith, add-one, field, is_empty, is_idle, capture_test, last_test}
 use Rattle.flt_gen.proofs.Common.{needed_tests, ◌==◌, ◌&&◌, nat_lt, nat_le, bit_and, nat_tests, and_parts, pow_pos, and_le_r, Tcp, Direction, Link, first_bits}
 use Rattle.flt_gen.proofs.Common.{Word, HalfWord, Byte, Width, Offset, Fixed, Equal, Elementary, Field, MatchResult, Yes, No, Rejected, reading_of, with}
@@ -19,7 +20,8 @@ use Rattle.flt_gen.specs.declared.{elementary.FieldTest.FieldTest, relation.Rela
 use Rattle.flt_gen.specs.inside.{Emitted.equals, Code.accessor_offset}
 use Rattle.flt_gen.specs.Numbers.{accessor_tests, width_of}
 use Rattle.flt_words.specs.declared.token.Protocol.{Protocol}
-use Rattle.flt_gen.specs.inside.Cases.{shares, same_words, case_front, mac_place, ip6_place, case_tests, word_test, lowest, is_whole, keeps, all_keep, chain, test_at}
+use Rattle.flt_gen.specs.inside.Cases.{shares, same_words, case_front, mac_place, ip6_place, case_tests, word_test, lowest, is_whole, keeps, all_keep, chain}
+use Rattle.flt_gen.specs.inside.Cases.{test_at}
 use Rattle.flt_gen.specs.inside.Cases.{from_test, middle, is_parted, same_word, decided, decision}
 use Rattle.std.proofs.lemmas.{List.length-map, List.map-append, List.take-append-drop, List.length-drop, List.length-append, Nat.and-not, Nat.and_comm}
 
@@ -94,7 +96,8 @@ some_fields link d (Mac a) = omega arith
 some_fields link d _ = omega arith
 
 -- relations of one accessor
-relations_are : (d : Direction) (a b : Relation) → same_words d (Case.Relation a) (Case.Relation b) ≡ true → (a.protocol ≡ b.protocol) × (a.size ≡ b.size) × (a.index ≡ b.index)
+relations_are : (d : Direction) (a b : Relation) → same_words d (Case.Relation a) (Case.Relation b) ≡ true → (a.protocol ≡ b.protocol) × (a.size
+    ≡ b.size) × (a.index ≡ b.index)
 relations_are d a b e =
     let one = and_parts (equals a.protocol b.protocol) _ e in
     let same = one.1 in
@@ -215,7 +218,8 @@ sizes_append : (rs ss : List (List Elementary)) → sizes (rs ++ ss) ≡ sizes r
 sizes_append [] ss = omega arith
 sizes_append (r ∷ rs) ss = let h = sizes_append rs ss in omega arith
 
-pub sizes_rest : (f : Offset × Width) (fs : List (Offset × Width)) (rs : List (List Elementary)) → Shapes (f ∷ fs) rs → sizes rs ≡ length rs + sizes (map rest rs)
+pub sizes_rest : (f : Offset × Width) (fs : List (Offset × Width)) (rs : List (List Elementary)) → Shapes (f ∷ fs) rs → sizes rs ≡ length rs + sizes
+    (map rest rs)
 sizes_rest f fs [] h = omega arith
 sizes_rest f fs ((Field t ∷ ts) ∷ rs) h = let more = sizes_rest f fs rs h.1 in omega arith
 sizes_rest f fs (_ ∷ rs) h = absurd h.0

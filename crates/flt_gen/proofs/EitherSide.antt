@@ -6,14 +6,17 @@ use Rattle.flt_gen.proofs.Common.{refl, sym, ap, ap₂, ◌∙◌, subst, arith,
 use Rattle.flt_gen.proofs.Common.{And, Or, Word, HalfWord, Width, Offset, field, Elementary, Field, MatchResult, Yes, No, Rejected, reading_of, with}
 use Rattle.flt_gen.proofs.Common.{network_offset, Formula, Outcome, both, either, all_of, reads, needed_tests, drop, if◌then◌else◌}
 use Rattle.flt_gen.proofs.Counted.{Bare, bare_within, bare_all, bare_one, bare_some, bare_both, bare_either}
-use Rattle.flt_gen.proofs.Deciding.{Shapes, fields_of, shape_of, some_fields, rows, rows_rest, shapes_rest, sizes, sizes_rest, Known, known_either, read_all, needed_read, read_put}
+use Rattle.flt_gen.proofs.Deciding.{Shapes, fields_of, shape_of, some_fields, rows, rows_rest, shapes_rest, sizes, sizes_rest, Known, known_either, read_all}
+use Rattle.flt_gen.proofs.Deciding.{needed_read, read_put}
 use Rattle.flt_gen.proofs.Deciding.{decision_good, Likes, shapes_of, sizes_put}
 use Rattle.flt_gen.proofs.{Exclusive.or_no, Needed.fewer}
 use Rattle.std.specs.{List.insert, Prelude.is_none}
 use Rattle.std.proofs.{Math.Nat.div-div-eq-div-mul, lemmas.List.length-map}
 use Rattle.flt_words.specs.declared.token.Side.{Side}
 use Rattle.flt_ast.specs.declared.qualifiers.Direction.TheVariants as direction
-use Rattle.flt_gen.specs.declared.{cases.Bound.TheVariants.Exactly, cases.Case.Case, cases.Case.TheVariants.Mac, cases.Case.TheVariants.Ip6, cases.Case.TheVariants.IpProto, cases.Case.TheVariants.Ip6Proto}
+use Rattle.flt_gen.specs.declared.{cases.Bound.TheVariants.Exactly, cases.Case.Case, cases.Case.TheVariants.Mac, cases.Case.TheVariants.Ip6}
+use Rattle.flt_gen.specs.declared.{cases.Case.TheVariants.IpProto, cases.Case.TheVariants.Ip6Proto}
+use Rattle.flt_gen.specs.inside.Group.{fewest_either}
 use Rattle.flt_gen.specs.inside.Cases.{same_words, case_tests, ip6_place, mac_place, word_test, test_at, lowest, keeps, is_whole, all_keep, same_word}
 use Rattle.flt_gen.specs.inside.Cases.{decision, few_of, MOST_DECISIONS, is_address, are_either, on_side, all_on_side, either_formula}
 
@@ -109,7 +112,8 @@ module _ (link : Link) (s : Side) (p : List ℕ) (n : ℕ) where
       (seen_last (field p (at + 4 * 3) Word) (a / 1 % 2 ^ 32) (b / 1 % 2 ^ 32)))) k)
 
   -- both ways
-  seen : (a b : Case) → are_either either_side a ≡ true → same_words either_side a b ≡ true → (Known (told a) → Known (told b)) × (Known (told b) → Known (told a))
+  seen : (a b : Case) → are_either either_side a ≡ true → same_words either_side a b ≡ true → (Known (told a) → Known (told b)) × (Known (told b) → Known
+      (told a))
   seen (Mac a) (Mac b) i e = (macs_seen a b (macs_are a b e), macs_seen b a (sym (macs_are a b e)))
   seen (Ip6 None a) (Ip6 m b) i e =
       let h = ip6_are m a b e in
@@ -215,7 +219,8 @@ common_bare by few j w v m k (c ∷ cs) h l many more =
     let t = word_test by w c in
     let kept : all_keep by w (Exactly (lowest t)) (c ∷ cs) ≡ true =
     ap (λ x. all_keep by w (Exactly x) (c ∷ cs)) (kept_lowest t v (h c l.0)) ∙ kept_by by w v k (c ∷ cs) h l in
-    if_case (λ (f : Formula). Bare f (1 + m)) (nat_le (length (c ∷ cs)) few) _ _ (λ e. absurd (let no : length (c ∷ cs) ≤ few = grind (arith, nat_tests) in omega arith))
+    if_case (λ (f : Formula). Bare f (1 + m)) (nat_le (length (c ∷ cs)) few) _ _ (λ e. absurd (let no : length (c ∷ cs) ≤ few = grind
+    (arith, nat_tests) in omega arith))
     (λ e. if_case (λ (f : Formula). Bare f (1 + m)) (all_keep by w (Exactly (lowest t)) (c ∷ cs)) _ _ (λ a. same t (test_at by (w + 1) (c ∷ cs) 0)) (λ a. cc))
   where
     same : (t u : Option Elementary) → Bare (same_word t u (decision few j by (w + 1) (c ∷ cs))) (1 + m)
@@ -290,7 +295,8 @@ module _ (link : Link) (s : Side) (few : ℕ) (cs : List Case) (many : few < len
   ip6_kept a w k h _ e = cc
 
   ip6_shapes : (a : ℕ) → Likes either_side (Ip6 None a) cs → Shapes (place 0 ∷ place 1 ∷ place 2 ∷ place 3 ∷ []) (rows tests 0 cs)
-      × Shapes (place 1 ∷ place 2 ∷ place 3 ∷ []) (rows tests 1 cs) × Shapes (place 2 ∷ place 3 ∷ []) (rows tests 2 cs) × Shapes (place 3 ∷ []) (rows tests 3 cs)
+      × Shapes (place 1 ∷ place 2 ∷ place 3 ∷ []) (rows tests 1 cs) × Shapes (place 2 ∷ place 3 ∷ []) (rows tests 2 cs) × Shapes (place 3 ∷ [])
+      (rows tests 3 cs)
   ip6_shapes a h =
       let all = shapes_of link either_side (direction.One s) (Ip6 None a) cs h in
       let one = next_shapes (place 0) (place 1 ∷ place 2 ∷ place 3 ∷ []) tests 0 cs all in
@@ -326,7 +332,7 @@ module _ (link : Link) (s : Side) (few : ℕ) (cs : List Case) (many : few < len
 
 -- ---- both trees
 
-few_fits : (c : Case) (n : ℕ) → is_address c ≡ true → 4 ≤ n → (2 ≤ few_of c n) × (few_of c n < n)
+few_fits : (c : Case) (n : ℕ) → is_address c ≡ true → fewest_either c ≤ n → (2 ≤ few_of c n) × (few_of c n < n)
 few_fits (Mac a) n i l =
     if_case (λ k. (2 ≤ k) × (k < n)) (nat_le 40 n) 4 (min (n - n / 2) 13) (λ e. (omega arith, let t : 40 ≤ n = grind (arith, nat_tests) in omega arith))
     (λ e. (omega arith, omega arith))
@@ -334,10 +340,10 @@ few_fits (Ip6 m a) n i l = (omega arith, omega arith)
 few_fits _ n i l = cc
 
 either_bare : (link : Link) (kind first : Case) (cs : List Case) → are_either either_side kind ≡ true → same_words either_side kind first ≡ true
-    → Likes either_side kind cs → 4 ≤ length cs → Bare (either_formula link (few_of first (length cs)) first cs)
+    → Likes either_side kind cs → fewest_either first ≤ length cs → Bare (either_formula link (few_of first (length cs)) first cs)
     (list_size true link either_side cs + (length cs - 1))
-either_bare link (Mac a) (Mac b) cs i e h four =
-    let few = few_fits (Mac b) (length cs) refl four in
+either_bare link (Mac a) (Mac b) cs i e h many =
+    let few = few_fits (Mac b) (length cs) refl many in
     let tree : (s : Side) → Bare (all_on_side link (few_of (Mac b) (length cs)) s cs) (1 + (length cs + (length cs - max 1 (few_of (Mac b) (length cs))))) =
     λ s. macs_bare link s _ cs few.1 a h in
     let one : (s : Side) → Bare (on_side link s (Mac b)) 2 = λ s. bare_all (needed_tests (side link s (Mac b))) 2 (fewer (side link s (Mac b))) (omega arith) in
@@ -345,17 +351,18 @@ either_bare link (Mac a) (Mac b) cs i e h four =
     let destination = macs_sizes link Destination _ cs few.1 a h in
     bare_within _ (omega arith)
     (bare_either (bare_both (tree Source) (bare_either (one Source) (bare_either (one Destination) (bare_one (Outcome true))))) (tree Destination))
-either_bare link (Ip6 None a) (Ip6 m b) cs i e h four =
-    let few = few_fits (Ip6 m b) (length cs) refl four in
+either_bare link (Ip6 None a) (Ip6 m b) cs i e h many =
+    let few = few_fits (Ip6 m b) (length cs) refl many in
     let tree : (s : Side) → Bare (all_on_side link (few_of (Ip6 m b) (length cs)) s cs) (3 + (length cs + (length cs - max 1 (few_of (Ip6 m b) (length cs))))) =
     λ s. ip6_bare link s _ cs few.1 a h in
-    let one : (s : Side) → Bare (on_side link s (Ip6 m b)) 4 = λ s. bare_all (needed_tests (side link s (Ip6 m b))) 4 (fewer (side link s (Ip6 m b))) (omega arith) in
+    let one : (s : Side) → Bare (on_side link s (Ip6 m b)) 4 = λ s. bare_all (needed_tests (side link s (Ip6 m b))) 4 (fewer (side link s (Ip6 m b)))
+    (omega arith) in
     let source = ip6_sizes link Source _ cs few.1 a h in
     let destination = ip6_sizes link Destination _ cs few.1 a h in
     bare_within _ (omega arith)
     (bare_either (bare_both (tree Source) (bare_either (one Source) (bare_either (one Destination) (bare_one (Outcome true))))) (tree Destination))
-either_bare link (Ip6 (Some x) a) (Ip6 m b) cs i e h four = cc
-either_bare link _ _ cs i e h four = cc
+either_bare link (Ip6 (Some x) a) (Ip6 m b) cs i e h many = cc
+either_bare link _ _ cs i e h many = cc
 
 -- a list's formula
 abbrev pub list_formula : Bool → Link → Direction → Case → List Case → Formula
@@ -363,14 +370,15 @@ list_formula b link d first cs =
     if b then either_formula link (few_of first (length cs)) first cs else decision (few_of first (length cs)) MOST_DECISIONS (case_tests link d) 0 cs
 
 pub list_good : (b : Bool) (link : Link) (d : Direction) (kind first : Case) (cs : List Case) → are_either d kind ≡ b → same_words d kind first ≡ true
-    → Likes d kind cs → 0 < length cs → (b ≡ true → 4 ≤ length cs) → Bare (list_formula b link d first cs) (list_size b link d cs + (length cs - 1))
+    → Likes d kind cs → 0 < length cs → (b ≡ true → fewest_either first ≤ length cs) → Bare (list_formula b link d first cs) (list_size b link d cs +
+    (length cs - 1))
     × ((p : List ℕ) (n : ℕ) → reads link (list_formula b link d first cs) p n ≡ list_read b link d first cs p n)
-list_good false link d kind first cs are f h some four =
+list_good false link d kind first cs are f h some many =
     let long = length-map cs (case_tests link d) in
     let good = decision_good link (case_tests link d) (few_of first (length cs)) MOST_DECISIONS 0 (fields_of link d kind) cs (shapes_of link d d kind cs h) in
     (bare_within _ (omega arith) (good.1 (some_fields link d kind) (omega arith)), good.0)
-list_good true link (direction.Both Or) kind first cs are f h some four = (
-  either_bare link kind first cs are f h (four refl),
+list_good true link (direction.Both Or) kind first cs are f h some many = (
+  either_bare link kind first cs are f h (many refl),
   λ p n.
       let tree : (s : Side) → reads link (all_on_side link (few_of first (length cs)) s cs) p n ≡ read_all link p n (rows (side link s) 0 cs) =
       λ s. (decision_good link (side link s) (few_of first (length cs)) MOST_DECISIONS 0 (fields_of link (direction.One s) kind) cs
@@ -381,5 +389,5 @@ list_good true link (direction.Both Or) kind first cs are f h some four = (
       ∙ ap₂ (λ x y. by_sides (read_all link p n (rows (side link Source) 0 cs)) x y (read_all link p n (rows (side link Destination) 0 cs))) (one Source)
       (one Destination),
 )
-list_good true link (direction.Both And) kind first cs are f h some four = (let none = (and_parts (is_address kind) false are).1 in cc)
-list_good true link (direction.One s) kind first cs are f h some four = (let none = (and_parts (is_address kind) false are).1 in cc)
+list_good true link (direction.Both And) kind first cs are f h some many = (let none = (and_parts (is_address kind) false are).1 in cc)
+list_good true link (direction.One s) kind first cs are f h some many = (let none = (and_parts (is_address kind) false are).1 in cc)

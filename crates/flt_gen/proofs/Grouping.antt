@@ -2,7 +2,8 @@
 -- and has no more tests.
 use Rattle.flt_gen.proofs.Ascending.{if_case, Each, each_is, Searchable, Reached, Ready, Ordered, Points, ordered_inserted, points_inserted, length_inserted}
 use Rattle.flt_gen.proofs.Ascending.{within_inserted, within_joined, searchable_joined, ends_few, one_point, joined_few, joined_points}
-use Rattle.flt_gen.proofs.Common.{◌≡◌, ℕ, ◌+◌, ◌-◌, ◌*◌, ◌/◌, ◌^◌, ◌<◌, ◌≤◌, max, List, [], ◌∷◌, length, Bool, true, false, Option, Some, None, refl, sym, ap, ap₂, ◌∙◌}
+use Rattle.flt_gen.proofs.Common.{◌≡◌, ℕ, ◌+◌, ◌-◌, ◌*◌, ◌/◌, ◌^◌, ◌<◌, ◌≤◌, max, List, [], ◌∷◌, length, Bool, true, false, Option, Some, None, refl, sym, ap}
+use Rattle.flt_gen.proofs.Common.{ap₂, ◌∙◌}
 use Rattle.flt_gen.proofs.Common.{subst, arith, ◌==◌, ◌||◌, ◌&&◌, nat_lt, nat_le, if◌then◌else◌, suc-mul, nat_tests, and_parts, or_parts, Protocol, Ip, Tcp}
 use Rattle.flt_gen.proofs.Common.{Udp, Source, Destination, And, Or, ValueType, Host, Net, Port, PortRange, Direction, CompleteQualifiers, Value, Interval}
 use Rattle.flt_gen.proofs.Common.{Sides, FrameKind, network_offset, not, map, and-false, inl, inr, Sought, sought_tests, is_address, joined_all, left_out}
@@ -29,7 +30,7 @@ use Rattle.flt_words.specs.declared.token.Protocol.TheVariants as protocol
 use Rattle.flt_gen.specs.declared.{address.Hosts.Hosts, cases.Case.Case}
 use Rattle.flt_gen.specs.inside.Cases.{case_of, same_words, key_of, case_front, insert_case, are_either}
 use Rattle.flt_gen.specs.inside.Group.{with_case, shares_words, case_goes_with, larger_with, together_formula, entry_formula, entry_of, leaf_formula}
-use Rattle.flt_gen.specs.inside.Group.{fewest, fewest_as, FEWEST_EITHER}
+use Rattle.flt_gen.specs.inside.Group.{fewest, fewest_as, fewest_either}
 use Rattle.std.proofs.lemmas.List.{length-map}
 use Rattle.cap_octet.specs.declared.link.Link.TheVariants as link
 use Rattle.cap_octet.specs.declared.link.Link.TheVariants.{Ether}
@@ -242,7 +243,7 @@ listed_is : (link : Link) (group : Group) → Listed group.qualifiers.direction 
     → Bare (together_formula link group group.case) (group_tests group) × ((p : List ℕ) (n : ℕ) → reads link (together_formula link group group.case) p n
     ≡ reads link (rows_formula link group.entries) p n)
 listed_is link group h searched = subst Good (sym h.is_first)
-    (let good = list_good b link d h.kind h.first group.cases refl h.first_like h.like h.some four in
+    (let good = list_good b link d h.kind h.first group.cases refl h.first_like h.like h.some many in
     let few = h.counted link in
     let fronts = ap (λ (ts : List Elementary). length ts) front in (
       subst (λ (f : Formula). Bare f (group_tests group)) (sym put) (bare_within _ (omega arith) (front_bare (case_front link h.first) good.0)),
@@ -270,13 +271,13 @@ listed_is link group h searched = subst Good (sym h.is_first)
     put : together_formula link group (Some h.first) ≡ guarded_formula (case_front link h.first) (list_formula b link d h.first group.cases)
     put = ap (λ c. guarded_formula (case_front link h.first) (list_formula c link d h.first group.cases)) same
 
-    four : b ≡ true → 4 ≤ length group.cases
-    four e =
-        let t : nat_le 4 (length group.entries) ≡ true =
+    many : b ≡ true → fewest_either h.first ≤ length group.cases
+    many e =
+        let t : nat_le (fewest_either h.first) (length group.entries) ≡ true =
         sym (ap (λ o. nat_le (fewest o d group.is_plain) (length group.entries)) h.is_first
-        ∙ ap (λ c. nat_le (if c then FEWEST_EITHER else fewest_as h.first) (length group.entries)) (same ∙ e)) ∙ searched in
+        ∙ ap (λ c. nat_le (if c then fewest_either h.first else fewest_as h.first) (length group.entries)) (same ∙ e)) ∙ searched in
         let l = h.all_count in
-        let m : 4 ≤ length group.entries = grind (arith, nat_tests) in
+        let m : fewest_either h.first ≤ length group.entries = grind (arith, nat_tests) in
         omega arith
 
 group_bare : (link : Link) (group : Group) → Kept group → 0 < length group.entries → Bare (group_formula link group) (group_tests group)
@@ -576,7 +577,12 @@ module _ (link : Link) (group more : Group) (k : Kept group) where
   by_case q v None w e = by_member q v (member_of q.value_type v) refl e
   by_case q v (Some c) w e =
       by_test (entry q v) (with_case q (entry q v) c group) (case_goes_with c q.direction group group.entries)
-      (λ g. kept_with_case q (entry q v) c group k g (λ l. ((its l).0, (its l).1, λ p n. value_same l p n q.value_type q.protocol q.direction v ∙ (its l).2 p n))) refl e
+      (λ g. kept_with_case q (entry q v) c group k g (λ l. (
+        (its l).0,
+        (its l).1,
+        λ p n. value_same l p n q.value_type q.protocol q.direction v ∙
+            (its l).2 p n,
+      ))) refl e
     where
       its : (l : Link) → IsCase l q.value_type q.protocol q.direction v c
       its l = each_is (case_of q.value_type q.protocol q.direction v) (IsCase l q.value_type q.protocol q.direction v) c
@@ -587,7 +593,8 @@ module _ (link : Link) (group more : Group) (k : Kept group) where
   taken (Entry.Relation r) some =
       by_test (Entry.Relation r) (with_case no_group.qualifiers (Entry.Relation r) (Case.Relation r) group)
       (case_goes_with (Case.Relation r) no_group.qualifiers.direction group group.entries)
-      (λ g. kept_with_case no_group.qualifiers (Entry.Relation r) (Case.Relation r) group k g (λ l. (self_relation r, fronts_few l r.protocol, λ p n. refl))) refl some
+      (λ g. kept_with_case no_group.qualifiers (Entry.Relation r) (Case.Relation r) group k g (λ l.
+      (self_relation r, fronts_few l r.protocol, λ p n. refl))) refl some
 
 sized_sizes : (s : Size) (n : ℕ) → Sized (sized_formula s n) 2 1 1
 sized_sizes Size.Less n = record { nodes_fit = omega arith; words_fit = omega arith; searches = tt; tests_fit = omega arith }

@@ -5,13 +5,13 @@
 ghost use Rattle.std.specs.Prelude.{◌≡◌, ◌≤◌, [], if◌then◌else◌, Some, None, length, IfOk, OnOk};
 ghost use Rattle.std.specs.{List.insert, Prelude.reverse};
 ghost use Rattle.flt_gen.specs.inside.Group.{no_group, same_type, same_protocol, same_direction};
-ghost use Rattle.flt_gen.specs.inside.Group.{goes_with, is_masked, net_member, member_of, is_empty};
+ghost use Rattle.flt_gen.specs.inside.Group.{goes_with, is_prefix, net_member, member_of, is_empty};
 ghost use Rattle.flt_gen.specs.inside.Group.{larger_group, is_searched, group_formula};
 ghost use Rattle.flt_gen.specs.inside.Group.{rows_formula, several_formula};
 ghost use Rattle.flt_gen.specs.inside.{Cases.case_of, Emits.EmitsFormula};
 ghost use Rattle.flt_gen.specs.inside.Intervals.{insert_ascending};
 ghost use Rattle.flt_gen.specs.inside.Group.{has_networks, case_goes_with, with_case};
-ghost use Rattle.flt_gen.specs.inside.Group.{larger_by, entry_formula};
+ghost use Rattle.flt_gen.specs.inside.Group.{larger_by, entry_formula, fewest_either};
 
 use crate::address::Hosts;
 use crate::cases::{Case, are_either, case_of, put_case, same_words};
@@ -23,7 +23,7 @@ use crate::port::{PortTest, Ports};
 use crate::relation::{Relation, relation_test};
 use crate::stack::Stack;
 use cap_octet::Link;
-use flt_ast::{CompleteQualifiers, Direction, NetMask, Value};
+use flt_ast::{CompleteQualifiers, Direction, Value};
 use flt_words::{Join, Protocol, Side, ValueType};
 use std::alloc::{AllocError, Allocator};
 use std::marker::Model;
@@ -43,9 +43,12 @@ const FEWEST_CASES: usize = 8;
 /// others of the list.
 const FEWEST_ADDRESSES: usize = 20;
 
-/// How many addresses on either side are: the code of three might be longer than their bound
+/// How many addresses of IPv6 on either side are: the code of two might be longer than their bound
 /// allows.
-const FEWEST_EITHER: usize = 4;
+const FEWEST_EITHER_IP6: usize = 3;
+
+/// How many MAC addresses on either side are, for the same reason: each has fewer tests.
+const FEWEST_EITHER_MAC: usize = 4;
 
 /// A member: a value with its qualifiers, or a relation.
 #[derive(Clone, Copy)]
@@ -131,14 +134,11 @@ fn same_direction(one: Direction, other: Direction) -> bool
     }
 }
 
-/// Whether a network is written with `mask`, whose bits need be no prefix.
-fn is_masked(value: Value) -> bool
-    ensures { result ≡ is_masked value }
+/// Whether a mask is that of a prefix: its bits are the first ones.
+fn is_prefix(mask: u32) -> bool
+    ensures { result ≡ is_prefix mask }
 {
-    matches!(
-        value,
-        Value::Number(_, NetMask::Mask(_)) | Value::Dotted(_, NetMask::Mask(_))
-    )
+    u64::from(mask) + 2u64.pow(32 - mask.count_ones()) == 0x1_0000_0000
 }
 
 /// A network as a member: `None` if it has no prefix, or if its address has other bits.
@@ -146,7 +146,7 @@ fn net_member(value: Value) -> Option<Interval>
     ensures { result ≡ net_member value }
 {
     match value.ip4_net() {
-        Some(net) if !is_masked(value) && net.address & net.mask == net.address => {
+        Some(net) if is_prefix(net.mask) && net.address & net.mask == net.address => {
             let (low, high) = (net.address, net.address + (u32::MAX - net.mask));
             Some(Interval { low, high })
         }
@@ -180,6 +180,16 @@ fn place_among(numbers: &[Interval], new: Interval) -> usize
         at += 1;
     }
     at
+}
+
+/// How many cases with the words of this one are looked for together on either side at least.
+fn fewest_either(case: Case) -> usize
+    ensures { result ≡ fewest_either case }
+{
+    match case {
+        Case::Mac(_) => FEWEST_EITHER_MAC,
+        _ => FEWEST_EITHER_IP6,
+    }
 }
 
 impl<A: Allocator> Group<A> {
@@ -293,7 +303,7 @@ impl<A: Allocator> Group<A> {
         let fewest = match self.case {
             None if self.is_plain => 2,
             None => FEWEST_RANGES,
-            Some(case) if are_either(self.qualifiers.direction, case) => FEWEST_EITHER,
+            Some(case) if are_either(self.qualifiers.direction, case) => fewest_either(case),
             Some(Case::Ip6(_, _)) => FEWEST_ADDRESSES,
             Some(_) => FEWEST_CASES,
         };

@@ -8,10 +8,11 @@ use Rattle.flt_words.specs.declared.token.Side.TheVariants.{Source, Destination}
 use Rattle.flt_words.specs.declared.token.ValueType.{ValueType}
 use Rattle.flt_words.specs.declared.token.ValueType.TheVariants.{Host, Net, Port, PortRange}
 use Rattle.flt_ast.specs.Nets.{ip4_net}
+use Rattle.std.specs.Prelude.{count_ones}
 use Rattle.flt_ast.specs.Tree.{TruthTree, qualified, compared, denied, joined}
 use Rattle.flt_ast.specs.declared.qualifiers.CompleteQualifiers.{CompleteQualifiers}
 use Rattle.flt_ast.specs.declared.qualifiers.Direction.{Direction}
-use Rattle.flt_ast.specs.declared.value.{Ip4Net.Ip4Net, NetMask.NetMask, Value.Value}
+use Rattle.flt_ast.specs.declared.value.{Ip4Net.Ip4Net, Value.Value}
 use Rattle.cap_octet.specs.declared.link.Link.{Link}
 use Rattle.flt_gen.specs.Elementary.{with}
 use Rattle.flt_gen.specs.Formula.{Formula, Single, Both, Either, Except, Numbers, no_interval, guarded_formula}
@@ -136,22 +137,20 @@ case_goes_with c d group (e ∷ es) =
     shares_words d c group.case && (same_direction d group.qualifiers.direction
     && nat_lt (length (e ∷ es)) MOST_TOGETHER)
 
--- a network has `mask`, whose bits need be no prefix
-abbrev pub is_masked : Value → Bool
-is_masked (Value.Number n (NetMask.Mask bits)) = true
-is_masked (Value.Dotted d (NetMask.Mask bits)) = true
-is_masked _ = false
+-- a mask is that of a prefix: its bits are the first ones
+abbrev pub is_prefix : ℕ → Bool
+is_prefix mask = mask + 2 ^ (32 - count_ones mask) == 2 ^ 32
 
 -- the addresses of a network whose address has no other bits than its mask, which is a prefix
 abbrev pub net_numbers : Ip4Net → Option Interval
 net_numbers net =
-    if bit_and net.address net.mask == net.address
+    if is_prefix net.mask && bit_and net.address net.mask == net.address
     then Some (interval net.address (net.address + (2 ^ 32 - 1 - net.mask)))
     else None
 
 -- a network as a member, if it has a prefix
 abbrev pub net_member : Value → Option Interval
-net_member v = if is_masked v then None else with (ip4_net v) net_numbers
+net_member v = with (ip4_net v) net_numbers
 
 -- what a value looks for as a member: an address, whatever its parts and its mask, a network, a
 -- port or ports; none of other types and values
@@ -197,9 +196,11 @@ FEWEST_CASES = 8
 abbrev pub FEWEST_ADDRESSES : ℕ
 FEWEST_ADDRESSES = 20
 
--- how many addresses on either side are: the code of three might be longer than their bound allows
-abbrev pub FEWEST_EITHER : ℕ
-FEWEST_EITHER = 4
+-- how many addresses with the words of one on either side are: the code of fewer might be longer
+-- than their bound allows
+abbrev pub fewest_either : Case → ℕ
+fewest_either (Case.Mac a) = 4
+fewest_either c = 3
 
 -- how many cases as one are, on one side or without one
 abbrev pub fewest_as : Case → ℕ
@@ -210,7 +211,7 @@ fewest_as c = FEWEST_CASES
 -- may be one each
 abbrev pub fewest : Option Case → Direction → Bool → ℕ
 fewest None d is_plain = if is_plain then 2 else FEWEST_RANGES
-fewest (Some c) d is_plain = if are_either d c then FEWEST_EITHER else fewest_as c
+fewest (Some c) d is_plain = if are_either d c then fewest_either c else fewest_as c
 
 -- the members are looked for together
 abbrev pub is_searched : Group → Bool

@@ -15,12 +15,15 @@ returns g c =
     let tree : emit_formula a.link (list_formula (are_either a.direction a.first) a.link a.direction a.first cs) a.to.yes a.to.no a.self.now
     ≡ block c.if-are_either.self c.if-are_either.yes = elim c.if-are_either.branch [
       | then-are_either+in_ok-yes w ↦
-          ap (λ b. emit_formula a.link (list_formula b a.link a.direction a.first cs) a.to.yes a.to.no a.self.now) (sym c.are_either.ensures ∙ w.if-are_either.true)
+          ap (λ b. emit_formula a.link (list_formula b a.link a.direction a.first cs) a.to.yes a.to.no a.self.now) (sym c.are_either.ensures
+          ∙ w.if-are_either.true)
           ∙ ap (λ k. emit_formula a.link (either_formula a.link k a.first cs) a.to.yes a.to.no a.self.now) (sym c.few_of-few.ensures)
           ∙ w.in_ok-yes.ensures ∙ ap₂ block (sym w.self-is) (sym w.yes-is)
       | else-are_either+in_ok-yes-2 w ↦
-          ap (λ b. emit_formula a.link (list_formula b a.link a.direction a.first cs) a.to.yes a.to.no a.self.now) (sym c.are_either.ensures ∙ w.if-are_either.false)
-          ∙ ap (λ k. emit_formula a.link (decision k MOST_DECISIONS (case_tests a.link a.direction) 0 cs) a.to.yes a.to.no a.self.now) (sym c.few_of-few.ensures)
+          ap (λ b. emit_formula a.link (list_formula b a.link a.direction a.first cs) a.to.yes a.to.no a.self.now) (sym c.are_either.ensures
+          ∙ w.if-are_either.false)
+          ∙ ap (λ k. emit_formula a.link (decision k MOST_DECISIONS (case_tests a.link a.direction) 0 cs) a.to.yes a.to.no a.self.now)
+          (sym c.few_of-few.ensures)
           ∙ w.in_ok-yes-2.ensures ∙ ap₂ block (sym w.self-is) (sym w.yes-is)
     ] in
     subst (λ (e : Block). Emits r.result e r.new.self)
