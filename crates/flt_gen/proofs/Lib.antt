@@ -23,4 +23,5 @@ pub mod Turned
 pub mod Masks
 pub mod Whole
 pub mod Deciding
+pub mod EitherSide
 pub mod Decision
