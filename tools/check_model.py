@@ -1,5 +1,5 @@
 #!/usr/bin/env python3
-"""Compares docs/inside/ with the sources, and lists each statement that is out of date with its page and line. The gate runs it.
+"""Compares pages with the sources, and lists each statement that is out of date with its page and line. The gate runs it.
 
 usage: check_model.py [CRATE..]      the first check only for these crates
 
@@ -10,6 +10,7 @@ usage: check_model.py [CRATE..]      the first check only for these crates
    CONTRACTS' rows name are those of the row's functions; and any other name in backquotes is a word of some source, edit or
    script. Words in capitals, such as NAME, are placeholders.
 4. No line of a proof file has over 160 columns.
+5. Each link of a page leads to a file, and to a section of a page if it names one.
 
 The status is 1 if something is listed.
 """
@@ -25,6 +26,7 @@ INSIDE = ROOT / "docs" / "inside"
 MOST_COLUMNS = 160
 FILE = re.compile(r"[\w./-]+\.(?:rt|antt|md|py|h|c|sh|txt|edit)")
 CLAUSE = re.compile(r"(?:requires|ensures)\*?\s+(\w+)\s*\{")
+FENCED = re.compile(r"^```.*?^```", re.MULTILINE | re.DOTALL)
 FIELD = re.compile(r"^\s*(?:pub )?(?:ghost )?(\w+)\s*:(?!:)", re.MULTILINE)
 # Programs of others that the pages name.
 FOREIGN = {"setsid", "taskset"}
@@ -64,6 +66,22 @@ def long_lines():
         for number, line in enumerate(path.read_text().split("\n"), 1):
             if len(line) > MOST_COLUMNS:
                 yield f"{path.relative_to(ROOT)}:{number}: {len(line)} columns"
+
+
+def sections_of(page):
+    """The names by which links call the sections of a page."""
+    titles = re.findall(r"^#+ (.*)$", FENCED.sub("", page.read_text()), re.MULTILINE)
+    return {re.sub(r"[^\w -]", "", title.lower()).replace(" ", "-") for title in titles}
+
+
+def broken_links():
+    """Yields the links of pages that lead nowhere."""
+    for page in [it for pattern in ("*.md", "docs/**/*.md", "*/*.md", "*/*/README.md") for it in sorted(ROOT.glob(pattern))]:
+        for link in re.findall(r"\]\((?!https?:)([^)\s]+)\)", FENCED.sub("", page.read_text())):
+            path, _, section = link.partition("#")
+            to = page.parent / path if path else page
+            if not to.exists() or section and to.suffix == ".md" and section not in sections_of(to):
+                yield f"{page.relative_to(ROOT)}: {link} leads nowhere"
 
 
 def plain(text):
@@ -197,7 +215,7 @@ def main():
     sources = Sources()
     names = Names(Sources(left_out=()))
     faults = [*sources.unknown, *uncommented_definitions(sources, sys.argv[1:]), *misplaced_definitions(sources)]
-    faults += [*shown_contracts(sources), *long_lines()]
+    faults += [*shown_contracts(sources), *long_lines(), *broken_links()]
     faults += [fault for page in sorted(INSIDE.glob("*.md")) for fault in stale_names(names, page.name)]
     print(*faults, sep="\n", end="\n" if faults else "")
     print(f"{len(faults)} faults")

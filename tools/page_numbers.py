@@ -132,10 +132,10 @@ def rows(text, section):
 def differing_tables(texts):
     """Yields what differs in tables: README's times from TESTING's, sums from their rows, lines of examples from the files."""
     testing = texts["docs/inside/TESTING.md"]
-    times = {row[1].replace("`", ""): row[3] for row in rows(testing, "Speed") if re.fullmatch(r"0\.\d+", row[3])}
-    for job, _, ratio in [row for row in rows(texts["README.md"], "Speed") if re.fullmatch(r"0\.\d+", row[2])]:
-        if times.get(job.replace("`", "").removeprefix("filter ")) != ratio:
-            yield f"README.md: {job}: TESTING.md has no such ratio"
+    times = {row[0]: row[3] for row in rows(testing, "Speed") if re.fullmatch(r"0\.\d+", row[3])}
+    for name, *_, ratio in rows(texts["README.md"], "Speed")[1:]:
+        if times.get(name) != ratio:
+            yield f"README.md: {name}: TESTING.md has no such ratio"
     least, most = (round(float(pick(times.values(), key=float)) * 100) for pick in (min, max))
     if f"{least} to {most} %" not in texts["README.md"]:
         yield f"README.md: the ratios in TESTING.md are {least} to {most} %"
