@@ -284,7 +284,10 @@ fn a_run_reads_no_more_than_its_steps(rt: HostRuntime) -> Result<(), Fail> {
                 steps: None,
                 growth: 0,
             };
-            assert!(rt; is_done(&work, lends, &do_work(rt.alloc(), &work, way)?), "{row}");
+            assert!(rt;
+                is_done(&work, lends, &do_work(rt.alloc(), &work, way)?),
+                "{row}"
+            );
         }
     }
     Ok(())
