@@ -43,6 +43,13 @@ void batch_move(struct batch_reader *r)
     r->reader.offset = 0;
 }
 
+/* Copies the comment of a packet of those that were read last, given its options, as capkit_comment does. */
+size_t batch_comment(const struct batch_reader *r, size_t options_at, uint32_t options_length, char *text, size_t room)
+{
+    const struct capkit_packet packet = {.options_at = options_at, .options_length = options_length};
+    return capkit_comment(&r->reader, r->capture, r->size, &packet, text, room);
+}
+
 /* A capture that is written, and its next packet. */
 struct batch_writer {
     struct put_packet packet;

@@ -25,6 +25,8 @@ _OF_ODD_UNITS = {
 }  # fmt: skip
 # What is read at once: what fits into a processor's cache is filtered twice as fast.
 _PIECE = 1 << 18
+# The longest comment, and a NUL.
+_COMMENT_ROOM = 65536
 # The fields of native.BatchPacket, except its end, and those that differ between plain packets.
 _FIELDS, _PLAIN = struct.Struct("@QNNIIIIIH2x8x"), struct.Struct("@QN8xII24x")
 
@@ -267,6 +269,7 @@ class _Loop:
         self._batch.capture = c.cast(self._buffer, c.c_void_p)
         self._address, self._reader = c.addressof(self._batch), self._batch.reader
         self._table, self._rows = self._batch.table, memoryview(self._batch.packets).cast("B")
+        self._text: Any = None
         self._is_busy = False
 
     @property
@@ -355,9 +358,10 @@ class _Loop:
 
     def _wanted(self, rows: Iterator[Tuple[int, ...]]) -> Iterator[Tuple[int, ...]]:
         """Those of packets that match, up to one that ends the loop. The program was run on most of them."""
+        judged = self._judged
         for row in rows:
-            _, at, _, length, original, _, _, _, link = row
-            if link != self._judged:
+            if row[8] != judged:
+                _, at, _, length, original, _, _, _, link = row
                 program = self._program(link)
                 if isinstance(program, CompileError):
                     if self._tally is None or program.status != Status.LINK_TYPE:
@@ -365,7 +369,8 @@ class _Loop:
                         return
                     self._tally.skipped += 1
                     continue
-                if not program.matches(self._buffer[at : at + length], original):
+                data, insns = self._buffer[at : at + length], program._insns
+                if not native.matches(insns, program._count, data, length, original):
                     continue
             yield row
 
@@ -388,10 +393,11 @@ class _Loop:
         return bytes(interface.name[: interface.name_length])
 
     def _comment(self, start: int, length: int) -> bytes:
-        info = c.byref(native.PacketInfo(options_at=start, options_length=length))
-        text, reader = c.create_string_buffer(length), c.byref(self._reader)
-        count = native.comment(reader, self._buffer, self._batch.size, info, text, length)
-        return text.raw[:count]
+        if self._text is None:
+            self._text = c.create_string_buffer(_COMMENT_ROOM)
+        count = native.batch_comment(self._address, start, length, self._text, _COMMENT_ROOM)
+        text: bytes = self._text[:count]
+        return text
 
 
 def _again(
