@@ -1,3 +1,4 @@
+-- A unit that is lent is the next one.
 use Rattle.cap_io.proofs.{Common.◌≡◌, Common.rules, Common.Reading, Hands.if-at-hand}
 use Rattle.cap_io.proofs.source.Source.take_at_hand.Goals as goal
 

@@ -1,3 +1,4 @@
+-- Taking a packet at hand is a step of the job; if there is none, nothing changes.
 use Rattle.std.proofs.Common.{rules}
 use Rattle.cap_tools.proofs.Common.{◌≡◌, true, Ok, refl, None, arith}
 use Rattle.cap_tools.proofs.Steps.{moves-sound, read-step, reads-move, same-kept}
