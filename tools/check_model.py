@@ -9,7 +9,7 @@ usage: check_model.py [CRATE..]      the first check only for these crates
 3. A field `Name.field` and a file exist; `path::name` is an item, in CONTRACTS' tables a public one; the clauses that
    CONTRACTS' rows name are those of the row's functions; and any other name in backquotes is a word of some source, edit or
    script. Words in capitals, such as NAME, are placeholders.
-4. No line of a proof file has over 160 columns.
+4. No line of a proof file has over 160 columns, and each file of src/, specs/ and proofs/ begins with a comment on what it is for.
 5. Each link of a page leads to a file, and to a section of a page if it names one.
 
 The status is 1 if something is listed.
@@ -66,6 +66,14 @@ def long_lines():
         for number, line in enumerate(path.read_text().split("\n"), 1):
             if len(line) > MOST_COLUMNS:
                 yield f"{path.relative_to(ROOT)}:{number}: {len(line)} columns"
+
+
+def headless_files():
+    """Yields the files of crates that don't begin with a comment."""
+    for pattern in ("src/**/*.rt", "specs/**/*.antt", "proofs/**/*.antt"):
+        for path in sorted(ROOT.glob(f"crates/*/{pattern}")):
+            if not path.read_text().startswith(("--", "//")):
+                yield f"{path.relative_to(ROOT)}: no comment on what the file is for"
 
 
 def sections_of(page):
@@ -215,7 +223,7 @@ def main():
     sources = Sources()
     names = Names(Sources(left_out=()))
     faults = [*sources.unknown, *uncommented_definitions(sources, sys.argv[1:]), *misplaced_definitions(sources)]
-    faults += [*shown_contracts(sources), *long_lines(), *broken_links()]
+    faults += [*shown_contracts(sources), *long_lines(), *broken_links(), *headless_files()]
     faults += [fault for page in sorted(INSIDE.glob("*.md")) for fault in stale_names(names, page.name)]
     print(*faults, sep="\n", end="\n" if faults else "")
     print(f"{len(faults)} faults")
