@@ -26,5 +26,5 @@ pub use Rattle.cap_io.specs.Capture.{Placed, Items, Ending}
 pub use Rattle.cap_io.specs.Sequence.{PacketOrder, InTurn, ByTime, order_of, Packet, SequenceEnd, Complete, FaultIn, with_front, InputItems, Entry, end_after}
 pub use Rattle.cap_io.specs.Sequence.{entries_of, all_entries, comes_before, insert_entry, sort_entries, sequence_of_entries, first_end, fault_without_packets}
 pub use Rattle.cap_io.specs.Sequence.{unless_fault, sequence_by_time}
-pub use Rattle.cap_io.specs.Source.{Advances, SectionFits, SkipsUnits, Phase, Reading, Ended, Failed, SourceView, Steps, end_offset, phase_after}
+pub use Rattle.cap_io.specs.Source.{Advances, SectionFits, TakesIfAtHand, SkipsUnits, Phase, Reading, Ended, Failed, SourceView, Steps, end_offset, phase_after}
 pub use Rattle.cap_octet.specs.{Views.FreshInput, Views.fresh_input, declared.fault.Fault.Fault}

@@ -1,7 +1,7 @@
 -- One input among others.
-use Rattle.cap_inputs.proofs.Common.{◌≡◌, ℕ, zero, suc, ◌+◌, ◌<◌, List, [], ◌∷◌, ◌++◌, length, max, Option, Some, refl, sym, ◌∙◌, ap, ap₂, arith, get_or}
+use Rattle.cap_inputs.proofs.Common.{◌≡◌, ℕ, zero, suc, ◌+◌, ◌<◌, List, [], ◌∷◌, ◌++◌, length, max, Option, Some, refl, sym, ◌∙◌, ap, ap₂, subst, arith, get_or}
 use Rattle.cap_inputs.proofs.Common.{Bool, true, false, Result, Ok, append-nil, length-append, Placed, slice_set, Fault, Advances, slice_get, AllByRecursion}
-use Rattle.cap_inputs.proofs.Common.{PacketOrder, SectionFits, SkipsUnits, Phase, Reading, SourceView, Steps, end_offset, phase_after, Schedule}
+use Rattle.cap_inputs.proofs.Common.{PacketOrder, SectionFits, TakesIfAtHand, SkipsUnits, Phase, Reading, SourceView, Steps, end_offset, phase_after, Schedule}
 use Rattle.cap_inputs.proofs.Common.{Turn, Merge, ordering_of, schedule_after, schedule_after_decided, DeviceLimits, device_limits, limits_of, InputView}
 use Rattle.cap_inputs.proofs.Common.{InputsView, InputPast, AreInputsAfter, KnowGreatest, IsInput, ReadsInput, ReadSteps, greatest_of, input_after}
 use Rattle.cap_inputs.proofs.Common.{input_after_decided, packet_time, with_cursor, map, InTurn, ByTime, order_of, first_schedule, FreshInput, fresh_view}
@@ -56,6 +56,10 @@ schedule-order _ i _ = refl
 pub following-order : (schedule : Schedule) (i : ℕ) → ordering_of (schedule_after_decided schedule i) ≡ ordering_of schedule
 following-order (Turn turn) i = refl
 following-order (Merge next last) i = refl
+
+-- what is known if the next packet was at hand
+pub taken-of : (tells r : Bool) (old new : SourceView) → r ≡ true → TakesIfAtHand tells old r new → TakesIfAtHand tells old true new
+taken-of tells r old new is takes = subst (λ b. TakesIfAtHand tells old b new) is takes
 
 pub fetches-by : (inputs : InputsView) (i : ℕ) (r : Result Bool Fault) (old new : InputView) (order : PacketOrder) → order ≡ inputs.order
     → i < length inputs.cursors → old ≡ get_or inputs.cursors i old

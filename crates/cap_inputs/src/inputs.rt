@@ -4,7 +4,7 @@ ghost use Rattle.std.specs.{Option.IfSome, Prelude.length, Prelude.map};
 ghost use Rattle.cap_inputs.specs.inside.Cursor.{EntersQueue, HasPlaceFor, IsAtCursor};
 ghost use Rattle.cap_inputs.specs.inside.Cursor.{IsNextOfMerge, IsQueued, Leaves, first_schedule};
 ghost use Rattle.cap_inputs.specs.{Fresh.fresh_view, inside.Inputs.first_declared_link};
-ghost use Rattle.cap_inputs.specs.Inputs.{is_packet_found, key_of};
+ghost use Rattle.cap_inputs.specs.Inputs.{is_packet_found, key_of, packet_time};
 ghost use Rattle.cap_inputs.specs.inside.Cursor.{is_merge, schedule_after, schedule_after_decided};
 ghost use Rattle.cap_io.specs.Sequence.{order_of};
 ghost use Rattle.cap_octet.specs.Views.{fresh_input};
@@ -23,18 +23,21 @@ pub struct InputCursor<I: Input, A: Allocator> {
     waiting: bool,
     /// The greatest time of the packets that are decided, in nanoseconds; 0 of none.
     greatest: u64,
+    /// The time of the current packet, in nanoseconds; 0 if there is none.
+    time: u64,
 }
 
 impl<I: Input, A: Allocator> Model for InputCursor<I, A> {
     ghost use Rattle.std.specs.Prelude.{◌≡◌, is_some, true};
     ghost use Rattle.cap_io.specs.Source.{Reading};
-    ghost use Rattle.cap_inputs.specs.Inputs.{InputView};
+    ghost use Rattle.cap_inputs.specs.Inputs.{InputView, packet_time};
 
     ghost Value = { InputView };
 
     ghost view = { λ h. record { source = h.source; waiting = h.waiting; greatest = h.greatest } };
 
-    ghost invariant = { λ h. (h.waiting ≡ true → is_some h.source.packet ≡ true)
+    ghost invariant = { λ h. (h.time ≡ packet_time h.source.packet)
+        × (h.waiting ≡ true → is_some h.source.packet ≡ true)
         × (h.waiting ≡ true → h.source.phase ≡ Reading) };
 }
 
@@ -60,12 +63,19 @@ pub enum Next {
     Finish,
 }
 
+/// The time of a source's current packet, in nanoseconds; 0 if there is none.
+fn current_time<I: Input, A: Allocator>(source: &Source<I, A>) -> u64
+    ensures { result ≡ packet_time source.now.packet }
+{
+    source.time().unwrap_or(0)
+}
+
 impl<I: Input, A: Allocator> InputCursor<I, A> {
     ghost use Rattle.cap_inputs.specs.Inputs.{InputView, input_after, is_packet_found};
     ghost use Rattle.cap_inputs.specs.Inputs.{input_after_decided};
     ghost use Rattle.std.specs.Option.{option_map, IfSome};
     ghost use Rattle.std.specs.Prelude.{IsTrue, false, true, ◌≤◌, IsSome, length};
-    ghost use Rattle.cap_io.specs.Source.{Advances, SectionFits, Reading, Steps};
+    ghost use Rattle.cap_io.specs.Source.{Advances, SectionFits, Reading, Steps, TakesIfAtHand};
     ghost use Rattle.cap_io.specs.{Source.phase_after, Reading.most_in_unit};
     ghost use Rattle.cap_io.specs.Capture.{kind_of};
     ghost use Rattle.cap_octet.specs.Packet.{captured};
@@ -74,16 +84,17 @@ impl<I: Input, A: Allocator> InputCursor<I, A> {
     fn new(source: Source<I, A>) -> Self
         ensures { result ≡ record { source = source; waiting = false; greatest = 0 } }
     {
+        let time = current_time(&source);
         InputCursor {
             source,
             waiting: false,
             greatest: 0,
+            time,
         }
     }
 
     /// Reads on to the next packet, as `Source::advance`, and returns whether there is one: it then
     /// waits to be decided. `false` at the clean end; a fault as of `Source::advance`.
-    #[inline(always)]
     fn advance(&mut self) -> Result<bool, Fault>
         ensures exact { IsTrue I.tells → Advances self.old.source.phase self.old.source result
             self.new.source }
@@ -94,7 +105,25 @@ impl<I: Input, A: Allocator> InputCursor<I, A> {
     {
         let result = self.source.advance();
         self.waiting = matches!(result, Ok(true));
+        self.time = current_time(&self.source);
         result
+    }
+
+    /// Goes on to the next packet, as `advance` does, if the device has it at hand, and returns
+    /// whether it does: the packet then waits to be decided. `false`: nothing changes.
+    #[inline(always)]
+    fn take_at_hand(&mut self) -> bool
+        ensures takes { TakesIfAtHand I.tells self.old.source result self.new.source }
+        ensures upper_bound { SectionFits self.new.source.declared }
+        ensures is { result ≡ true → self.new ≡ input_after self.old (Ok true) self.new.source }
+        ensures nothing { result ≡ false → self.new ≡ self.old }
+    {
+        if !self.source.take_at_hand() {
+            return false;
+        }
+        self.waiting = true;
+        self.time = current_time(&self.source);
+        true
     }
 
     /// The current packet, decided or not; `None` if there is none.
@@ -112,7 +141,7 @@ impl<I: Input, A: Allocator> InputCursor<I, A> {
         ensures following { self.new ≡ input_after_decided self.old }
         ensures reading { self.old.waiting ≡ true → self.old.source.phase ≡ Reading }
     {
-        self.greatest = self.key();
+        self.greatest = self.greatest.max(self.time);
         self.waiting = false;
     }
 
@@ -121,7 +150,7 @@ impl<I: Input, A: Allocator> InputCursor<I, A> {
     fn key(&self) -> u64
         ensures { result ≡ key_of self.now }
     {
-        self.greatest.max(self.source.time().unwrap_or(0))
+        self.greatest.max(self.time)
     }
 
     /// What the capture is; `None` until its first unit was read.
@@ -296,9 +325,28 @@ impl<I: Input, A: Allocator> Inputs<I, A> {
         first
     }
 
+    /// Reads on the input with this index, which `next` told to read, as `read_input` does, if the
+    /// device has its next packet at hand, and returns whether it has; else nothing changes.
+    #[inline(always)]
+    pub fn take_at_hand(&mut self, input: usize) -> bool
+        requires within { input < length self.old.cursors }
+        requires next { IsNext self.old (Next.Read input) }
+        ensures exact { result ≡ true → IsTrue I.tells
+            → ReadsInput self.old input (Ok true) self.new }
+        ensures steps { result ≡ true → ReadSteps self.old input (Ok true) self.new }
+        ensures nothing { result ≡ false → self.new ≡ self.old }
+    {
+        let cursor = &mut self.cursors[input];
+        if !cursor.take_at_hand() {
+            return false;
+        }
+        let time = cursor.key();
+        update_after_packet(&mut self.queue, &mut self.schedule, Waiting { time, input });
+        true
+    }
+
     /// Reads on the input with this index, which `next` told to read, and returns whether there is
     /// a packet, which waits then; `false` at its clean end. A fault is as of `Source::advance`.
-    #[inline(always)]
     pub fn read_input(&mut self, input: usize) -> Result<bool, Fault>
         requires within { input < length self.old.cursors }
         requires next { IsNext self.old (Next.Read input) }
@@ -354,17 +402,27 @@ fn update_after_read<A: Allocator>(
     ensures schedule { schedule.new ≡ schedule_after schedule.old entry.input read }
 {
     match read {
-        Ok(true) => {
-            if let Schedule::Merge(next, _) = schedule {
-                *next = entry.input + 1;
-                queue.add(entry);
-            }
-        }
+        Ok(true) => update_after_packet(queue, schedule, entry),
         Ok(false) => match schedule {
             Schedule::Turn(turn) => *turn = entry.input + 1,
             Schedule::Merge(next, _) => *next = entry.input + 1,
         },
         Err(_) => {}
+    }
+}
+
+/// Updates queue and schedule after the input of an entry was read on to a packet: for a merge, the
+/// entry is queued, and the schedule goes on to the next input.
+#[inline(always)]
+fn update_after_packet<A: Allocator>(queue: &mut Queue<A>, schedule: &mut Schedule, entry: Waiting)
+    requires room { is_merge schedule.old ≡ true → HasPlaceFor queue.old entry.input }
+    requires upper_bound { entry.input < 2 ^ 64 - 1 }
+    ensures queue { EntersQueue (is_merge schedule.old) entry queue.old queue.new }
+    ensures schedule { schedule.new ≡ schedule_after schedule.old entry.input (Ok true) }
+{
+    if let Schedule::Merge(next, _) = schedule {
+        *next = entry.input + 1;
+        queue.add(entry);
     }
 }
 

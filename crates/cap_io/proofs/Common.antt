@@ -22,7 +22,7 @@ pub use Rattle.cap_io.specs.RoundTrip.{ReadsBack, Back, InRange, IsPlain, IsCarr
 pub use Rattle.cap_io.specs.Sink.{WritesPacket, SinkView, sink_at, HasPut, HasPackets, AddsPacket, PutsNext, PutsPacket, PutWrites, IsPutAnswer, Finishes}
 pub use Rattle.cap_io.specs.Sink.{FinishWrites, FinishesEmpty, link_or_ethernet, refusal_in, added_in}
 pub use Rattle.cap_io.specs.Source.{SourceView, Reading, Ended, Failed, SkipsUnits, IsBroken, FindsPacket, FindsEnd, FindsFault, block_at, end_offset, phase_at}
-pub use Rattle.cap_io.specs.Source.{Phase, source_at, Advances, Finds, packet_at, unit_at, view_of}
+pub use Rattle.cap_io.specs.Source.{Phase, source_at, Advances, Finds, TakesIfAtHand, packet_at, unit_at, view_of}
 pub use Rattle.cap_io.specs.Text.{Interface, interface_of, is_same, new_among, interfaces_after_packet, kept_interfaces, is_among, number_among}
 pub use Rattle.cap_io.specs.Text.{most_output_interfaces, file_start_in, appended_packet, file_start, record_text, has_link, state_after, checks_in, FitFile}
 pub use Rattle.cap_io.specs.Text.{added_text, has_room, packets_text, refusal_of, state_after_packet, takes_memory, takes_memory_in, text}
@@ -36,7 +36,7 @@ pub use Rattle.cap_io.specs.inside.Reading.{record_spans, EndCame}
 pub use Rattle.cap_io.specs.inside.Sink.{Appends, packet_block_text, description_text}
 pub use Rattle.cap_io.specs.inside.Source.{IsBetween, TakesNext, HoldsIfAny}
 pub use Rattle.cap_octet.specs.Checks.{checked, first_failing}
-pub use Rattle.cap_octet.specs.Device.{TakesFull, HasGiven, AppendsOrStops, Stops}
+pub use Rattle.cap_octet.specs.Device.{TakesFull, HasGiven, Passes, AppendsOrStops, Stops}
 pub use Rattle.cap_octet.specs.{Number.u32_in, Packet.Captured, Packet.captured, declared.fault.Fault.Fault}
 pub use Rattle.cap_octet.specs.declared.fault.Fault.TheVariants.{NoMemory, ReadFailed, NotACaptureFile, Truncated, WriteFailed, LinkTypesDiffer, TooLong}
 pub use Rattle.cap_octet.specs.declared.fault.Fault.TheVariants.{TimeOutOfRange, TooManyOutputInterfaces}

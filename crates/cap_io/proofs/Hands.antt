@@ -1,11 +1,12 @@
 -- A record that a device had at hand.
 use Rattle.cap_io.proofs.Came.{fields_came, record_came}
-use Rattle.cap_io.proofs.Common.{rules, ◌≡◌, ℕ, Bool, true, IsTrue, is_some, ◌+◌, ◌^◌, ◌<◌, ◌≤◌, List, ◌++◌, length, take, drop, Ok, refl, sym, ap, ◌∙◌}
+use Rattle.cap_io.proofs.Common.{rules, subst, ◌≡◌, ℕ, Bool, true, IsTrue, is_some, ◌+◌, ◌^◌, ◌<◌, ◌≤◌, List, ◌++◌, length, take, drop, Ok, refl, sym, ap, ◌∙◌}
 use Rattle.cap_io.proofs.Common.{arith, length-take, length-take-le, take-take, take-append-drop, append_assoc, HasGiven, checked, first_failing, Head}
 use Rattle.cap_io.proofs.Common.{RecordHead, field_checks, record_header_in, PacketSpans, most_in_unit, packet_in_unit, PacketCame, record_spans, Declared}
-use Rattle.cap_io.proofs.Common.{PcapFile, SourceView, Reading, FitsBuffer, HasInterface, Option, Some, None, option_map, Captured, end_offset}
-use Rattle.cap_io.proofs.Common.{TakesNext}
-use Rattle.cap_io.proofs.Passing.{FindsPacket-next, time-held}
+use Rattle.cap_io.proofs.Common.{PcapFile, SourceView, Phase, Reading, Advances, FitsBuffer, HasInterface, Option, Some, None, option_map, Captured, end_offset}
+use Rattle.cap_io.proofs.Common.{TakesIfAtHand, TakesNext, false}
+use Rattle.cap_io.proofs.Passing.{FindsPacket-next, bounds-then, time-held}
+use Rattle.cap_io.specs.{Source.Steps, declared.file_state.NextUnit.NextUnit}
 
 -- bytes that begin with others begin alike
 pub begins-same : (bytes front : List ℕ) (size : ℕ) → take (length front) bytes ≡ front → size ≤ length front → take size front ≡ take size bytes
@@ -62,3 +63,16 @@ takes-next tells spans hand old new lies known fits given bounded failures sure 
       packet = λ t. FindsPacket-next old new spans hand (came t) block packet offset (omega (arith, same)) (omega (arith, ap length block, whole, fits)) phase;
       bounds = search rules;
     }
+
+-- what `take_at_hand` returns
+pub if-at-hand : (tells : Bool) (old new : SourceView) (r : Bool) → old.phase ≡ Reading → (IsTrue r → TakesNext tells old new)
+    → (r ≡ false → new ≡ old) → TakesIfAtHand tells old r new
+if-at-hand tells old new true reading found nothing =
+    let takes = found refl in
+    let bounds = takes.bounds in (
+      subst (λ (p : Phase). IsTrue tells → Advances p old (Ok true) new) (sym reading) takes.packet,
+      subst (λ (p : Phase). Steps p old (Ok true) new) (sym reading) (bounds-then old old new (Ok NextUnit.Packet) (omega arith) refl refl
+          (omega arith) refl bounds),
+      bounds.found refl,
+    )
+if-at-hand tells old new false reading found nothing = nothing refl

@@ -1,5 +1,5 @@
 -- The view of a source, and the results of its calls.
-use Rattle.std.specs.Prelude.{◌≡◌, ℕ, ◌+◌, ◌^◌, ◌<◌, ◌≤◌, Bool, true, false, List, [], ◌∷◌, ◌++◌, length, take, drop, Option, None, Some, Result, Ok, Err, OnOk, OnErr, is_some}
+use Rattle.std.specs.Prelude.{◌≡◌, ℕ, ◌+◌, ◌^◌, ◌<◌, ◌≤◌, Bool, true, false, IsTrue, List, [], ◌∷◌, ◌++◌, length, take, drop, Option, None, Some, Result, Ok, Err, OnOk, OnErr, is_some}
 use Rattle.cap_octet.specs.{Device.HasGiven, Packet.Captured, declared.device.Input.Ghosts}
 use Rattle.cap_octet.specs.declared.fault.Fault.{Fault, TheVariants.NoMemory}
 use Rattle.cap_pcapng.specs.{Interface.FitSection, declared.effect.PacketSpans.PacketSpans}
@@ -192,3 +192,12 @@ abbrev pub Steps : Phase → SourceView → Result Bool Fault → SourceView →
 Steps Reading old r new = KeepsBounds old r new
 Steps Ended old r new = (r ≡ Ok false) × (new ≡ old)
 Steps (Failed fault) old r new = (r ≡ Err fault) × (new ≡ old)
+
+-- the result of taking the next packet if it is at hand: that of an `advance` which found it; or
+-- nothing changes
+abbrev pub TakesIfAtHand : (tells : Bool) → SourceView → Bool → SourceView → Type 0
+TakesIfAtHand tells old true new =
+    (IsTrue tells → Advances old.phase old (Ok true) new)
+    × Steps old.phase old (Ok true) new
+    × (new.phase ≡ Reading)
+TakesIfAtHand tells old false new = new ≡ old

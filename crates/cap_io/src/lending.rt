@@ -40,24 +40,29 @@ impl<I: Input> Lending<I> {
     #[inline(always)]
     pub(crate) fn next_bytes(&self) -> &[u8]
         ensures held { result.now ≡ drop self.now.lent (I.held self.now.input) }
-        ensures bounded { 0 < length result.now
-            → I.given self.now.input + self.now.lent + length result.now < 2 ^ 63 }
         ensures exact { IsTrue I.tells
             → StartsWith (drop self.now.lent (I.unread self.now.input)) result.now }
     {
         &self.input.at_hand()[self.lent..]
     }
 
-    /// Lends the next `count` bytes, of those that `next_bytes` shows. What was lent before is
-    /// passed.
+    /// Lends the next `count` bytes, which aren't 0, if the input has them at hand and would pass
+    /// them: what was lent before is passed. Else it changes nothing, and returns `false`.
     #[inline(always)]
-    pub(crate) fn lend(&mut self, count: usize)
-        requires there { count ≤ length (drop self.old.lent (I.held self.old.input)) }
-        requires bounded { I.given self.old.input + self.old.lent + count < 2 ^ 63 }
-        ensures { Lends I.Input count self.old.input self.old.lent self.new.input self.new.lent }
+    pub(crate) fn lend(&mut self, count: usize) -> bool
+        requires some { 0 < count }
+        requires short { count < 2 ^ 63 }
+        ensures nothing { result ≡ false → (self.new.input ≡ self.old.input)
+            × (self.new.lent ≡ self.old.lent) }
+        ensures lends { result ≡ true → Lends I.Input count self.old.input self.old.lent
+            self.new.input self.new.lent }
     {
+        if !self.input.can_pass(self.lent + count) {
+            return false;
+        }
         self.settle();
         self.lent = count;
+        true
     }
 
     /// Passes what is lent.
@@ -72,7 +77,8 @@ impl<I: Input> Lending<I> {
             (drop self.old.lent (I.held self.old.input)) }
     {
         if self.lent > 0 {
-            self.input.pass(self.lent);
+            // It does, since `lend` asked whether it would.
+            let _ = self.input.pass(self.lent);
             self.lent = 0;
         }
     }
@@ -112,7 +118,13 @@ impl<I: Input> Input for Lending<I> {
         &[]
     }
 
-    fn pass(&mut self, _count: usize) {}
+    fn can_pass(&self, _count: usize) -> bool {
+        false
+    }
+
+    fn pass(&mut self, _count: usize) -> bool {
+        false
+    }
 
     ghost unfailed = { Prim.search rules };
 }

@@ -52,7 +52,7 @@ pub(crate) struct UnitReader<I: Input, A: Allocator> {
 }
 
 /// Lends the next unit, and puts the place of its packet into `spans`, if it has one, the device
-/// has all of it at hand, it has at most `room` bytes, and it fails no check.
+/// has all of it at hand and would pass it, it has at most `room` bytes, and it fails no check.
 /// `false` if not: then nothing changes.
 #[inline(always)]
 pub(crate) fn lend_unit<I: Input, A: Allocator>(

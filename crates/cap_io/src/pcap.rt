@@ -40,7 +40,7 @@ pub(crate) fn read_header<I: Input>(input: &mut I, first: &[u8; 4]) -> Result<He
 }
 
 /// Lends the next record, and puts the place of its packet into `spans`, if the device has all of
-/// it at hand, it has at most `room` bytes, and it fails no check. `false` if
+/// it at hand and would pass it, it has at most `room` bytes, and it fails no check. `false` if
 /// not: then nothing changes.
 #[inline(always)]
 pub(crate) fn lend_record<I: Input>(
@@ -62,10 +62,9 @@ pub(crate) fn lend_record<I: Input>(
         return false;
     };
     let size = RECORD_HEADER_LENGTH + found.captured as usize;
-    if size > room || size > hand.len() {
+    if size > room || !input.lend(size) {
         return false;
     }
-    input.lend(size);
     *spans = record_spans(&found);
     true
 }

@@ -63,7 +63,8 @@ fn first_link_type<A: Allocator>(first: Option<u16>, table: &Table<A>) -> Option
 }
 
 /// Lends the next block of a pcapng file, and puts the place of its packet into `spans`, if it has
-/// one, the device has all of it at hand, it has at most `room` bytes, and it fails no check. `false` if not: then nothing changes.
+/// one, the device has all of it at hand and would pass it, it has at most `room` bytes, and it
+/// fails no check. `false` if not: then nothing changes.
 #[inline(never)]
 pub(crate) fn lend_block<I: Input, A: Allocator>(
     input: &mut Lending<I>,
@@ -95,7 +96,9 @@ pub(crate) fn lend_block<I: Input, A: Allocator>(
     let Ok(BlockEffect::Packet(packet)) = block_effect(table, &found, &hand[..size]) else {
         return false;
     };
-    input.lend(size);
+    if !input.lend(size) {
+        return false;
+    }
     *spans = packet;
     true
 }

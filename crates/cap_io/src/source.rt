@@ -66,7 +66,7 @@ impl<I: Input, A: Allocator> Source<I, A> {
     ghost use Rattle.cap_io.specs.inside.Source.{Continues, FindsNext, IsBetween, NextBounds};
     ghost use Rattle.cap_io.specs.{Reading.most_in_unit, Capture.kind_of, Capture.first_link_of};
     ghost use Rattle.cap_io.specs.inside.Source.{past_unit, TakesNext};
-    ghost use Rattle.cap_io.specs.Source.{phase_after, source_at};
+    ghost use Rattle.cap_io.specs.Source.{TakesIfAtHand, phase_after, source_at};
 
     /// A source of which nothing is read yet. It takes no memory.
     pub fn new(alloc: A, input: I) -> Self
@@ -92,7 +92,6 @@ impl<I: Input, A: Allocator> Source<I, A> {
     /// after. A fault is that of the first check which the unit at `offset` fails; `ReadFailed`
     /// if the device failed in this call; `NoMemory` if the buffer or the table of interfaces
     /// could not grow. After a fault it returns that again, and reads nothing.
-    #[inline(always)]
     pub fn advance(&mut self) -> Result<bool, Fault>
         ensures packets { IsTrue I.tells → Advances self.old.phase self.old result self.new }
         ensures bounds { Steps self.old.phase self.old result self.new }
@@ -109,6 +108,19 @@ impl<I: Input, A: Allocator> Source<I, A> {
                 }
                 answer
             }
+        }
+    }
+
+    /// Goes on to the next packet, as `advance` does, if it follows a current packet that is lent,
+    /// and the device has it at hand too. `false` if not: then nothing changes.
+    #[inline(always)]
+    pub fn take_at_hand(&mut self) -> bool
+        ensures takes { TakesIfAtHand I.tells self.old result self.new }
+        ensures interfaces { SectionFits self.new.declared }
+    {
+        match self.stage {
+            Stage::Lent => self.take_next(),
+            Stage::Between | Stage::Current | Stage::Ended | Stage::Failed(_) => false,
         }
     }
 

@@ -1,9 +1,7 @@
 -- Two reads after each other are one longer read, and two writes one longer write.
 use Rattle.cap_octet.proofs.Common.{◌≡◌, ℕ, ◌+◌, ◌-◌, ◌<◌, ◌≤◌, Bool, true, false, if◌then◌else◌, List, [], ◌++◌, length, take, drop, sym, ◌∙◌, ap, arith}
 use Rattle.cap_octet.proofs.Common.{subst, Option, None, Some, length-take, drop-drop, drop_at, take_at, append-nil, append_assoc, take-take, take_all}
-use Rattle.cap_octet.proofs.Common.{drop-append-le, take-append-drop, take-add, refl, Takes, TakesSome, TakesFull}
-use Rattle.cap_octet.specs.Stream.{held_by}
-use Rattle.std.specs.{Io.StartsWith, Prelude.nat_lt, Prelude.◌^◌}
+use Rattle.cap_octet.proofs.Common.{drop-append-le, take-append-drop, take-add, Takes, TakesSome, TakesFull}
 use Rattle.std.specs.Io.{BufRead.DropsConsumable, KnownBytes.Consumes, KnownBytes.prepend_known}
 use Rattle.std.proofs.{Math.ListN.drop_of_length-le, lemmas.List.length-drop}
 use borrow.Rule.Slice.PartMut.{put_mid, mid_of}
@@ -63,26 +61,6 @@ held-consumed false held (Some xs) after n within drops =
     let parts : take n held ++ (drop n held ++ xs) ≡ held ++ xs =
     sym (append_assoc (take n held) (drop n held) xs) ∙ ap (λ (x : List ℕ). x ++ xs) (take-append-drop n held) in
     rw (drops within) (rw (drop-append-le n held xs within) (sym parts))
-
--- What is held is of the buffer, and what is left of it is still held.
-pub held-within : (given : ℕ) (buffer : List ℕ) → length (held_by given buffer) ≤ length buffer
-held-within given buffer = cases (nat_lt (given + length buffer) (2 ^ 63))
-  where
-    cases : (b : Bool) → length (if b then buffer else []) ≤ length buffer
-    cases true = omega arith
-    cases false = omega arith
-
-pub held-stays : (given count : ℕ) (buffer : List ℕ) → count ≤ length (held_by given buffer)
-    → StartsWith (held_by (given + count) (drop count buffer)) (drop count (held_by given buffer))
-held-stays given count buffer within = cases (nat_lt (given + length buffer) (2 ^ 63)) refl
-  where
-    cases : (b : Bool) → nat_lt (given + length buffer) (2 ^ 63) ≡ b
-        → StartsWith (held_by (given + count) (drop count buffer)) (drop count (if b then buffer else []))
-    cases true is =
-        let there : count ≤ length buffer = omega (arith, within, held-within given buffer) in
-        let same : given + count + length (drop count buffer) ≡ given + length buffer = omega (arith, length-drop count buffer, there) in
-        rw (same, is) (take_all (length (drop count buffer)) (drop count buffer) (omega arith))
-    cases false is = let none : count ≡ 0 = omega (arith, rw is at within) in rw none refl
 
 -- what was given is no longer unread
 pub told-again : (t0 : ℕ) (u b : List ℕ) (g g' n : ℕ) (u' b' : List ℕ) → TakesSome u b n u' b' → g' ≡ g + n → g + length u ≡ t0 → g' + length u' ≡ t0

@@ -1,5 +1,5 @@
 -- The results of a device's calls, for its bytes and for the counts that contracts see.
-use Rattle.std.specs.Prelude.{◌≡◌, ℕ, ◌+◌, ◌<◌, ◌≤◌, List, [], ◌++◌, length, take, drop, Option, None, Some, Result, Ok, Err, min}
+use Rattle.std.specs.Prelude.{◌≡◌, ℕ, ◌+◌, ◌<◌, ◌≤◌, Bool, true, false, List, [], ◌++◌, length, take, drop, Option, None, Some, Result, Ok, Err, min}
 use Rattle.cap_octet.specs.declared.device.{DeviceFault.DeviceFault, Stopped.Stopped}
 
 -- the number of bytes that came: 0 in a call that failed
@@ -33,6 +33,12 @@ pub record TakesSome (unread buf : List ℕ) (n : ℕ) (unread' buf' : List ℕ)
 abbrev pub Reads : List ℕ → List ℕ → Result ℕ DeviceFault → List ℕ → List ℕ → Type 0
 Reads unread buf (Ok n) unread' buf' = TakesSome unread buf n unread' buf'
 Reads unread buf (Err fault) unread' buf' = (unread' ≡ unread) × (buf' ≡ buf)
+
+-- `count` unread bytes are taken, as by a read, if the call returned true; none if it
+-- returned false
+abbrev pub Passes : List ℕ → ℕ → Bool → List ℕ → Type 0
+Passes unread count true unread' = (count ≤ length unread) × (unread' ≡ drop count unread)
+Passes unread count false unread' = unread' ≡ unread
 
 -- reads until the buffer is full or the end is met
 pub record TakesFull (unread buf : List ℕ) (n : ℕ) (unread' buf' : List ℕ) : Type 0 where

@@ -1,9 +1,9 @@
 -- The results of a device over a reader or writer of std, in terms of what that reader or writer
 -- returned.
 use Rattle.std.specs.Io.{ReadsAtMost, StartsWith, WritesAtMost}
-use Rattle.std.specs.Io.KnownBytes.{ReadConsumes, WriteAppends}
+use Rattle.std.specs.Io.KnownBytes.{Consumes, ReadConsumes, WriteAppends}
 use Rattle.std.specs.IoError.{error_kind}
-use Rattle.std.specs.Prelude.{◌≡◌, ◌⊎◌, ℕ, ◌+◌, ◌^◌, ◌≤◌, ◌<◌, List, [], length, if◌then◌else◌, nat_lt, Option, Some, Result, Ok, Err}
+use Rattle.std.specs.Prelude.{◌≡◌, ◌⊎◌, ℕ, ◌+◌, ◌^◌, ◌≤◌, ◌<◌, Bool, true, false, List, length, take, Option, Some, Result, Ok, Err}
 use Rattle.std.specs.declared.io.{Error.Error, ErrorKind.ErrorKind, ErrorKind.TheVariants.WriteZero}
 use Rattle.cap_octet.specs.declared.device.DeviceFault.{DeviceFault}
 
@@ -35,10 +35,13 @@ pub record IsOneRead (held : List ℕ) (remaining : Option (List ℕ)) (given ca
   pub bytes : ReadConsumes remaining remaining' answer buf'
   pub hands : HandsOver given answer result
 
--- what a device shows of the bytes in its reader's buffer, after `given` bytes were given: none if it
--- would reach 2^63 bytes in all with them
-abbrev pub held_by : (given : ℕ) (buffer : List ℕ) → List ℕ
-held_by given buffer = if nat_lt (given + length buffer) (2 ^ 63) then buffer else []
+-- `count` bytes that a reader's buffer held are consumed, as by a read that gave them (true); or
+-- none, and the same bytes remain as before (false).
+abbrev pub IsPassed : (held : List ℕ) (remaining : Option (List ℕ)) (count : ℕ) → Bool
+    → (remaining' : Option (List ℕ)) → Type 0
+IsPassed held remaining count true remaining' =
+    (count ≤ length held) × Consumes remaining remaining' (take count held)
+IsPassed held remaining count false remaining' = remaining' ≡ remaining
 
 -- The device returns what the writer did. If it fails though the writer did not, the writer took
 -- nothing of some bytes.

@@ -2,8 +2,8 @@
 //! given.
 ghost use Rattle.std.specs.Prelude.{◌≡◌, ℕ, ◌+◌, ◌^◌, ◌<◌, ◌≤◌, Bool, IsTrue, List, length, IfOk};
 ghost use Rattle.std.specs.{Io.StartsWith, List.flat_map};
-ghost use Rattle.std.specs.Prelude.{IfErr, Option, Some, [], drop, true};
-ghost use Rattle.cap_octet.specs.Device.{AppendsOrStops, HasGiven, Reads, Fills, Writes};
+ghost use Rattle.std.specs.Prelude.{IfErr, Option, Some, [], drop, if◌then◌else◌, true};
+ghost use Rattle.cap_octet.specs.Device.{AppendsOrStops, HasGiven, Passes, Reads, Fills, Writes};
 ghost use Rattle.cap_octet.specs.Device.{WritesAll, count_of, failures_of};
 
 /// The device failed in this call.
@@ -50,24 +50,32 @@ pub trait Input {
         ensures exact { IsTrue tells
             → Reads (unread self.old) buf.old result (unread self.new) buf.new };
 
-    /// Bytes that it has already, which the next reads give; with them it has given fewer than 2^63.
-    /// They stay the same until it is read or passes some. A device without such bytes shows none.
+    /// Bytes that it has already, which the next reads give. They stay the same until it is read or
+    /// passes some. A device without such bytes shows none.
     fn at_hand(&self) -> &[u8]
         ensures exact { IsTrue tells → StartsWith (unread self.now) result.now }
-        ensures held { result.now ≡ held self.now }
-        ensures bounded { 0 < length result.now → given self.now + length result.now < 2 ^ 63 };
+        ensures held { result.now ≡ held self.now };
 
-    /// Moves past the next `count` bytes, of those that `at_hand` shows, as a read of them would.
-    /// What was at hand after them still is.
-    fn pass(&mut self, count: usize)
-        requires { count ≤ length (held self.old) }
-        ensures counted { given self.new ≡ given self.old + count }
-        ensures bounded { 0 < count → given self.new < 2 ^ 63 }
+    /// Whether `pass` would pass this count of bytes, which isn't 0.
+    fn can_pass(&self, count: usize) -> bool
+        ensures { result ≡ true → (count ≤ length (held self.now))
+            × (given self.now + count < 2 ^ 63) };
+
+    /// Moves past the next `count` bytes, of those that `at_hand` shows, as a read of them would,
+    /// and returns `true`; or takes none, and returns `false`. What was at hand after them still
+    /// is.
+    fn pass(&mut self, count: usize) -> bool
+        ensures counted { given self.new ≡ given self.old + (if result then count else 0) }
+        ensures bounded { IsTrue result → given self.new < 2 ^ 63 }
         ensures failed { failures self.new ≡ failures self.old }
         ensures sure { sure self.new ≡ sure self.old }
-        ensures rest { unread self.new ≡ drop count (unread self.old) }
-        ensures there { IsTrue tells → count ≤ length (unread self.old) }
-        ensures stays { StartsWith (held self.new) (drop count (held self.old)) };
+        ensures rest { unread self.new ≡ drop (if result then count else 0) (unread self.old) }
+        ensures exact { IsTrue tells
+            → Passes (unread self.old) count result (unread self.new) }
+        ensures passes { 0 < count → count ≤ length (held self.old)
+            → given self.old + count < 2 ^ 63 → result ≡ true }
+        ensures stays { StartsWith (held self.new)
+            (drop (if result then count else 0) (held self.old)) };
 
     /// A device that failed had given as many bytes as it was sure to. `Prim.search rules` proves
     /// it of one that may fail at once, and of one that never fails.

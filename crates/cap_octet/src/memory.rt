@@ -1,7 +1,10 @@
 //! Devices over memory, which show their bytes. The first clauses of a method are those of its
 //! trait with this device's ghost members put in (`tells`, `failures` and so on).
-ghost use Rattle.std.specs.Prelude.{◌≡◌, ◌+◌, ◌≤◌, ◌<◌, ◌^◌, [], length, take, true, None};
+ghost use Rattle.std.specs.Prelude.{◌≡◌, ℕ, ◌+◌, ◌≤◌, ◌<◌, ◌^◌, IsTrue, [], length, take};
+ghost use Rattle.std.specs.Io.{StartsWith};
 ghost use Rattle.std.proofs.Common.{rules};
+ghost use Rattle.std.specs.Prelude.{if◌then◌else◌, drop, true, None, Option};
+ghost use Rattle.cap_octet.specs.Device.{Passes, Writes};
 
 use crate::count::ContractCount;
 use crate::device::{DeviceFault, Input, Output};
@@ -64,10 +67,31 @@ impl Input for MemInput<'_> {
         self.rest
     }
 
-    /// Takes `count` of the bytes that are left.
-    fn pass(&mut self, count: usize) {
+    /// Whether as many bytes are left.
+    fn can_pass(&self, count: usize) -> bool {
+        count <= self.rest.len()
+    }
+
+    /// Takes `count` bytes where as many are left; else none, and returns `false`.
+    fn pass(&mut self, count: usize) -> bool
+        ensures counted { self.new.given ≡ self.old.given + (if result then count else 0) }
+        ensures bounded { IsTrue result → self.new.given < 2 ^ 63 }
+        ensures failed { ◌≡◌ {A = ℕ} 0 0 }
+        ensures sure { ◌≡◌ {A = Option ℕ} None None }
+        ensures rest { self.new.rest.now ≡ drop (if result then count else 0) self.old.rest.now }
+        ensures exact { IsTrue true → Passes self.old.rest.now count result self.new.rest.now }
+        ensures passes { 0 < count → count ≤ length self.old.rest.now
+            → self.old.given + count < 2 ^ 63 → result ≡ true }
+        ensures stays { StartsWith self.new.rest.now
+            (drop (if result then count else 0) self.old.rest.now) }
+        ensures always { count ≤ length self.old.rest.now → result ≡ true }
+    {
+        if count > self.rest.len() {
+            return false;
+        }
         self.rest = &self.rest[count..];
         self.given += count;
+        true
     }
 
     ghost unfailed = { Prim.search rules };

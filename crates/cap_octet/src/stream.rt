@@ -2,12 +2,11 @@
 ghost use Rattle.std.specs.Io.Buffered.{reader_buffer, reader_remaining, writer_buffer};
 ghost use Rattle.std.specs.Prelude.{◌≡◌, ℕ, ◌+◌, ◌≤◌, ◌<◌, ◌^◌, ◌||◌, IsTrue, IfOk, None, Option};
 ghost use Rattle.std.specs.Prelude.{Some, false, [], List, true, drop, if◌then◌else◌, is_some};
-ghost use Rattle.std.specs.{Io.StartsWith, Prelude.length, Prelude.take};
-ghost use Rattle.std.specs.Io.KnownBytes.{Consumes, Keeps};
+ghost use Rattle.std.specs.{Io.StartsWith, Prelude.length, Io.KnownBytes.Keeps};
 ghost use Rattle.std.proofs.Common.{rules};
 ghost use Rattle.std.specs.Io.Buffered.{writer_contents};
-ghost use Rattle.cap_octet.specs.Stream.{IsOneRead, IsOneWrite, held_by};
-ghost use Rattle.cap_octet.specs.Device.{Reads, Writes, count_of, failures_of};
+ghost use Rattle.cap_octet.specs.Stream.{IsOneRead, IsOneWrite, IsPassed};
+ghost use Rattle.cap_octet.specs.Device.{Passes, Reads, Writes, count_of, failures_of};
 
 use crate::count::ContractCount;
 use crate::counting::{CountingReader, CountingWriter};
@@ -83,7 +82,7 @@ impl<R: Read> Input for StdInput<R> {
 
     ghost failures = { λ s. s.failures.count };
 
-    ghost held = { λ s. held_by s.given (reader_buffer s.reader.reader) };
+    ghost held = { λ s. reader_buffer s.reader.reader };
 
     /// Fills this buffer from the reader's own, if that holds as many bytes; else makes one read
     /// of the reader into this buffer and returns what that returned. A read that would reach 2^63
@@ -121,37 +120,44 @@ impl<R: Read> Input for StdInput<R> {
         }
     }
 
-    /// The bytes that the reader's own buffer holds; none if 2^63 bytes in all would be reached.
+    /// The bytes that the reader's own buffer holds.
     #[inline(always)]
     fn at_hand(&self) -> &[u8] {
-        let held = self.reader.buffer();
-        if self.given + held.len() as u64 >= GIVEN_END {
-            return &[];
-        }
-        held
+        self.reader.buffer()
     }
 
-    /// Takes `count` bytes of what the reader's buffer holds.
+    /// Whether the reader's buffer holds as many bytes, and 2^63 in all wouldn't be reached.
     #[inline(always)]
-    fn pass(&mut self, count: usize)
-        requires { count ≤ length
-            (held_by self.old.given (reader_buffer self.old.reader.reader)) }
-        ensures counted { self.new.given ≡ self.old.given + count }
-        ensures bounded { 0 < count → self.new.given < 2 ^ 63 }
+    fn can_pass(&self, count: usize) -> bool {
+        count <= self.reader.buffer().len() && self.given + (count as u64) < GIVEN_END
+    }
+
+    /// Takes `count` bytes of what the reader's buffer holds, if it holds as many, and returns
+    /// `true`; else none, and returns `false`. None either where 2^63 bytes in all would be
+    /// reached.
+    #[inline(always)]
+    fn pass(&mut self, count: usize) -> bool
+        ensures counted { self.new.given ≡ self.old.given + (if result then count else 0) }
+        ensures bounded { IsTrue result → self.new.given < 2 ^ 63 }
         ensures failed { self.new.failures.count ≡ self.old.failures.count }
         ensures sure { ◌≡◌ {A = Option ℕ} (Some 0) (Some 0) }
-        ensures rest { ◌≡◌ {A = List ℕ} [] (drop count []) }
-        ensures there { IsTrue false → count ≤ 0 }
-        ensures stays { StartsWith
-            (held_by self.new.given (reader_buffer self.new.reader.reader))
-            (drop count (held_by self.old.given (reader_buffer self.old.reader.reader))) }
-        ensures bytes { Consumes (reader_remaining R.remaining self.old.reader.reader)
-            (reader_remaining R.remaining self.new.reader.reader)
-            (take count (reader_buffer self.old.reader.reader)) }
+        ensures rest { ◌≡◌ {A = List ℕ} [] (drop (if result then count else 0) []) }
+        ensures exact { IsTrue false → Passes [] count result [] }
+        ensures passes { 0 < count → count ≤ length (reader_buffer self.old.reader.reader)
+            → self.old.given + count < 2 ^ 63 → result ≡ true }
+        ensures stays { StartsWith (reader_buffer self.new.reader.reader)
+            (drop (if result then count else 0) (reader_buffer self.old.reader.reader)) }
+        ensures bytes { IsPassed (reader_buffer self.old.reader.reader)
+            (reader_remaining R.remaining self.old.reader.reader) count result
+            (reader_remaining R.remaining self.new.reader.reader) }
         ensures calls { self.new.reader.calls.count ≡ self.old.reader.calls.count }
     {
+        if count > self.reader.buffer().len() || self.given + count as u64 >= GIVEN_END {
+            return false;
+        }
         self.reader.consume(count);
         self.given += count as u64;
+        true
     }
 
     ghost unfailed = { Prim.search rules };

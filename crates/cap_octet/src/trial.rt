@@ -5,7 +5,7 @@ ghost use Rattle.std.specs.{Io.StartsWith, Option.option_map, Prelude.◌≡◌,
 ghost use Rattle.std.specs.Prelude.{◌-◌, ◌≤◌, ◌<◌, ◌^◌, IsTrue, [], length, Some, None, true, IfOk};
 ghost use Rattle.std.specs.Prelude.{IsErr, OnErr, min, is_some, drop, if◌then◌else◌, take};
 ghost use Rattle.std.proofs.Common.{rules};
-ghost use Rattle.cap_octet.specs.Device.{Reads, Writes, count_of, failures_of};
+ghost use Rattle.cap_octet.specs.Device.{Passes, Reads, Writes, count_of, failures_of};
 
 use crate::count::ContractCount;
 use crate::device::{DeviceFault, Input, Output};
@@ -109,25 +109,40 @@ impl Input for TrialInput<'_> {
         &hand[..hand.len().min(self.piece)]
     }
 
-    /// Takes `count` of the bytes that one read gives.
-    fn pass(&mut self, count: usize)
-        requires { count ≤ length (if is_some self.old.fails_at then []
-            else take self.old.piece self.old.inner.rest.now) }
-        ensures counted { self.new.inner.given ≡ self.old.inner.given + count }
-        ensures bounded { 0 < count → self.new.inner.given < 2 ^ 63 }
+    /// Whether one read gives as many bytes, and no read must fail.
+    fn can_pass(&self, count: usize) -> bool {
+        self.fails_at.is_none() && count <= self.piece && self.inner.can_pass(count)
+    }
+
+    /// Takes `count` bytes if one read gives as many and no read must fail; else none, and
+    /// returns `false`.
+    fn pass(&mut self, count: usize) -> bool
+        ensures counted { self.new.inner.given
+            ≡ self.old.inner.given + (if result then count else 0) }
+        ensures bounded { IsTrue result → self.new.inner.given < 2 ^ 63 }
         ensures failed { self.new.failures.count ≡ self.old.failures.count }
         ensures sure { option_map {U = ℕ} (λ _. 0) self.new.fails_at
             ≡ option_map {U = ℕ} (λ _. 0) self.old.fails_at }
-        ensures rest { self.new.inner.rest.now ≡ drop count self.old.inner.rest.now }
-        ensures there { IsTrue true → count ≤ length self.old.inner.rest.now }
+        ensures rest { self.new.inner.rest.now
+            ≡ drop (if result then count else 0) self.old.inner.rest.now }
+        ensures exact { IsTrue true
+            → Passes self.old.inner.rest.now count result self.new.inner.rest.now }
+        ensures passes { 0 < count → count ≤ length (if is_some self.old.fails_at then []
+            else take self.old.piece self.old.inner.rest.now)
+            → self.old.inner.given + count < 2 ^ 63 → result ≡ true }
         ensures stays { StartsWith (if is_some self.new.fails_at then []
             else take self.new.piece self.new.inner.rest.now)
-            (drop count (if is_some self.old.fails_at then []
+            (drop (if result then count else 0) (if is_some self.old.fails_at then []
             else take self.old.piece self.old.inner.rest.now)) }
+        ensures always { self.old.fails_at ≡ None → count ≤ self.old.piece
+            → count ≤ length self.old.inner.rest.now → result ≡ true }
         ensures settings { (self.new.piece ≡ self.old.piece)
             × (self.new.fails_at ≡ self.old.fails_at) × (self.new.reads ≡ self.old.reads) }
     {
-        self.inner.pass(count);
+        if self.fails_at.is_some() || count > self.piece {
+            return false;
+        }
+        self.inner.pass(count)
     }
 
     ghost unfailed = { Prim.search rules };

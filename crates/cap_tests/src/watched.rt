@@ -10,7 +10,7 @@ use std::cell::Cell;
 pub struct Asked {
     /// The calls that take bytes, or would.
     pub calls: u64,
-    /// The bytes that it gave or passed. Those that are lent are passed later.
+    /// The bytes that it gave, with those that it may pass after them, since they are lent.
     pub bytes: usize,
 }
 
@@ -35,7 +35,14 @@ impl Watched<'_> {
     fn count(&self) {
         let mut new = self.asked.get();
         new.calls = new.calls.saturating_add(1);
-        new.bytes = self.inner.given();
+        self.asked.set(new);
+        self.count_bytes(0);
+    }
+
+    /// Counts the bytes that it gave, and as many after them.
+    fn count_bytes(&self, more: usize) {
+        let mut new = self.asked.get();
+        new.bytes = new.bytes.max(self.inner.given().saturating_add(more));
         self.asked.set(new);
     }
 }
@@ -65,9 +72,18 @@ impl Input for Watched<'_> {
         }
     }
 
-    fn pass(&mut self, count: usize) {
-        self.inner.pass(count);
+    fn can_pass(&self, count: usize) -> bool {
+        let can_pass = self.lends && self.inner.can_pass(count);
+        if can_pass {
+            self.count_bytes(count);
+        }
+        can_pass
+    }
+
+    fn pass(&mut self, count: usize) -> bool {
+        let passes = self.lends && self.inner.pass(count);
         self.count();
+        passes
     }
 
     ghost unfailed = { Prim.search rules };

@@ -362,11 +362,42 @@ impl<I: Input, O: Output, E: Output, A: Allocator + Copy + Drop> Job<I, O, E, A>
         }
     }
 
-    /// Reads an input on. If somebody may be waiting for the output, and the read may wait, what was
-    /// written is released first. It returns the end if the job ends here: by a fault of the input,
-    /// or since the output failed.
+    /// Reads an input on. It returns the end if the job ends here: by a fault of the input, or
+    /// since the output failed.
+    // What is at hand makes no read that may wait, so that nothing is released before it.
     #[inline(always)]
     fn read_next(&mut self, input: usize) -> Option<JobEnd>
+        requires prepared { self.old.preparing ≡ None }
+        requires next { input_spec.IsNext self.old.state.inputs (Next.Read input) }
+        requires within { input < length self.old.state.inputs.cursors }
+        ensures { IsStep I.tells O.tells self.old result self.new }
+    {
+        if self.take_at_hand(input) {
+            return None;
+        }
+        self.read_slowly(input)
+    }
+
+    /// Reads an input on, if its next packet is at hand, and returns whether it is; else nothing
+    /// changes.
+    #[inline(always)]
+    fn take_at_hand(&mut self, input: usize) -> bool
+        requires prepared { self.old.preparing ≡ None }
+        requires next { input_spec.IsNext self.old.state.inputs (Next.Read input) }
+        requires within { input < length self.old.state.inputs.cursors }
+        ensures taken { result ≡ true → IsStep I.tells O.tells self.old None self.new }
+        ensures nothing { result ≡ false → self.new ≡ self.old }
+    {
+        if !self.inputs.take_at_hand(input) {
+            return false;
+        }
+        true
+    }
+
+    /// Reads an input on, if a read may be needed. If somebody may be waiting for the output, and
+    /// the read may wait, what was written is released first.
+    #[inline(never)]
+    fn read_slowly(&mut self, input: usize) -> Option<JobEnd>
         requires prepared { self.old.preparing ≡ None }
         requires next { input_spec.IsNext self.old.state.inputs (Next.Read input) }
         requires within { input < length self.old.state.inputs.cursors }
@@ -392,7 +423,6 @@ impl<I: Input, O: Output, E: Output, A: Allocator + Copy + Drop> Job<I, O, E, A>
     /// Reads an input on: to its next packet, a fault, or its clean end, at which it is reported if
     /// reports are asked for. It returns the end of the job if the job ends here: by that fault, or
     /// since the report couldn't be written.
-    #[inline(always)]
     fn read_input(&mut self, input: usize) -> Option<JobEnd>
         requires prepared { self.old.preparing ≡ None }
         requires next { input_spec.IsNext self.old.state.inputs (Next.Read input) }

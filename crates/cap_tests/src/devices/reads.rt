@@ -91,8 +91,8 @@ fn read_by(
     (fits && is_marked && is_counted).then_some((count, returned == Ok(0)))
 }
 
-/// Takes half of what is at hand, and now and then all of it; if these are the bytes from here on,
-/// and no reader is called for them.
+/// Takes half of what is at hand, and now and then more than that, which can't be taken; if these
+/// are the bytes from here on, and no reader is called for them.
 fn take_at_hand(
     (input, counts): (&mut MarkedInput<'_>, &Cell<Counts>),
     turn: usize,
@@ -103,10 +103,13 @@ fn take_at_hand(
         return None;
     }
     let there = hand.len();
-    let count = if turn % 5 == 4 { there } else { there / 2 };
+    let count = if turn % 5 == 4 { there + 1 } else { there / 2 };
     let old = counts.get();
-    input.pass(count);
-    (counts.get().calls == old.calls).then_some(count)
+    let passed = input.pass(count);
+    if passed != (count <= there) || counts.get().calls != old.calls {
+        return None;
+    }
+    Some(if passed { count } else { 0 })
 }
 
 /// Reads to the end. Whether each call returned what the reader did, and all bytes came.

@@ -1,7 +1,7 @@
 -- A block that is whole in the device's buffer is lent; nothing else is taken.
 use Rattle.cap_io.proofs.BlocksCame.{FrontSays, block_came, front_says, whole_came}
 use Rattle.cap_io.proofs.CapturesCame.{packet-block}
-use Rattle.cap_io.proofs.Common.{IsTrue, [], ◌≡◌, ◌≤◌, ◌++◌, ℕ, List, Some, length, take, drop, refl, sym, ap, ap₂, ◌∙◌, subst, arith, take-take}
+use Rattle.cap_io.proofs.Common.{rules, IsTrue, [], ◌≡◌, ◌≤◌, ◌++◌, ℕ, List, Some, length, take, drop, refl, sym, ap, ap₂, ◌∙◌, subst, arith, take-take}
 use Rattle.cap_io.proofs.Common.{take-append-drop, append_assoc, length-take-le, section_of, PacketCame, PcapngFile}
 use Rattle.cap_io.proofs.Hands.{begins-long, begins-same, lent-first}
 use Rattle.cap_io.specs.declared.file_state.FileState.{FileState}
@@ -19,7 +19,7 @@ returns-clause-lent g c = λ is.
     let spans = c.in-Ok-Packet.packet in
     let old = c.args.input.now in
     let new = c.lend.new.self in
-    let lends = c.lend.ensures in
+    let lends = c.lend.ensures.lends (search rules) in
     let hand : List ℕ = drop old.lent (g.I.Input.held old.input) in
     let held : List ℕ = g.I.Input.held new.input in
     let unread : List ℕ = drop old.lent (g.I.Input.unread old.input) in
@@ -80,6 +80,9 @@ returns-then-size-room g c = record { lent = λ is. absurd (false≢true is); no
 
 pub returns-in_default-block_effect-2 : goal.returns-in_default-block_effect-2
 returns-in_default-block_effect-2 g c = record { lent = λ is. absurd (false≢true is); nothing = λ _. (refl, refl, refl) }
+
+pub returns-then-not-lend-clause-lent : goal.returns-then-not-lend-clause-lent
+returns-then-not-lend-clause-lent g c = λ is. absurd (false≢true is)
 
 pub returns-in_default : goal.returns-in_default
 returns-in_default g c = record { lent = λ is. absurd (false≢true is); nothing = λ _. (refl, refl, refl) }

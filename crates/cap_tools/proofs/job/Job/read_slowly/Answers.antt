@@ -1,7 +1,7 @@
 -- If the output can't be released before a read, the job ends.
 use Rattle.cap_tools.proofs.Common.{◌∙◌, Some, refl, subst, sym, reads_nothing, JobView, IsStep, JobEnd}
 use Rattle.cap_tools.proofs.Steps.{same-kept, step-of}
-use Rattle.cap_tools.proofs.job.Job.read_next.Goals as goal
+use Rattle.cap_tools.proofs.job.Job.read_slowly.Goals as goal
 
 pub returns-then-not-release_before : goal.returns-then-not-release_before
 returns-then-not-release_before g c =
