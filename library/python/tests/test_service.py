@@ -323,7 +323,9 @@ class SourcesTest(FolderTest):
             pass
 
         def ring(*_):
+            nonlocal is_on
             if is_on:
+                is_on = False
                 raise Alarm
 
         is_on, rings = False, 0
@@ -344,7 +346,7 @@ class SourcesTest(FolderTest):
                         found.extend(packets)
                         is_on, has_ended = False, True
                     except Alarm:
-                        is_on, rings = False, rings + 1
+                        rings += 1
                 self.assertEqual(found, want[: len(found)])
 
     def test_a_pipe_that_does_not_block(self):
@@ -673,6 +675,42 @@ class OutputsTest(FolderTest):
                     writer.write(packet())
                 writer.write(packet(UDP))
             self.assertEqual(output.bytes, written([packet(), packet(UDP)], format))
+
+    def test_errors_of_a_signals_handler(self):
+        """Each packet is written whole or not at all, and if write returns, it is written."""
+
+        class Alarm(Exception):
+            pass
+
+        def ring(*_):
+            nonlocal is_on
+            if is_on:
+                is_on = False
+                raise Alarm
+
+        is_on, rings = False, 0
+        self.addCleanup(signal.signal, signal.SIGALRM, signal.signal(signal.SIGALRM, ring))
+        self.addCleanup(signal.setitimer, signal.ITIMER_REAL, 0)
+        signal.setitimer(signal.ITIMER_REAL, 0.0003, 0.0003)
+        while rings < 1000:
+            format, buffering = ("pcap", "pcapng")[rings % 2], (None, -1, 0)[rings % 3]
+            target = self.path if buffering is None else open(self.path, "wb", buffering)
+            writer, sure = capkit.Writer(target, format), set()
+            for number in range(200):
+                name = b"" if format == "pcap" else b"%d" % (number % 3)
+                try:
+                    is_on = True
+                    writer.write(packet(b"%d" % number * 9, interface_name=name))
+                    is_on = False
+                    sure.add(number)
+                except Alarm:
+                    rings += 1
+            writer.close()
+            if buffering is not None:
+                target.close()
+            found = [int(each.data[: len(each.data) // 9]) for each in capkit.packets(self.path)]
+            self.assertEqual(found, sorted(set(found)))
+            self.assertLessEqual(sure, set(found))
 
     def test_bytes_that_lie(self):
         class Lies(bytes):
