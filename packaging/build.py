@@ -10,7 +10,7 @@ without the calls that use malloc.
 
 A crate is proved once those that it needs are; the crate with the longest chain of crates above it has priority (`nice`). Each
 proof is one call of rattle, the prover of rt's kit, as `rt ci` makes it. A library keeps only its statements, which halves the
-check of the program. A crate with work of `rt check` (in out/incremental) continues from it. A library for C leaves such work there,
+check of the program. A crate with work of `rt check` (in out/incremental) continues from it. A library for C keeps such work there,
 so that it is soon proved for another processor.
 """
 import fcntl
