@@ -8,13 +8,12 @@ import io
 import os
 import stat
 import struct
-import threading
 from typing import Any, Literal, Optional, Protocol, Union, get_args
 
 from . import native
 from .errors import Check, WriteError
 from .reading import Packet
-from .sources import Path, descriptor_of, is_being_read
+from .sources import Path, add_lock, descriptor_of, is_being_read
 
 Format = Literal["pcapng", "pcap", "nsecpcap"]
 
@@ -65,8 +64,8 @@ class Writer:
         # What is left of units of which the output took a part: it goes first.
         self._rest = memoryview(b"")
         self._is_begun = self._is_closed = self._is_busy = False
-        # The handler of a signal, and the output, may call in the middle of a call.
-        self._turn = threading.RLock()
+        self._lock: Any
+        add_lock(self)
 
     def __repr__(self) -> str:
         return f"<Writer of {self._format} to {self._target!r}>"
@@ -78,7 +77,7 @@ class Writer:
         open file. BlockingIOError if an output takes no bytes now: write the packet again. A pcap file
         keeps neither comments nor names of interfaces.
         """
-        with self._turn:
+        with self._lock:
             if self._is_busy:
                 raise _is_in_a_call()
             self._is_busy = True
@@ -116,7 +115,7 @@ class Writer:
         self._close(kind is None)
 
     def _close(self, with_header: bool) -> None:
-        with self._turn:
+        with self._lock:
             if self._is_busy:
                 raise _is_in_a_call()
             self._is_busy = True
