@@ -65,7 +65,7 @@ def write_capture(path, link, packets):
 def make_captures(folder):
     """Adds the captures to the samples that rows of the page name."""
     write_capture(folder / "odd.pcap", 1, [(bytes(12) + bytes.fromhex(data), size) for data, size in ODD])
-    write_capture(folder / "cooked.pcap", 113, [(bytes.fromhex(data), None) for data in COOKED])
+    write_capture(folder / "odd-cooked.pcap", 113, [(bytes.fromhex(data), None) for data in COOKED])
     for command in MADE:
         subprocess.run(["sh", "-c", command], cwd=folder, check=True)
 
