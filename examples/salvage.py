@@ -57,7 +57,7 @@ class Source:
     def __init__(self, held, name, row):
         self.held, self.name, self.row = held, name, row
         self.size = os.fstat(held.fileno()).st_size
-        self.data, self.base, self.tried, self.asked, self.time, self.header = b"", 0, 0, 0, NO_TIME, b""
+        self.data, self.base, self.tried, self.asked, self.time, self.header = b"", 0, 0, [0, 0], NO_TIME, b""
 
     def load(self, at, ahead=AHEAD):
         """Holds the bytes from a place on; returns these, which may begin before, and where."""
@@ -274,7 +274,7 @@ class Records(Reader):
             places = bounds[:-1][:KNOWN]
             weigh = self.weigher(last, places)
             lost = [weigh(it) + (it < passes) + (it in ends) - 0.5 for it in places[: self.edge(places)]]
-            losses = [already + sum(weigh(it) + 0.5 for it in last if self.end(it) > place)
+            losses = [already + sum(max(0, weigh(it) + 0.5) for it in last if self.end(it) > place)
                       for already, place in zip(itertools.accumulate(lost, initial=0), bounds)]
             cut = losses.index(min(losses))
             if cut == len(lost) and len(bounds) > UNITS and set(lost) == {-0.5}:
@@ -316,8 +316,9 @@ class Records(Reader):
         _, part, captured, original = self.head(at)
         if not captured | original or part >= self.units and not 0 < captured <= original <= LONGEST:
             return True
-        self.source.asked += 1
-        if self.source.asked > 1000 + at // INSIDE:
+        is_odd = captured != original or part >= self.units  # more than a time far from the last
+        self.source.asked[is_odd] += 1
+        if self.source.asked[is_odd] > (20 if is_odd else 1) * (1000 + at // INSIDE):
             return False
         after, end = self.row(at + 16 + captured, KNOWN)
         weigh = self.weigher(self.last, after[:-1])
