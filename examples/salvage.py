@@ -24,7 +24,7 @@ from collections import deque
 MAGICS = {(it, units): struct.pack(it + "I", magic) for it in "<>" for units, magic in ((10**6, 0xA1B2C3D4), (10**9, 0xA1B23C4D))}
 FORMS = {magic: form for form, magic in MAGICS.items()}
 SECTION, INTERFACE, OBSOLETE, SIMPLE, ENHANCED = 0x0A0D0D0A, 1, 2, 3, 6
-LEAST = {SECTION: 28, INTERFACE: 20, OBSOLETE: 12, SIMPLE: 16, ENHANCED: 32}
+LEAST = {SECTION: 28, INTERFACE: 20, OBSOLETE: 32, SIMPLE: 16, ENHANCED: 32}
 SECTION_TYPE, ORDER_MAGIC = b"\n\r\r\n", 0x1A2B3C4D
 SECTIONS = {struct.pack(it + "IHH", ORDER_MAGIC, 1, minor): it for it in "<>" for minor in (0, 2)}
 HEADER = re.compile(b"|".join(map(re.escape, [*FORMS, SECTION_TYPE])))
@@ -34,8 +34,13 @@ INSIDE, UNITS, FAR = 65_552, 32, 2 << 20  # what no packet's inside exceeds; a c
 TICKS = {bytes([it]): 10**it for it in range(13)} | {bytes([it + 128]): 2**it for it in range(33)}
 SHORT = {"<": b"\x14\0\0\0", ">": b"\0\0\0\x14"}  # of an interface without options
 PATIENCE, BYTES_A_STEP = 600_000, 64  # steps that may be tried at first, and one more for each of these bytes
-DOUBTED, NOTES, NEAR, EARLIER, NO_TIME, SAME = 8, 20, 86_400, 1, float("nan"), (True, "")
-UNSET, SHORTEST = 31_536_000, 14  # of a clock that began at 1970; bytes of a link header
+DOUBTED, FEW, KNOWN = 8, 4, 32  # records next to damage; too few to compare with; near it
+# How usual frames and packets begin, by link type: a number of bytes, then a type or the version of IP.
+ETHER = rb"(?:\x08\0[E-O]|\x86\xdd[`-o]|\x08\x06\0\x01|\x81\0..[\x08\x86\x88]|\x88[GHcd\x8e\xa8\xca\xcc]|[\0-\5].(?:BB|\xaa\xaa))"
+SKIPS = {1: (12, ETHER), 113: (14, ETHER)} | {it: (4 * (it in (0, 108)), b"[E-O`-o]") for it in (0, 12, 101, 108, 228, 229)}
+USUAL = {link: re.compile(rb"(?s).{%d}%s" % it) for link, it in SKIPS.items()}
+NEAR, EARLIER, UNSET, SHORTEST = 86_400, 1, 31_536_000, 14  # seconds, of a clock from 1970 on; a link header
+NOTES, NO_TIME, SAME = 20, float("nan"), (True, "")
 
 
 def report(text):
@@ -47,10 +52,12 @@ def report(text):
 
 class Source:
     """The file, of which some MiB are held; how much was tried, and the time before the fault."""
+    may_try = lambda self, at: self.tried < PATIENCE + at // BYTES_A_STEP  # this bounds the time that a file takes
+
     def __init__(self, held, name, row):
         self.held, self.name, self.row = held, name, row
         self.size = os.fstat(held.fileno()).st_size
-        self.data, self.base, self.tried, self.time, self.header = b"", 0, 0, NO_TIME, b""
+        self.data, self.base, self.tried, self.asked, self.time, self.header = b"", 0, 0, [0, 0], NO_TIME, b""
 
     def load(self, at, ahead=AHEAD):
         """Holds the bytes from a place on; returns these, which may begin before, and where."""
@@ -66,10 +73,6 @@ class Source:
         if 0 <= place and at + size <= min(self.base + len(self.data), self.size):
             return self.data[place : place + size]
         return os.pread(self.held.fileno(), size, at)
-
-    def may_try(self, at):
-        """Whether more may be tried at a place: this bounds the time that a file takes."""
-        return self.tried < PATIENCE + at // BYTES_A_STEP
 
     def places(self, pattern, back, slow, begin, end):
         """Places between two, `back` bytes before a pattern; some if too much was tried."""
@@ -140,30 +143,34 @@ class Output:
 
 class Reader:
     """What records of pcap and blocks of pcapng (units) have in common: how chains are found."""
+    steps = lambda self, at: self.step(at, *self.source.load(at))
+    head = lambda self, at: self.unpack(self.source.get(at, 16).ljust(16, b"\0"))
+    edge = staticmethod(lambda places: min(DOUBTED, (len(places) + 2) // 3))  # number of places that are doubted
+
     def __init__(self, source, out, order):
         self.source, self.out, self.order = source, out, order
-        self.last, self.after, self.likely = deque(maxlen=DOUBTED), [], self.LIKELY[order]
+        self.last, self.after, self.rows, self.likely = deque(maxlen=KNOWN), [], {}, self.LIKELY[order]
         shapes = (struct.Struct(order + it).unpack_from for it in ("HH", "II", "III", "IIII", "q"))
         self.option, self.sizes, self.ends, self.unpack, self.offset = shapes
-
-    def steps(self, at):
-        return self.step(at, *self.source.load(at))
-
-    def head(self, at):
-        return self.unpack(self.source.get(at, 16).ljust(16, b"\0"))
 
     def is_near(self, at):
         time = self.source.time
         return -EARLIER <= self.when(at) - time <= (NEAR if time > UNSET else 60 * (time > 0))
 
-    def row(self, start, known=()):
-        """The starts of the units in a row and the end of the last, up to a known place; what follows."""
+    def row(self, start, most=HELD):
+        """The starts of units in a row, up to a number, and the end of the last; what follows."""
         bounds, end, step, size = [start], start, self.step, self.source.size
-        held = self.source.load(start)
-        while end and end <= size and end not in known and end - start <= (INSIDE, FAR)[len(bounds) <= UNITS]:
+        held, rows = self.source.load(start), self.rows
+        while end and end <= size and end - start <= (INSIDE, FAR)[len(bounds) <= UNITS] and len(bounds) <= most:
             end = step(end, *held)
             bounds += [end] if end and end <= size else []
+            if end in rows:  # the rest was looked at before
+                break
         self.source.tried += len(bounds)
+        if end in rows:
+            joined, number, after = rows[end]
+            return bounds + joined[number + 1 :], after
+        rows.update((it, (bounds, number, end)) for number, it in enumerate(bounds))
         return bounds, end
 
     def chain(self, start, is_headed=False):
@@ -176,20 +183,16 @@ class Reader:
         return bounds if len(bounds) > source.row and is_right else None
 
     def first(self, begin, end, passes):
-        """The first chain between two places, or the one that it meets with most units before."""
+        """The first chain between two places."""
+        found, self.rows = None, {}
         for place in self.source.places(*self.likely, begin, end):
-            best = self.chain(place)
-            if not best or place < passes and (place in self.last or best[-1] <= passes):
-                continue
-            known = dict(zip(best, itertools.count()))
-            for other in self.source.places(*self.likely, place + 1, min(place + 4096, best[-1])):
-                row, meets = self.row(other, known)
-                if len(row) - 1 > known.get(meets, len(row)) and (row := self.chain(other)):
-                    best, known = row, dict(zip(row, itertools.count()))
-            if best := self.grounded(best, passes):
-                self.after = best[:-1][:DOUBTED]
-                return self.without_carried(best)
-        return None
+            if found and found[0] <= place:
+                break
+            bounds = self.chain(place)
+            if bounds and (place >= passes or place not in self.last and bounds[-1] > passes):
+                found = min(filter(None, (found, self.grounded(bounds, passes))), default=None)
+        self.after = found[:-1][:KNOWN] if found else []
+        return found and self.without_carried(found)
 
     def without_carried(self, bounds):
         """A chain without what a lost packet may have carried: its start, if it is too early."""
@@ -200,7 +203,9 @@ class Reader:
 
 class Records(Reader):
     """The records of pcap."""
-    is_sure, TIMED, units, link, is_odd, origin = False, 3, None, ETHERNET, False, None
+    is_sure, TIMED, units, link = False, 3, None, ETHERNET
+    when, end = lambda self, at: self.head(at)[0], lambda self, at: at + 16 + self.head(at)[2]
+    worth = lambda self, bounds: sum(map(self.weigher([], bounds[:-1][:KNOWN]), bounds[:-1][:1000]))
     # The lengths' high bytes, the captured one not being 0; and how far in a record they are.
     LIKELY = {"<": (re.compile(rb"(?s)\0(?<!\0{4})(?<=[\0-\4].)..[\0-\4]\0"), 11, b"\0"),
               ">": (re.compile(rb"(?s)\0[\0-\4](?!\0\0)..\0[\0-\4]"), 8, b"\0")}
@@ -212,9 +217,6 @@ class Records(Reader):
             self.out.note(at, f"no file header: read as pcap of link type {self.link}")
         self.out.begin(MAGICS[self.order, self.units] + struct.pack(self.order + "HHIIII", 2, 4, 0, 0, LONGEST, self.link))
 
-    def when(self, at):
-        return self.head(at)[0]
-
     def step(self, at, data, base):
         """The end of a record; past the end of the file if it is cut; None if it isn't one."""
         if at + 16 > self.source.size:
@@ -222,48 +224,63 @@ class Records(Reader):
         _, _, captured, original = self.unpack(data, at - base)
         return at + 16 + captured if 0 < captured <= original <= LONGEST else None
 
-    def chain(self, start, is_headed=False):
-        """No chain is 4 bytes off, nor begins with a fraction out of range if that is the first."""
-        bounds = super().chain(start, is_headed)
-        heads = [self.head(it) for it in (bounds or [])[:-1][:3]]
-        is_odd = heads and self.units and heads[0][1] >= self.units and not self.is_odd
-        return None if is_odd or sum(it[1] == it[2] for it in heads) > 1 else bounds
+    def is_usual(self, at):
+        """Whether a record begins like the usual ones of its link type."""
+        data = self.source.get(at + 16, min(self.head(at)[2], 24))
+        return self.link in USUAL and bool(USUAL[self.link].match(data))
 
-    def end(self, at):
-        return at + 16 + self.head(at)[2]
+    def weigher(self, before, after):
+        """What weighs a record by those before and after damage, without those next to it."""
+        sound = [*before][: len(before) - self.edge(before)]
+        places = sound if len(sound) >= DOUBTED else sound + after[self.edge(after) :]
+        heads = {it: self.head(it) for it in places}
+        times, parts, sizes, _ = zip(*heads.values()) if places else [()] * 4
+        least, most = min(SHORTEST, *sizes, 1 + LONGEST * bool(sizes)), max(INSIDE, *sizes, 0)
+        snap = max((it[2] for it in heads.values() if it[2] < it[3]), default=None)
+        known = sorted(it for it in times if it > UNSET)
+        near = {it for two in itertools.pairwise(known) if two[1] - two[0] <= NEAR for it in two}
+        is_steady = 16 * sum(it not in near for it in known) <= len(known) >= FEW
+        is_set = is_steady or len(places) > len(known) == 0
 
-    def heads(self, *places):
-        return {it: self.head(it) for it in sorted(set(places))}
+        def fits(head):
+            _, part, captured, original = head
+            is_whole = captured == original or captured == snap < original
+            return least <= captured <= most and is_whole and captured != part
 
-    def signs(self, at, around):
-        """How many of two signs a record has, time and lengths, less those against it."""
-        seconds, part, captured, original = around.get(at) or self.head(at)
-        others = [head for it, head in around.items() if it != at]
-        times, _, sizes, _ = zip(*others) if others else [()] * 4
-        count = lambda time: sum(it > UNSET and abs(it - time) <= NEAR for it in times)
-        is_near = count(seconds) > 0 or -(sum(count(it) > 1 for it in times) > max(1, len(times) - 2))
-        if max(times, default=UNSET) < UNSET:
-            after = sum(it < at for it in around)
-            close = times[max(0, after - 1) : after + 1]
-            is_near = (min(close) - EARLIER <= seconds <= max(close) + 60) - 1
-        is_whole = min([SHORTEST, *sizes]) <= captured == original <= max([INSIDE, *sizes]) and original != part
-        is_whole |= captured == max([0, *sizes])
-        are_odd = 2 * sum(0 < it[2] <= it[3] <= LONGEST for it in others) < len(others)
-        return is_near + (is_whole if 0 < captured <= original <= LONGEST or are_odd else -1)
+        are_fit = 16 * sum(not fits(it) for it in heads.values()) <= len(places) >= FEW
+        are_usual = functools.cache(lambda: 4 * sum(map(self.is_usual, heads)) >= 3 * len(heads) >= 3 * FEW)
+
+        def weigh(at):
+            """What is for a record, less what is against it: time, lengths, first bytes."""
+            seconds, part, captured, original = head = self.head(at)
+            close = [heads[it][0] for it in sorted(heads, key=lambda it: abs(it - at))[:2]]
+            time = (not close or min(close) - EARLIER <= seconds <= max(close) + 3600) - 1
+            if seconds > UNSET:
+                time = any(abs(it - seconds) <= NEAR for it in known) or -is_set
+            time = -1 if part >= max([self.units or 10**9, *(it + 1 for it in parts)]) else time
+            is_odd = captured == part or not least <= captured <= original <= LONGEST
+            length = fits(head) or -(are_fit or is_odd)
+            signs = time, length, time + length > 1 or self.is_usual(at) or -are_usual()
+            return sum(signs) - (min(signs) < 0) / 4
+
+        return weigh
 
     def grounded(self, bounds, passes):
-        """A chain from the first record on that has enough signs; None if it gets too short."""
-        ends, least = [passes, *map(self.end, self.last)], min(len(bounds), self.source.row + 1)
-        while len(bounds) >= least:
-            around = self.heads(*self.last, *bounds[:-1][:DOUBTED])
-            weight = lambda places: sum(1 + self.signs(it, around) for it in places)
-            some = (self.signs(it, around) > 0 for it in bounds[:-1][:3])
-            is_row = next(some) and (len(bounds) > UNITS or sum(some) > 0 or len(bounds) < 4)
-            read = (it for it in self.last if self.end(it) > bounds[0])
-            if is_row and weight(it for it in bounds[:UNITS] if it < max(ends)) >= weight(read):
-                return bounds
-            bounds, self.source.tried = bounds[1:], self.source.tried + 10
-        return None
+        """A chain from where least is lost, of it and of what was read there; None if it gets too short."""
+        last, cut, least = [*self.last], 1, min(len(bounds) - 1, self.source.row)
+        ends = {passes, *map(self.end, last)}
+        while cut and len(bounds) > least:
+            self.source.tried += 100
+            places = bounds[:-1][:KNOWN]
+            weigh = self.weigher(last, places)
+            lost = [weigh(it) + (it < passes) + (it in ends) - 0.5 for it in places[: self.edge(places)]]
+            losses = [already + sum(max(0, weigh(it) + 0.5) for it in last if self.end(it) > place)
+                      for already, place in zip(itertools.accumulate(lost, initial=0), bounds)]
+            cut = losses.index(min(losses))
+            if cut == len(lost) and len(bounds) > UNITS and set(lost) == {-0.5}:
+                return bounds[1:]  # nothing is known of any
+            bounds = bounds[cut:]
+        return None if cut else bounds
 
     def read_held(self, at, data, base):
         """Reads some of the records held, up to a fault."""
@@ -272,66 +289,62 @@ class Records(Reader):
         place = done = at - base
         stop = min(place + ZONE, size - 16 if len(data) > size else len(data) - 2 * LONGEST)
         after = unpack(data, place) if place <= stop else None
+        time, snap = self.head(self.last[-1])[0] if self.last else after and after[0], None
         while place <= stop and (end := place + 16 + after[2]) <= size and after[2] <= LONGEST:
             (seconds, part, captured, original), after = after, unpack(data, end)
-            is_pair = captured & 255 and captured <= original <= LONGEST
-            is_off = part == captured and seconds < units and (0 < after[1] <= after[2] or end + 12 > size)
-            if part < units and (is_pair and not is_off or not captured and original):
-                append(base + place)
-            else:
-                is_next = is_pair and part >= units and 0 < after[2] <= after[3] <= LONGEST
-                is_next &= captured in (original, after[2]) or abs(seconds - after[0]) < NEAR * (seconds > UNSET)
-                if not is_next and self.is_fault(base + place, odd):
+            is_whole = captured == original or captured == snap < original
+            if not is_whole or not 0 < original <= LONGEST or part >= units or not -NEAR <= seconds - time <= NEAR:
+                if self.is_fault(base + place):
                     break
-                (odd if part >= units else self.last).append(base + place)
+                snap = captured if captured < original else snap
                 if part >= units:
+                    odd.append(base + place)
                     made += data[done : place + 4] + b"\0\0\0\0"
                     done = place + 8
-            packets, place = packets + 1, end
+            append(base + place)
+            packets, place, time = packets + 1, end, seconds
         for it in odd:
             out.note(it, "a fraction of a second or more, written as 0")
         if odd:
             out.put(made)
-            self.last, self.is_odd = deque((it for it in self.last if it > odd[-1]), DOUBTED), True
         out.keep(base + done, base + place)
         out.packets += packets
         return base + place
 
-    def is_fault(self, at, odd):
-        """Whether this isn't a record (of any fraction), or reading is off by 4 bytes, or by 1."""
-        seconds, part, captured, original = self.head(at)
-        is_pair, around = 0 < captured <= original <= LONGEST, self.heads(*self.last)
-        real, end = at + (1 if self.order == "<" else -1), at + 16 + captured
-        if is_pair and not captured & 255:
-            signs = self.signs(real, around) + bool(self.steps(self.end(real)))
-            if signs > self.signs(at, around) + (original & 255 > 0):
-                return True
-        if part >= self.units or not captured | original:
-            around = self.heads(*around, *odd[-DOUBTED:], *[end] * (end < self.source.size))
-            return not is_pair or self.signs(at, around) + bool(self.steps(end)) < 2
-        is_off = 0 < captured == part and seconds < self.units and self.steps(end - 4)
-        return is_off or self.signs(at, around) < -1
+    def is_fault(self, at):
+        """Whether this isn't a record, as far as that may be asked."""
+        _, part, captured, original = self.head(at)
+        if not captured | original or part >= self.units and not 0 < captured <= original <= LONGEST:
+            return True
+        is_odd = captured != original or part >= self.units  # more than a time far from the last
+        self.source.asked[is_odd] += 1
+        if self.source.asked[is_odd] > (20 if is_odd else 1) * (1000 + at // INSIDE):
+            return False
+        after, end = self.row(at + 16 + captured, KNOWN)
+        weigh = self.weigher(self.last, after[:-1])
+        return weigh(at) + bool(after[1:] or end) < (0.5 if self.last else -1.5)
 
     def settle(self, at, place):
-        """Drops records in the way of a chain, or puts one right; returns the end of those kept."""
-        last, around = self.last, self.heads(*self.last, *(it for it in self.after if it >= place))
-        goal = at if (self.steps(at) or 0) > self.source.size and self.signs(at, around) > 0 else place
-        is_short = last and last[0] == self.origin and len(last) < self.source.row
-        weight = lambda it: -1 if self.end(it) > place else self.signs(it, around) + (self.end(it) in (place, goal))
-        while last and (is_short or weight(last[-1]) < 1):
-            at = last.pop()
-            del around[at]
-            self.out.packets -= 1
-            self.out.kept = self.out.kept[0], at
+        """Drops records before a fault, or puts one right; returns the end of those kept."""
+        last, total, best = [*self.last], 0, 0
+        kept = sum(self.end(it) <= place for it in last[: len(last) - self.edge(last)])
+        weigh = self.weigher(last, [it for it in self.after if it >= place])
+        is_near = weigh(at) > 0 or self.source.time > UNSET and self.is_near(at)
+        goals = place, at if is_near and (self.steps(at) or 0) > self.source.size else place
+        for number, it in enumerate(last[kept:], kept + 1):
+            if (end := self.end(it)) <= place and (total := total + weigh(it)) + (end in goals) > best:
+                best, kept = total + (end in goals), number
+        dropped = [it for it in last[kept:] if it >= self.out.kept[0]]
+        at, self.last = min([at, *dropped]), deque(last[:kept], KNOWN)
+        self.out.kept, self.out.packets = (self.out.kept[0], min(self.out.kept[1], at)), self.out.packets - len(dropped)
         size = place - at - 16
-        is_right = not is_short and place < self.source.size and 0 < size <= LONGEST
-        if is_right and size in self.head(at)[2:]:
+        is_right = place < self.source.size and 0 < size <= LONGEST and size in self.head(at)[2:]
+        if is_right and weigh(at) > -2:
             seconds, part, was, original = self.head(at)
             why = f"a captured length of {was}, written as {size}"
             self.out.note(at, why if size != was else f"a fraction of {part}, written as 0")
-            if part >= self.units:
-                self.is_odd, part = True, 0
-            self.out.put(struct.pack(self.order + "IIII", seconds, part, size, original) + self.source.get(at + 16, size))
+            head = struct.pack(self.order + "IIII", seconds, part * (part < self.units), size, original)
+            self.out.put(head + self.source.get(at + 16, size))
             self.out.packets += 1
             return place
         return at
@@ -339,7 +352,7 @@ class Records(Reader):
 
 class Blocks(Reader):
     """The blocks of pcapng."""
-    is_sure, TIMED, grounded = True, 1, lambda self, bounds, _: bounds
+    is_sure, TIMED, grounded, worth = True, 1, lambda self, bounds, _: bounds, lambda *_: 2**32
     LIKELY = {"<": (re.compile(rb"\0\0\0(?<=[\1-\3\6]\0\0\0)"), 1, b"\0"),
               ">": (re.compile(rb"\0\0\0[\1-\3\6]"), 0, b"\0")}
     # A section's interfaces: ticks and offsets, blocks, the first snap length, whether one is lost.
@@ -408,8 +421,13 @@ class Blocks(Reader):
             if SECTIONS.get(data[at + 8 : at + 16]) != self.order:
                 return None, ""
             self.faces, self.described, self.is_torn = [], b"", False
-        elif kind == OBSOLETE or not self.faces or self.snap > size - 16 < self.ends(data, at)[2]:
-            return b"", " (an obsolete packet block, or a simple one, cut or of no interface)"
+        elif kind == OBSOLETE:
+            face, block = self.option(data, at + 8)[0], data[at + 12 : at + size]
+            block = struct.pack(self.order + "III", ENHANCED, size, face) + block
+            right, why = self.enhanced(block, 0, size)
+            return block if right is True else right, why or "an obsolete packet block, written as an enhanced one"
+        elif not self.faces or self.snap > size - 16 < self.ends(data, at)[2]:
+            return b"", " (a simple packet block, cut or of no interface)"
         self.out.packets += kind == SIMPLE
         return SAME
 
@@ -453,8 +471,14 @@ class Blocks(Reader):
     def enhanced(self, data, place, size):
         """A packet, with the least time if its own is out of range."""
         face, high, low, captured = self.unpack(data, place + 8)
-        if 32 + captured > size:
+        option, end, code = place + 28 + (captured + 3 & -4), place + size - 4, 1
+        if option > end:
             return None, ""
+        while option < end and code:
+            code, length = self.option(data, option)
+            option += 4 + (length + 3 & -4)
+        if option != end and captured < self.sizes(data, place + 20)[1]:
+            return b"", " (a packet that doesn't fill its block)"
         if face >= len(self.faces):
             return b"", " (a packet whose interface isn't known)"
         if not captured | self.sizes(data, place + 20)[1]:
@@ -510,7 +534,7 @@ def like(name, source, out):
             raise OSError(0, "capkit doesn't read it to its end", name)
         reader, at = capture_at(other := Source(held, name, 1), Output(other, out.form, ""), 0)
         reader.read_held(at, *other.load(0))
-    reader.source, reader.out, reader.last = source, out, deque(maxlen=DOUBTED)
+    reader.source, reader.out, reader.last = source, out, deque(maxlen=KNOWN)
     return reader
 
 
@@ -521,15 +545,22 @@ def find(source, out, readers, begin, passes):
             zeros = source.get(begin, INSIDE)
             begin += len(zeros) - len(zeros.lstrip(b"\0")) - 16
             continue
-        end = begin + (ZONE if source.may_try(begin) else 4096)
-        chains = [(bounds[0], it) for it in readers if (bounds := it.first(begin, end, passes))]
-        place, reader = min(chains, key=lambda it: it[0], default=(end, None))
+        end = begin + (INSIDE if source.may_try(begin) else 4096)
+        chains = [(bounds, it) for it in readers if (bounds := it.first(begin, end, passes))]
+        bounds, reader = min(chains, key=lambda it: it[0][0], default=((end,), None))
+        rivals = [it for it in chains if it[0][0] < bounds[-1]]
+        if len(rivals) > 1:
+            bounds, reader = max(rivals, key=lambda it: (it[1].worth(it[0]), it[0][0] == passes))
+        place = bounds[0]
         for at in source.places(HEADER, 0, b"\xa1", begin, place):
             source.tried += 8
             is_free = source.may_try(at) or source.header in (b"", source.get(at, 24))
             if at and is_free and (capture := capture_at(source, out, at)):
                 bounds = capture[0].chain(capture[1], True) or [0]
-                if at == passes or bounds[-1] > passes and capture[0].without_carried(bounds) is bounds:
+                is_late = capture[0].when(bounds[0]) >= source.time - EARLIER or source.get(place, 4) == SECTION_TYPE
+                is_inside = reader and bounds[-1] <= place <= at + INSIDE and not is_late
+                is_inside = is_inside or capture[0].without_carried(bounds) is not bounds
+                if at == passes or bounds[-1] > passes and not is_inside:
                     return at, *capture
         if reader:
             return place, reader, place
@@ -551,15 +582,16 @@ def salvage(source, out, guessed):
             if reader:
                 out.note(place, "another capture begins")
         reader = seen[type(other), other.order] = other
-        fault, reader.origin = reader.last.clear(), at if at == place else None
+        fault = None
         while at != fault:
             fault, at = at, reader.read_held(at, *source.load(at))
         if fault == source.size:
             break
-        last = list(itertools.takewhile(reader.steps, reader.last))
+        doubted = [*reader.last][-DOUBTED:]
+        last = list(itertools.takewhile(reader.steps, doubted))
         source.time = reader.when(last[-1]) if last else source.time
-        passes = [*reader.last, fault][len(last)] if last else fault  # or a damaged record before
-        begin = max(reader.last[0] + 1 if reader.last else fault, place + 1)
+        passes = [*doubted, fault][len(last)] if last else fault  # or a damaged record before
+        begin = max(doubted[0] + 1 if doubted else fault, place + 1)
         source.tried += 40
         readers, begin = ([*seen.values()], begin) if source.may_try(fault) else ([reader], fault + 4096)
         place, other, at = find(source, out, readers, begin, passes)
