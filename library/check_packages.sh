@@ -13,6 +13,7 @@ samples=$library/../samples
 packages=$library/out/packages
 bad=0
 languages=c
+odd=$(printf 'odd\nname\377')
 have() { command -v "$1" >/dev/null 2>&1; }
 wrong() {
     printf '%s\n' "$*"
@@ -174,6 +175,12 @@ check_filter() {
     expect 0 '' '9 of 9 packets match' filter '' "$samples/any.pcap"
     expect 1 'o such file' '' filter tcp "$packages/missing.pcap"
     expect 1 'irectory' '' filter tcp "$samples"
+    # What can't be printed is an error, and any bytes are a name.
+    status=0
+    linked "$packages/$language-filter" tcp "$samples/day.pcap" >/dev/full 2>"$packages/err.txt" || status=$?
+    { test $status = 1 && grep -q 'o space left on device' "$packages/err.txt"; } || wrong "$language: filter: a full output: $status"
+    ln -f "$samples/day.pcap" "$packages/$odd" 2>/dev/null || cp "$samples/day.pcap" "$packages/$odd"
+    expect 0 '' '34 of 44 packets match' filter tcp "$packages/$odd"
     # A file that is redirected, and a pipe.
     expect 0 '' '34 of 44 packets match' filter tcp /dev/stdin <"$samples/day.pcap"
     mkfifo "$packages/pipe"
@@ -202,6 +209,10 @@ check_keep() {
     done
     expect 1 'too long' '' keep tcp "$samples/damaged.pcap" "$kept"
     test "$(linked "$packages/c-filter" '' "$kept" | tail -n 1)" = '22 of 22 packets match' || wrong "$language: not all are kept"
+    linked "$packages/c-keep" tcp "$samples/day.pcap" "$packages/c.pcapng"
+    expect 0 '' '' keep tcp "$samples/day.pcap" "$packages/$odd.kept"
+    cmp "$packages/c.pcapng" "$packages/$odd.kept" || bad=1
+    expect 1 'o space left on device' '' keep tcp "$samples/day.pcap" /dev/full
     # A refused run doesn't change the output.
     cp "$samples/day.pcap" "$packages/self.pcap"
     printf 'some text\n' >"$packages/text"

@@ -10,7 +10,8 @@ without the calls that use malloc.
 
 A crate is proved once those that it needs are; the crate with the longest chain of crates above it has priority (`nice`). Each
 proof is one call of rattle, the prover of rt's kit, as `rt ci` makes it. A library keeps only its statements, which halves the
-check of the program. A crate with work of `rt check` (in out/incremental) continues from it.
+check of the program. A crate with work of `rt check` (in out/incremental) continues from it. A library for C keeps such work there,
+so that it is soon proved for another processor.
 """
 import fcntl
 import hashlib
@@ -50,12 +51,12 @@ class Crate:
         self.needs = [crates[it] for it in named if it in crates]
         self.below = list(dict.fromkeys(it for need in self.needs for it in [*need.below, need]))
         self.of_kit = ["std", *(it for it in named if it not in crates)]
-        is_static, self.is_program = " staticlib" in head, (self.home / "src/main.rt").exists()
-        self.is_last = is_static or self.is_program
+        self.is_static, self.is_program = " staticlib" in head, (self.home / "src/main.rt").exists()
+        self.is_last = self.is_static or self.is_program
         self.is_module = name == sys.argv[1] and TARGET == WASM
         if self.is_module:
             self.home = self.without_malloc()
-        made = f"{name}.wasm" if self.is_module else name if self.is_program else f"lib{name}.a" if is_static else f"rlib/{name}.rlib"
+        made = f"{name}.wasm" if self.is_module else name if self.is_program else f"lib{name}.a" if self.is_static else f"rlib/{name}.rlib"
         self.made = self.home / "out" / (TARGET if self.is_last and TARGET != OWN else "") / made
         self.stamp, self.is_kept = self.made.parent / "built", any((self.home / "out/incremental").glob("*"))
         files = [it for part in ("src", "specs", "proofs") for it in (self.home / part).rglob("*") if it.is_file()]
@@ -84,7 +85,7 @@ class Crate:
         libraries = {it: RLIBS / f"{it}.rlib" for it in self.of_kit} | {it.name: it.made for it in self.needs}
         words += [word for name, at in libraries.items() for word in ("--extern", f"{name}={at}")]
         words += [word for it in (RLIBS, *(it.made.parent for it in self.below)) for word in ("-L", f"dependency={it}")]
-        words += ["--incremental", "out/incremental"] if self.is_kept else [] if self.is_last else ["--statements"]
+        words += ["--incremental", "out/incremental"] if self.is_kept or self.is_static else [] if self.is_last else ["--statements"]
         words += ["--target", TARGET, "--toolchain", TOOLCHAIN] if self.is_last else []
         if self.is_program:
             parts = [f"{self.made}.o", *C_CODE]

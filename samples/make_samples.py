@@ -1,6 +1,6 @@
 #!/usr/bin/env python3
-"""Writes the captures of this folder that show a day of an office network: day.pcap, mirror.pcap, ring.pcap0 to
-ring.pcap2, damaged.pcap, tagged.pcap and any.pcap. The addresses are those of RFC 1918, RFC 3849 and RFC 5737.
+"""Writes the captures of this folder: small ones that show a format each, and a day of an office network. The addresses are those
+of RFC 1918, RFC 3849 and RFC 5737.
 
 usage: make_samples.py [FOLDER]
 """
@@ -177,9 +177,64 @@ def write(path, packets, link=1):
             file.write(data)
 
 
+MICROSECONDS, NANOSECONDS = 0xA1B2C3D4, 0xA1B23C4D
+REQUEST = bytes.fromhex("ffffffffffff 001122334455 0806 0001 0800 06 04 0001 001122334455 0a000001 000000000000 0a000002")
+REPLY = bytes.fromhex("001122334455 66778899aabb 0806 0001 0800 06 04 0002 66778899aabb 0a000002 001122334455 0a000001")
+COOKED_SYN = bytes.fromhex("0000 0001 0006 001122334455 0000 0800 4500 0028 0001 0000 40 06 0000 0a000001 0a000002"
+                           "0400 0050 00000001 00000000 50 02 1000 0000 0000")
+COOKED_LLDP = bytes.fromhex("0000 0001 0006 001122334455 0000 88cc")
+
+
+def pcap(order, magic, records, link=1):
+    """A pcap file of records: seconds, fraction and bytes."""
+    yield struct.pack(order + "IHHIIII", magic, 2, 4, 0, 0, 262144, link)
+    for seconds, fraction, data in records:
+        yield struct.pack(order + "IIII", seconds, fraction, len(data), len(data)) + data
+
+
+def arp_pair(order, magic, fractions):
+    return b"".join(pcap(order, magic, zip((1_700_000_000, 1_700_000_001), fractions, (REQUEST, REPLY))))
+
+
+def block(order, kind, body):
+    size = 12 + len(body)
+    return struct.pack(order + "II", kind, size) + body + struct.pack(order + "I", size)
+
+
+def section(order, link):
+    """A section header of pcapng, and an interface."""
+    header = block(order, 0x0A0D0D0A, struct.pack(order + "IHH", 0x1A2B3C4D, 1, 0) + b"\xff" * 8)
+    return header + block(order, 1, struct.pack(order + "HHI", link, 0, 262144))
+
+
+def packet_block(order, ticks, data, comments=()):
+    """An enhanced packet with comments."""
+    options = b"".join(struct.pack("<HH", 1, len(it)) + it + bytes(-len(it) % 4) for it in comments)
+    return block(order, 6, struct.pack(order + "IIIII", 0, 0, ticks, 4, 4) + data + options + bytes(4 if comments else 0))
+
+
+def write_small(folder):
+    """The captures that show a format each."""
+    numbers = bytes([1, 2, 3, 4])
+    small = {
+        "four.pcap": b"".join(pcap("<", MICROSECONDS, [(n, 0, bytes([n] * n)) for n in numbers])),
+        "nanoseconds.pcap": arp_pair("<", NANOSECONDS, (999_999_999, 250_999)),
+        "big-endian.pcap": arp_pair(">", NANOSECONDS, (999_999_999, 250_999)),
+        "truncated.pcap": arp_pair("<", MICROSECONDS, (999_999, 250))[:-1],
+        "two-sections.pcapng": section("<", 1) + packet_block("<", 5, numbers)
+                               + section(">", 101) + packet_block(">", 6, bytes([5, 6, 7, 8])),
+        "cooked.pcap": b"".join(pcap("<", MICROSECONDS, [(1, 0, COOKED_SYN), (2, 0, COOKED_LLDP)], 113)),
+        "comments.pcapng": section("<", 1) + packet_block("<", 1, numbers, [b"a first look"]) + packet_block("<", 2, numbers)
+                           + packet_block("<", 3, numbers, [b"of two", b"the first"]),
+    }
+    for name, data in small.items():
+        (folder / name).write_bytes(data)
+
+
 def main():
     folder = pathlib.Path(sys.argv[1] if len(sys.argv) > 1 else __file__).resolve()
     folder = folder if folder.is_dir() else folder.parent
+    write_small(folder)
     packets = list(day())
     write(folder / "day.pcap", packets)
     # A mirror port sends each packet twice: as it comes in, and as it goes out.

@@ -8,7 +8,8 @@ usage: check_examples.py [--capkit PROGRAM] [--update] [PAGE..]
   it. Standard output and standard error are shown together.
 - The examples of one section run one after another in one shell, in their own folder, after the line of docs/RECIPES.md that
   sets up a checkout. Its line for a package must make the same files.
-- The examples of the manual pages must succeed on copies of samples/day.pcap, if jinja2 is installed.
+- The examples of the manual pages (if jinja2 is installed), and indented lines of pages that call capkit, must succeed on copies of
+  samples/day.pcap.
 - The expressions of the cookbook in docs/FILTER.md must compile.
 - any.sh must write the IP packets, and only these, of frames of each kind that `tcpdump -i any` has.
 
@@ -39,6 +40,7 @@ INSTALLED = "/usr/share/doc/capkit"
 LIBRARY = ROOT / "library" / "out" / "libcapkit_batch.so"
 # The displays of examples in a manual page, and the captures that they name.
 MANUAL_EXAMPLE = re.compile(r"^\.Bd -literal -offset indent\n((?:.*\n)*?)\.Ed$", re.MULTILINE)
+LINE_WITHOUT_OUTPUT = re.compile(r"^    ((?:set -o pipefail; )?capkit .*[^\\])$", re.MULTILINE)
 CAPTURE = re.compile(r"\b[\w-]+\.pcap(?:ng|\d)?(?:\.gz)?\b")
 # What is called by examples that need the library.
 NEEDS_LIBRARY = re.compile(r"\.\./teach/|import capkit")
@@ -161,8 +163,11 @@ def check_page(name, capkit, is_update):
     return len(changes)
 
 
-def manual_examples():
-    """The examples of the manual pages, each with its page; none without jinja2, by which the pages are made."""
+def commands_without_output():
+    """Indented lines of pages that call capkit, and the examples of the manual pages if jinja2 can make them; each with its page."""
+    for name in ["docs/RECIPES.md", "docs/RELIABILITY.md"]:
+        for line in LINE_WITHOUT_OUTPUT.findall((ROOT / name).read_text()):
+            yield name, line
     with tempfile.TemporaryDirectory() as temporary:
         made = subprocess.run([sys.executable, ROOT / "packaging" / "pages.py", temporary], stderr=subprocess.PIPE, text=True)
         if made.returncode:
@@ -172,10 +177,10 @@ def manual_examples():
                 yield page.name, display.replace(r"\(aq", "'").replace(r"\-", "-").replace(r"\e", "\\")
 
 
-def check_manual(capkit):
-    """Runs the examples of the manual pages over copies of day.pcap with the names that they use; returns how many fail."""
+def check_successes(capkit):
+    """Runs examples whose output isn't shown, over copies of day.pcap with the names that they use; returns how many fail."""
     count = failed = 0
-    for name, example in manual_examples():
+    for name, example in commands_without_output():
         with tempfile.TemporaryDirectory() as temporary:
             how = checkout(pathlib.Path(temporary), capkit)
             names = " ".join(set(CAPTURE.findall(example)))
@@ -184,7 +189,7 @@ def check_manual(capkit):
         count, failed = count + 1, failed + bool(done.returncode)
         if done.returncode:
             print(f"{name}: {example}\nstatus {done.returncode}: {done.stdout.decode(errors='replace')}")
-    print(f"manual pages: {count} examples, {failed} fail")
+    print(f"manual pages and lines without output: {count} examples, {failed} fail")
     return failed
 
 
@@ -207,7 +212,7 @@ def main():
     capkit = arguments.capkit or built_program()
     names = arguments.pages or [page for page in PAGES if (ROOT / page).exists()]
     wrong = sum(check_page(name, capkit, arguments.update) for name in names)
-    wrong += 0 if arguments.pages else check_manual(capkit) + check_cookbook(capkit)
+    wrong += 0 if arguments.pages else check_successes(capkit) + check_cookbook(capkit)
     if not same_set_up(capkit):
         wrong += 1
         print("docs/RECIPES.md: the two lines of the set-up don't leave the same files")

@@ -1,15 +1,16 @@
 #!/usr/bin/env python3
-"""Compares docs/inside/ with the sources, and lists each statement that is out of date with its page and line. The gate runs it.
+"""Compares pages with the sources, and lists each statement that is out of date with its page and line. The gate runs it.
 
 usage: check_model.py [CRATE..]      the first check only for these crates
 
 1. Each definition that a public function's contract cites has a comment. A function is public if other crates or C can name it.
-   A definition is in specs/ or specs/inside/ as meaning.py states, and CONTRACTS.md's table of lines has the right counts.
+   A definition is in specs/ or specs/inside/ as meaning.py states, and CONTRACTS.md's table of lines is about right.
 2. A contract in a fenced block of a page, and a clause in backquotes, is in src/ as it is shown; `..` is text that was left out.
 3. A field `Name.field` and a file exist; `path::name` is an item, in CONTRACTS' tables a public one; the clauses that
    CONTRACTS' rows name are those of the row's functions; and any other name in backquotes is a word of some source, edit or
    script. Words in capitals, such as NAME, are placeholders.
-4. No line of a proof file has over 160 columns.
+4. No line of a proof file has over 160 columns, and each file of src/, specs/ and proofs/ begins with a comment on what it is for.
+5. Each link of a page leads to a file, and to a section of a page if it names one.
 
 The status is 1 if something is listed.
 """
@@ -25,6 +26,7 @@ INSIDE = ROOT / "docs" / "inside"
 MOST_COLUMNS = 160
 FILE = re.compile(r"[\w./-]+\.(?:rt|antt|md|py|h|c|sh|txt|edit)")
 CLAUSE = re.compile(r"(?:requires|ensures)\*?\s+(\w+)\s*\{")
+FENCED = re.compile(r"^```.*?^```", re.MULTILINE | re.DOTALL)
 FIELD = re.compile(r"^\s*(?:pub )?(?:ghost )?(\w+)\s*:(?!:)", re.MULTILINE)
 # Programs of others that the pages name.
 FOREIGN = {"setsid", "taskset"}
@@ -45,16 +47,16 @@ def uncommented_definitions(sources, crates):
 
 
 def misplaced_definitions(sources):
-    """Yields the definitions of specs/ that no promise rests on, those of specs/inside/ that one does, and what CONTRACTS.md
-    counts otherwise."""
+    """Yields the definitions of specs/ that no promise rests on, those of specs/inside/ that one does, and numbers of CONTRACTS.md
+    that are over 2 % off."""
     meaning = Meaning(sources)
     for spec, name, is_believed in meaning.misplaced():
         what = "must be believed" if is_believed else "only helps proofs"
         yield f"{spec.path.relative_to(ROOT)}: {name} {what}"
     model = (INSIDE / "CONTRACTS.md").read_text()
-    for name, *shown in re.findall(r"^\| `?([\w: ]+)`? \| ([\d,]+) \| ([\d,]+) \|$", model, re.MULTILINE):
+    for name, *shown in re.findall(r"^\| `?([\w: ]+)`? \| about ([\d,]+) \| about ([\d,]+) \|$", model, re.MULTILINE):
         count, lines = figures(sources, meaning.closure_of(TOGETHER.get(name, [name])))
-        if shown != [f"{count:,}", f"{lines:,}"]:
+        if any(abs(int(number.replace(",", "")) - is_) > is_ / 50 for number, is_ in zip(shown, (count, lines))):
             yield f"docs/inside/CONTRACTS.md: {name} rests on {count:,} definitions of {lines:,} lines"
 
 
@@ -64,6 +66,30 @@ def long_lines():
         for number, line in enumerate(path.read_text().split("\n"), 1):
             if len(line) > MOST_COLUMNS:
                 yield f"{path.relative_to(ROOT)}:{number}: {len(line)} columns"
+
+
+def headless_files():
+    """Yields the files of crates that don't begin with a comment."""
+    for pattern in ("src/**/*.rt", "specs/**/*.antt", "proofs/**/*.antt"):
+        for path in sorted(ROOT.glob(f"crates/*/{pattern}")):
+            if not path.read_text().startswith(("--", "//")):
+                yield f"{path.relative_to(ROOT)}: no comment on what the file is for"
+
+
+def sections_of(page):
+    """The names by which links call the sections of a page."""
+    titles = re.findall(r"^#+ (.*)$", FENCED.sub("", page.read_text()), re.MULTILINE)
+    return {re.sub(r"[^\w -]", "", title.lower()).replace(" ", "-") for title in titles}
+
+
+def broken_links():
+    """Yields the links of pages that lead nowhere."""
+    for page in [it for pattern in ("*.md", "docs/**/*.md", "*/*.md", "*/*/README.md") for it in sorted(ROOT.glob(pattern))]:
+        for link in re.findall(r"\]\((?!https?:)([^)\s]+)\)", FENCED.sub("", page.read_text())):
+            path, _, section = link.partition("#")
+            to = page.parent / path if path else page
+            if not to.exists() or section and to.suffix == ".md" and section not in sections_of(to):
+                yield f"{page.relative_to(ROOT)}: {link} leads nowhere"
 
 
 def plain(text):
@@ -197,7 +223,7 @@ def main():
     sources = Sources()
     names = Names(Sources(left_out=()))
     faults = [*sources.unknown, *uncommented_definitions(sources, sys.argv[1:]), *misplaced_definitions(sources)]
-    faults += [*shown_contracts(sources), *long_lines()]
+    faults += [*shown_contracts(sources), *long_lines(), *broken_links(), *headless_files()]
     faults += [fault for page in sorted(INSIDE.glob("*.md")) for fault in stale_names(names, page.name)]
     print(*faults, sep="\n", end="\n" if faults else "")
     print(f"{len(faults)} faults")

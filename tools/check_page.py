@@ -10,6 +10,7 @@ Debian's packages chromium, chromium-driver and firefox-esr. The last line count
 """
 import argparse
 import base64
+import dataclasses
 import gzip
 import pathlib
 import random
@@ -33,7 +34,7 @@ import make_page
 import printing
 
 SAMPLES, HERE = ROOT / "samples", ROOT / "tools" / "page"
-MOST_BYTES, MANY = 200_000, 1_000_000
+MOST_BYTES, MANY, MOST_DRAWN = 200_000, 1_000_000, 300
 FIRST = "tcp port 80 or 443 and host 10.0.0.5"
 MARKUP = [
     b"<script>document.title = 'taken'</script>", b"</script><script>document.title = 'taken'</script>",
@@ -52,7 +53,7 @@ FILL = """((id, text) => {
 TEXTS = "[...document.querySelectorAll(arguments[0])].map((it) => it.textContent)"
 ROWS = """[...document.querySelectorAll(arguments[0] + " tr.ran")].map((row) => [...row.cells].map((cell) => cell.textContent))"""
 # The places of the bytes that are marked.
-MARKED = """[...document.querySelectorAll("#bytes mark")].map((mark) => {
+MARKED = """[...document.querySelectorAll(arguments[0])].map((mark) => {
   const range = document.createRange();
   range.setStart(document.getElementById("bytes"), 0);
   range.setEndBefore(mark);
@@ -61,24 +62,29 @@ MARKED = """[...document.querySelectorAll("#bytes mark")].map((mark) => {
 })"""
 PARTS = """[...document.querySelectorAll("#tree-0 li")].map((it) => [it.children[0].textContent, it.children[1].textContent])"""
 PROGRAM = """[...document.querySelectorAll("#rows-0 tr")].map((row) => `${row.cells[1].textContent} ${row.cells[2].textContent}`)"""
+# The marked boxes of a picture of ways, and the line of the marked ways.
+PICTURE = """[[...document.querySelectorAll(arguments[0] + " .on-way text")].map((it) => it.textContent.slice(0, 5)),
+  document.querySelector(arguments[0] + " path.on-way").getAttribute("d")]"""
 HANDLERS = """[...document.querySelectorAll("*")].filter((it) => [...it.attributes].some((a) =>
   /^on/i.test(a.name) || /javascript:/i.test(a.value))).length"""
 # A script, an image and a connection that are put into the page from elsewhere.
-TRIED = """(async () => {
+TRIED = """(async (address) => {
   const refused = [];
   document.addEventListener("securitypolicyviolation", (event) => refused.push(event.effectiveDirective));
   const script = document.createElement("script");
   script.textContent = "document.title = 'taken'";
   document.body.append(script);
   const image = document.createElement("img");
-  image.src = "http://127.0.0.1:9/";
+  image.src = address;
   document.body.append(image);
-  await fetch("http://127.0.0.1:9/").catch(() => {});
+  await fetch(address).catch(() => {});
   script.remove();
   image.remove();
   await new Promise((done) => setTimeout(done, 200));
   return refused.sort();
-})()"""
+})(arguments[0])"""
+# A page that may do so.
+OTHER = f"""<script>fetch("{browser.NOWHERE}").catch(() => {{ document.title = "asked"; }});</script><script>nothing();</script>"""
 
 
 def register(value):
@@ -95,6 +101,25 @@ def steps_of(listing, packet):
     return run.steps, verdict
 
 
+def drawn_ways(line):
+    """The ways that a line of the picture has: from which row to which, by the pixels of web/ways.js."""
+    ways = []
+    for piece in line.split("M")[1:]:
+        start, down, end = re.match(r"[\d.]+ ([\d.]+)(?:(v6)|H[\d.]+V([\d.]+)H)", piece).groups()
+        source = (float(start) - (28 if down else 21)) / 26
+        ways.append((source, source + 1 if down else (float(end) - 15) / 26))
+    return ways
+
+
+def goes_of(listing, steps):
+    """Which way each step of a run goes, if there are two."""
+    program, goes = machine.program_of(listing), []
+    for (index, _, _), (after, _, _) in zip(steps, steps[1:]):
+        code, jt, jf, _ = program[index]
+        goes.append(("yes" if after == index + 1 + jt else "no") if code & 7 == 5 and code != 5 and jt != jf else "")
+    return [*goes, ""]
+
+
 def verdict_of(text, packet):
     """What an expression says of a packet, by its definition."""
     try:
@@ -104,8 +129,17 @@ def verdict_of(text, packet):
         return REJECTED
 
 
-LOAD = re.compile(r"\((\d+)\) (ldh|ldb|ldxb|ld) +(?:4\*\()?\[(x \+ )?(\d+)\]")
+LINKS = {1: "Ethernet", 101: "raw IP", 113: "Linux cooked"}
+LOAD = re.compile(r"(ldh|ldb|ldxb|ld) +(?:4\*\()?\[(x \+ )?(\d+)\]")
 LOADED = {"ld": 4, "ldh": 2, "ldb": 1, "ldxb": 1}
+
+
+def places_of(text, x):
+    """The places of the bytes that an instruction loads."""
+    if not (load := LOAD.match(text)):
+        return range(0)
+    start = int(load[3]) + (x if load[2] else 0)
+    return range(start, start + LOADED[load[1]])
 
 
 class Page:
@@ -177,12 +211,19 @@ class Page:
         return None
 
     def same_file(self, capture, text, *words):
-        """Compares what is saved with what `capkit print -w` writes; if a damage comes before the first match, it writes none."""
-        made = self.folder / "made"
+        """Compares what is saved with what `capkit print -w` writes; that writes no file if it fails before the first match."""
+        made, what = self.folder / "made", f"saved: {pathlib.Path(capture).name} {text[:60]!r}"
         made.unlink(missing_ok=True)
         self.run("print", *words, "-w", made, capture, *([text] if text else []))
-        expected = made.read_bytes() if made.exists() else files.SECTION
-        self.true(f"saved: {pathlib.Path(capture).name} {text[:60]!r}", self.saved() == expected)
+        if made.exists():
+            self.true(what, self.saved() == made.read_bytes())
+            self.true(f"{what}: told", re.fullmatch(r"Saved [\d,]+ packets?\.", self.text("#saved-0")))
+        else:
+            before = set(self.folder.iterdir())
+            self.driver.click("#save-0")
+            self.true(f"{what}: told", self.text("#saved-0").startswith("Nothing is saved: "))
+            time.sleep(0.3)
+            self.equal(what, set(self.folder.iterdir()) - before, set())
 
 
 def check_packet(page, number, packet, listings):
@@ -194,19 +235,23 @@ def check_packet(page, number, packet, listings):
     lines = [line for line in page.text("#bytes").split("\n") if line and "not shown" not in line]
     shown = bytes.fromhex("".join(line[6:55] for line in lines))
     page.equal(f"{what}: bytes", shown, packet.data[:4096])
+    sizes = [f"{it:,} byte{'' if it == 1 else 's'}" for it in (len(packet.data), packet.original)]
+    page.equal(f"{what}: facts", page.texts("#facts dd")[:3], [*sizes, LINKS.get(packet.link, f"link type {packet.link}")])
     reasons, read = page.texts("#reasons .reason"), set()
     for place, (listing, reason) in enumerate(zip(listings, reasons)):
         steps, verdict = steps_of(listing, packet)
-        rows = page.value(ROWS, f"#rows-{place}")
-        expected = [[str(at), f"({index:03})", register(a), register(x)] for at, (index, a, x) in enumerate(steps, 1)]
-        page.equal(f"{what}: rows", [[row[0], row[1], row[4], row[5]] for row in rows], expected)
+        rows, goes = page.value(ROWS, f"#rows-{place}"), goes_of(listing, steps)
+        expected = [[str(at), f"({index:03})", register(a), register(x), way] for at, ((index, a, x), way) in enumerate(zip(steps, goes), 1)]
+        page.equal(f"{what}: rows", [[row[0], row[1], *row[4:7]] for row in rows], expected)
+        if len(machine.program_of(listing)) <= MOST_DRAWN:
+            indexes = [index for index, _, _ in steps]
+            boxes, line = page.value(PICTURE, f"#picture-{place}")
+            page.equal(f"{what}: boxes", boxes, [f"({it:03})" for it in sorted(set(indexes))])
+            page.equal(f"{what}: ways", drawn_ways(line), list(zip(indexes, indexes[1:])))
         page.true(f"{what}: {reason}", reason.startswith("It " + verdict) and reason.endswith(f" {len(steps):,} step{'s' * (len(steps) > 1)}."))
         for (_, _, x), row in zip(steps, rows):
-            load = LOAD.match(f"{row[1]} {row[2]}")
-            if load:
-                start = int(load[4]) + (x if load[3] else 0)
-                read |= set(range(start, start + LOADED[load[2]]))
-    page.equal(f"{what}: marks", page.value(MARKED), sorted(it for it in read if it < min(len(packet.data), 4096)))
+            read.update(places_of(row[2], x))
+    page.equal(f"{what}: marks", page.value(MARKED, "#bytes mark"), sorted(it for it in read if it < min(len(packet.data), 4096)))
 
 
 def check_parts(page, number, packet):
@@ -220,17 +265,44 @@ def listing_of(page, text, *words):
     return page.run("compile", *words, text)
 
 
+def check_picture(page, listing):
+    """Each way of a program is in the picture: the first jump to an instruction as a whole line, and later ones up to that line."""
+    wanted = set()
+    for index, (code, jt, jf, k) in enumerate(machine.program_of(listing)):
+        if code & 7 == 5:
+            ways = [("next", k)] if code == 5 else [("yes", jt), ("no", jf)] if jt != jf else [("next", jt)]
+            wanted |= {(way, index, index + 1 + by) for way, by in ways}
+        elif code & 7 != 6:
+            wanted.add(("next", index, index + 1))
+    lines = page.value("[...document.querySelectorAll('#picture-0 path:not(.on-way)')].map((it) => [it.getAttribute('class'), it.getAttribute('d')])")
+    shown, rails = set(), []
+    for way, line in lines:
+        if "H" not in line or "V" in line:
+            ((source, target),) = drawn_ways(line)
+            shown.add((way, source, target))
+            rails += [(way, line.split("H")[1].split("V")[0], source, target)] if "V" in line else []
+    for way, line in lines:
+        if "H" in line and "V" not in line:
+            start, rail = re.fullmatch(r"M[\d.]+ ([\d.]+)H([\d.]+)", line).groups()
+            source = (float(start) - 21) / 26
+            shown |= {(way, source, target) for *known, first, target in rails if known == [way, rail] and first < source < target}
+    page.equal("ways", shown, wanted)
+
+
 def check_day(page):
     """Each packet of a capture: its line, bytes, run, marks, parts and reason."""
     page.fill(FIRST)
     page.equal("meaning", page.text("#meaning-0"), "((tcp src or dst port 80) or (tcp src or dst port 443)) and (src or dst host 10.0.0.5)")
     page.equal("all", len(page.packets("all")), 44)
+    check_picture(page, listing_of(page, FIRST))
     day = files.Capture((SAMPLES / "day.pcap").read_bytes())
     for number, packet in enumerate(day.packets, 1):
         check_packet(page, number, packet, [listing_of(page, FIRST)])
         check_parts(page, number, packet)
     matching = [number for number, packet in enumerate(day.packets, 1) if verdict_of(FIRST, packet) == KEPT]
     page.equal("those that match", page.packets("+"), matching)
+    page.equal("those that don't", page.packets("-"), [it for it in range(1, 45) if it not in matching])
+    page.equal("version", page.text("#version"), (ROOT / "packaging" / "version").read_text().strip())
     page.true(page.text("#message-0"), page.text("#message-0").startswith(f"{len(matching)} of 44 packets match, in "))
     page.equal("their order and operands", [text for text, _ in page.value(PARTS)],
                ["and", "or", "tcp src or dst port 80", "tcp src or dst port 443", "src or dst host 10.0.0.5"])
@@ -349,10 +421,29 @@ def check_beside(page):
     listings = [listing_of(page, text) for text in (FIRST, other)]
     for number in differ:
         check_packet(page, number, day.packets[number - 1], listings)
+    made = page.folder / "made"
+    page.run("print", "-w", made, SAMPLES / "day.pcap", other)
+    page.true("filter B is saved", page.saved(1) == made.read_bytes())
     page.show("all")
     page.equal("marked", page.value("[...document.querySelectorAll('.differs')].map((it) => Number(it.id.slice(7)))"), differ)
     page.driver.click("#second")
     page.equal("one again", page.texts("h2")[1], "Filter")
+
+
+def check_steps(page):
+    """Steps by the buttons: the row that is framed, what it says, and the bytes that the step reads."""
+    page.fill(FIRST)
+    page.packets("all")
+    page.driver.click("#packet-5")
+    rows = page.value(ROWS, "#rows-0")
+    for button, order in (("#on", rows), ("#back", rows[-2::-1])):
+        for number, index, text, words, a, x, *_ in order:
+            page.driver.click(button)
+            page.equal(f"{button}: row", page.texts("tr.here > :first-child"), [number])
+            end = "" if words.endswith("?") else "."
+            page.equal(f"{button}: told", page.text("#step"), f"Step {number}. {index} {text}: {words}{end} Before it A is {a} and X is {x}.")
+            page.equal(f"{button}: in the picture", page.texts("#picture-0 .here text"), [f"{index} {text.split(' jt ')[0]}"])
+            page.equal(f"{button}: framed", page.value(MARKED, "#bytes mark.now"), [*places_of(text, int(x.split("= ")[-1]))])
 
 
 def check_captures(page):
@@ -375,8 +466,10 @@ def check_captures(page):
     page.true(told, f"0 of {ANY} packets match" in told and told.endswith(f"276, so {ANY} packets of it can't match"))
     page.packets("all")
     page.equal("told", page.text("#reasons .reason"), "It isn't filtered: its link type is 276.")
+    page.same_file(SAMPLES / "any.pcap", "tcp")
     page.fill("")
     page.equal("the empty expression", len(page.packets("+")), ANY)
+    check_mixed(page)
     page.sample("two-sections.pcapng")
     page.fill("ip")
     page.packets("all")
@@ -395,6 +488,29 @@ def check_captures(page):
         page.fill("")
         shown = [re.search(r"\d+  (.*)", line)[1] for line in page.texts("[role=option]")]
         page.equal("lines", shown, [printing.line(it).rstrip("\n") for it in capture.packets])
+
+
+def check_mixed(page):
+    """A packet of a link type without filters between two others: `capkit print` stops there, and the page goes on."""
+    first, other, last = files.Capture((SAMPLES / "day.pcap").read_bytes()).packets[4:7]
+    captures = {"mixed.pcapng": [first, dataclasses.replace(other, link=276), last], "others.pcapng": [first, last]}
+    for name, packets in captures.items():
+        writer = files.Writer("pcapng")
+        for packet in packets:
+            writer.put(packet)
+        write(page, name, b"".join(writer.pieces))
+    page.load(page.folder / "mixed.pcapng", 3)
+    page.fill("tcp")
+    page.true("told", page.text("#message-0").endswith("link type not filtered 276, so 1 packet of it can't match"))
+    page.equal("marks", page.packets("all") and page.texts("#list .mark"), ["✓", "–", "✓"])
+    made = page.folder / "made"
+    page.run("print", "-w", made, page.folder / "others.pcapng", "tcp")
+    page.true("the others are saved", page.saved() == made.read_bytes())
+    for number in (2, 1):
+        page.driver.click(f"#packet-{number}")
+    page.true("its run after that of another", page.value(ROWS, "#rows-0"))
+    page.fill("udp")
+    page.same_file(page.folder / "mixed.pcapng", "udp")
 
 
 def check_saved(page):
@@ -428,7 +544,7 @@ def check_hostile(page):
     page.equal("handlers", page.value(HANDLERS), 0)
     page.equal("scripts", page.value("[...document.scripts].filter((it) => it.type === '' && !it.src).length"), 1)
     page.equal("images and frames", page.texts("img,iframe,object,embed,link,base,form"), [])
-    page.equal("what is put in", page.value(TRIED), ["connect-src", "img-src", "script-src-elem"])
+    page.equal("what is put in", page.value(TRIED, browser.NOWHERE), ["connect-src", "img-src", "script-src-elem"])
     page.equal("title", page.value("document.title"), "capkit: filter a capture")
 
 
@@ -460,7 +576,8 @@ def check_keys(page):
     saved = {*page.folder.glob("day-filtered*.pcapng")} - before
     page.true("saved by the keyboard", saved and saved.pop().read_bytes() == made.read_bytes())
     tab_to(page, "show")
-    page.show("all")
+    page.driver.keys("a")
+    page.equal("all", page.value("document.getElementById('show').value"), "all")
     tab_to(page, "list")
     for key, number in (("Home", 1), ("ArrowDown", 2), ("PageDown", 12), ("ArrowUp", 11), ("End", 44), ("ArrowDown", 44), ("PageUp", 34)):
         page.driver.keys(key)
@@ -468,10 +585,10 @@ def check_keys(page):
     page.equal("active", page.value("document.getElementById('list').getAttribute('aria-activedescendant')"), "packet-34")
     for key, step in (("n", "1"), ("n", "2"), ("n", "3"), ("p", "2")):
         page.driver.keys(key)
-        page.equal(key, page.texts(".here > :first-child"), [step])
+        page.equal(key, page.texts("tr.here > :first-child"), [step])
     page.true(page.text("#step"), page.text("#step").startswith("Step 2. (001) jeq #0x800"))
     page.driver.keys("ArrowUp")
-    page.equal("another packet", page.texts(".here"), [])
+    page.equal("another packet", page.texts("tr.here"), [])
     page.value("document.querySelector('.skip').focus()")
     tab_to(page, "second")
     page.driver.keys("Enter")
@@ -486,6 +603,23 @@ def check_address(page):
     page.true("sample", page.text("#about").startswith("short.pcap"))
     page.value("location.hash = '#packet=8'")
     page.driver.wait("document.getElementById('packet').textContent === 'Packet 8'")
+    page.fill("udp or ip[8]=1")
+    page.driver.click("#packet-4")
+    link = page.value("document.getElementById('address').hash")
+    page = Page(page.driver, link)
+    page.equal("the link to what is shown", [page.text("#packet"), page.value("[...document.querySelectorAll('textarea')].map((it) => it.value)")],
+               ["Packet 4", ["udp or ip[8]=1", "not tcp port 80"]])
+    page.true("its sample", page.text("#about").startswith("short.pcap"))
+    page.load(SAMPLES / "day.pcap", 44)
+    page.true("a file has no link", page.value("document.getElementById('address').hidden"))
+
+
+LESSONS = {
+    "day.pcap": {"tcp port 80": 9, "arp": 2, "udp": 4, "icmp": 4, "tcp": 34, "ip6": 2, "ip6 and udp": 2, "not port 53": 40,
+                 "not port 53 and not tcp and not udp": 6, "host 10.0.0.5 and tcp port 80 or 443": 18,
+                 "host 10.0.0.5 and (tcp port 80 or 443)": 9, "tcp[13] & 2 = 0": 22, "not tcp[13] & 2 != 0": 32},
+    "short.pcap": {"tcp port 80": 0, "not tcp port 80": 10, "tcp port 80 or len < 60": 4, "len < 60 or tcp port 80": 34, "tcp": 34},
+}  # fmt: skip
 
 
 def check_lessons(page):
@@ -498,9 +632,11 @@ def check_lessons(page):
     for number, steps in ((1, 4), (3, 5), (5, 12), (6, 10)):
         page.driver.click(f"#packet-{number}")
         page.true("steps", page.text("#reasons .reason").endswith(f" {steps} steps."))
-    for text, count in (("tcp port 80", 9), ("arp", 2), ("udp", 4), ("icmp", 4), ("tcp", 34), ("ip6", 2), ("ip6 and udp", 2), ("not port 53", 40)):
-        page.fill(text)
-        page.equal(text, len(page.packets("+")), count)
+    for sample, counts in LESSONS.items():
+        page.sample(sample)
+        for text, count in counts.items():
+            page.fill(text)
+            page.equal(f"{sample}: {text}", len(page.packets("+")), count)
     page.driver.click("#second")
     ten = [1, 2, 3, 4, 14, 15, 16, 17, 34, 35]
     for sample, one, other, differ in (
@@ -519,9 +655,31 @@ def check_lessons(page):
     page.driver.click(f"#packet-{rejected[0]}")
     for reason in page.texts("#reasons .reason"):
         page.true(reason, "it loads bytes 34 to 35, counted from 0, and 30 were captured" in reason)
+    check_third_lesson(page)
     page.driver.click("#second")
     page.sample("day.pcap")
     check_words(page)
+
+
+def check_third_lesson(page):
+    """Listings side by side: tcpdump's before its optimizer and after it, and one without the test for later fragments."""
+    page.sample("day.pcap")
+    for place in (0, 1):
+        page.fill("listing", place, "kind")
+    for text, differ in (("tcp port 80", 0), ("ip[100] = 1 or ip[100] != 1", 37)) if shutil.which("tcpdump") else ():
+        for place, options in enumerate((["-O"], [])):
+            theirs = subprocess.run(["tcpdump", "-y", "EN10MB", *options, "-ddd", text], capture_output=True, check=True).stdout
+            page.fill(theirs.decode(), place)
+        page.equal(f"the listings of {text}", len(page.packets("differ")), differ)
+    lines = listing_of(page, "tcp port 80").decode().splitlines()
+    page.fill("\n".join(["18", lines[1], "21 0 7 2048", lines[3], "21 0 13 6", *lines[7:], ""]), 1)
+    page.fill("expression", 0, "kind")
+    page.fill("tcp port 80")
+    page.equal("without the test, whole packets", page.packets("differ"), [])
+    fragment = bytearray((SAMPLES / "day.pcap").read_bytes())
+    fragment[410:412] = 0, 1
+    page.load(write(page, "fragment.pcap", fragment), 44)
+    page.equal("a fragment", page.packets("differ"), [5])
 
 
 WORDS = [
@@ -574,6 +732,8 @@ def check_many(page):
     page.true(page.text("#shown"), page.text("#shown").endswith("of which 1 to 1,000 are listed"))
     page.driver.click("#later")
     page.true(page.text("#shown"), page.text("#shown").endswith("of which 1,001 to 2,000 are listed"))
+    page.driver.click("#earlier")
+    page.true(page.text("#shown"), page.text("#shown").endswith("of which 1 to 1,000 are listed"))
     page.value("document.getElementById('list').focus()")
     page.driver.keys("End")
     last = page.text("#packet")
@@ -615,6 +775,15 @@ def check_long(page):
     page.driver.wait("document.getElementById('count-0').textContent.includes('of which the table has those that run')")
     page.packets("all")
     check_packet(page, 5, day.packets[4], [listing_of(page, text)])
+    long = files.Packet(1, 0, b"", 10**9, 5000, bytes(it % 251 for it in range(5000)))
+    writer = files.Writer("pcapng")
+    writer.put(long)
+    page.load(write(page, "long.pcapng", b"".join(writer.pieces)), 1)
+    page.packets("all")
+    page.true("the rest is told", page.text("#bytes").endswith("\n904 more bytes, not shown here\n"))
+    page.fill("ether[4095] = 79 and ether[4999] = 230")
+    check_packet(page, 1, long, [listing_of(page, "ether[4095] = 79 and ether[4999] = 230")])
+    page.sample("day.pcap")
     memory = "ip[2:2] - ((ip[0] & 0xf) << 2) > tcp[12] >> 2"
     page.fill(memory)
     page.packets("all")
@@ -622,14 +791,33 @@ def check_long(page):
     page.true("words of memory", any("M[" in row[7] for row in page.value(ROWS, "#rows-0")))
 
 
+def check_drop(page):
+    """Captures are dropped on the page: one, a damaged one, two at once; or not dropped."""
+    where = page.value("location.href")
+    for dragged in (["cooked.pcap"], ["damaged.pcap"], ["tagged.pcap", "day.pcap"]):
+        paths, name = [SAMPLES / it for it in dragged], dragged[0]
+        page.value("document.getElementById('about').textContent = ''")
+        page.driver.drag("dragover", *paths)
+        page.equal("it is seen that it can be dropped", page.value("document.body.classList.contains('dropping')"), True)
+        page.driver.drag("drop", *paths)
+        page.driver.wait("document.getElementById('about').textContent.includes('packet')")
+        about = page.text("#about")
+        page.true(about, about.startswith(f"{name}: {(SAMPLES / name).stat().st_size:,} bytes, "))
+        page.equal("the others", about.endswith("; of 2 files only this one is opened"), len(dragged) > 1)
+        page.equal("its packets", len(page.packets("all")), len(files.Capture((SAMPLES / name).read_bytes()).packets))
+        page.equal("no mark is left", page.value("document.body.classList.contains('dropping')"), False)
+    page.driver.drag("dragover", SAMPLES / "day.pcap")
+    page.value("document.body.dispatchEvent(new DragEvent('dragleave', { bubbles: true, cancelable: true }))")
+    page.equal("taken away", [page.text("#about"), page.value("document.body.classList.contains('dropping')")], [about, False])
+    page.equal("the page stays", page.value("location.href"), where)
+
+
 TRAP = "guarded(() => capkit.calls.capkit_text(1, 1n << 40n, 9n))()"
 
 
 def check_trap(page):
     """A module that trapped is replaced."""
-    if isinstance(page.driver, browser.Firefox):
-        return
-    page.value(TRAP)
+    page.driver.inside(TRAP)
     page.driver.wait("document.getElementById('about').className.includes('bad')")
     page.true(page.text("#about"), page.text("#about").endswith("open the capture again"))
     page.sample("day.pcap")
@@ -641,26 +829,16 @@ FOCUS = """(() => {
   const it = document.activeElement, style = getComputedStyle(it);
   return [it.id || it.className, style.outlineStyle !== "none" && parseFloat(style.outlineWidth) >= 2];
 })()"""
-REACHED = """[...document.querySelectorAll('a[href],select,input,textarea,button:not(:disabled),[tabindex="0"]')]
-  .filter((it) => it.getClientRects().length).map((it) => it.id || it.className)"""
-
-
-def unnamed(driver):
-    """What can have the focus and has no name, in the tree that a screen reader is given."""
-    driver.call("Accessibility.enable")
-    found = []
-    for node in driver.call("Accessibility.getFullAXTree")["nodes"]:
-        properties = {it["name"]: it["value"].get("value") for it in node.get("properties", [])}
-        role, name = (node.get(it, {}).get("value", "") for it in ("role", "name"))
-        if properties.get("focusable") and role != "RootWebArea" and not str(name).strip():
-            found.append(role)
-    return found
+FOCUSABLE = 'a[href],select,input,textarea,button:not(:disabled),[tabindex="0"]'
+# The window's width, whether it is dark, and by how much the page is wider.
+SEEN = """(({ scrollWidth, clientWidth }) => [innerWidth, matchMedia("(prefers-color-scheme: dark)").matches, scrollWidth - clientWidth])(
+  document.documentElement)"""
+# The names of those that are shown, and "" for each other one.
+REACHED = """[...document.querySelectorAll(arguments[0])].map((it) => (it.getClientRects().length ? it.id || it.className : ""))"""
 
 
 def check_forms(page):
     """Light and dark, 320 to 1,300 pixels, on paper; names, order, focus and contrast of its elements."""
-    if isinstance(page.driver, browser.Firefox):
-        return
     driver, script = page.driver, (HERE / "access.js").read_text()
     for text, beside in ((FIRST, None), (FIRST, "ip[2:2] - ((ip[0] & 0xf) << 2) > tcp[12] >> 2")):
         page.fill(text)
@@ -677,12 +855,14 @@ def check_forms(page):
                 found = page.value(script)
                 page.equal(f"{scheme}, {width}: rules", found["broken"] + found["contrast"], [])
                 Page.count += found["rules"]
-                page.equal(f"{width}: as wide as its window", page.value("document.documentElement.scrollWidth"), width)
+                page.equal(f"{scheme}, {width}: as it is asked for", page.value(SEEN), [width, scheme == "dark", 0])
                 if page.pictures:
-                    (page.pictures / f"{'two' if beside else 'one'}-{scheme}-{width}.png").write_bytes(driver.picture())
+                    name = f"{type(driver).__name__}-{'two' if beside else 'one'}-{scheme}-{width}.png"
+                    (page.pictures / name).write_bytes(driver.picture())
         driver.size(1300, 1000)
-        page.equal("names", unnamed(driver), [])
-        wanted, met = page.value(REACHED), []
+        reached = page.value(REACHED, FOCUSABLE)
+        page.equal("names", [it for it, name in zip(reached, driver.names(FOCUSABLE)) if it and not name.strip()], [])
+        wanted, met = list(filter(None, reached)), []
         page.value("document.querySelector('.skip').focus({ focusVisible: true })")
         for place in range(len(wanted)):
             driver.keys(*["Tab"] * bool(place))
@@ -692,16 +872,19 @@ def check_forms(page):
         page.equal("the order of Tab", met, wanted)
         driver.media("print")
         page.equal("on paper", page.value("['.control', '.list'].filter((it) => getComputedStyle(document.querySelector(it)).display !== 'none')"), [])
-        page.true("pages", len(driver.call("Page.printToPDF")["data"]) > 10_000)
+        page.true("pages", len(driver.printed()) > 10_000)
         driver.media("")
 
 
 def check_quiet(page):
-    """Nothing was fetched, and no page had an error or a warning, in all that went before."""
-    if isinstance(page.driver, browser.Chromium):
-        page.equal("fetched", [it for it in page.driver.fetched() if "127.0.0.1:9" not in it], [])
-        expected = re.compile("Content Security Policy|127.0.0.1:9|violates the following")
-        page.equal("faults", [it for it in page.driver.faults() if not expected.search(it)], [])
+    """Nothing was fetched, and no page had an error or a warning, in all that went before; what another page does is noticed."""
+    page.equal("fetched", page.driver.fetched(), [])
+    expected = re.compile("Content.Security.Policy|violates the following")
+    page.equal("faults", [it for it in page.driver.faults() if not expected.search(it)], [])
+    page.driver.open(write(page, "other.html", OTHER.encode()))
+    page.driver.wait("document.title === 'asked'")
+    page.equal("another page fetches", page.driver.fetched(), [browser.NOWHERE])
+    page.true("another page's fault", any("nothing is not defined" in it for it in page.driver.faults()))
 
 
 # ---- what needs no browser, and the calls of the module
@@ -760,8 +943,8 @@ def check_calls(page, path):
     page.equal("calls that differ", differ[:5], [])
 
 
-PARTS_OF_IT = [check_day, check_refused, check_listing, check_beside, check_captures, check_saved, check_hostile, check_keys, check_address,
-               check_lessons, check_long, check_trap, check_forms, check_many, check_quiet]  # fmt: skip
+PARTS_OF_IT = [check_day, check_refused, check_listing, check_beside, check_steps, check_captures, check_saved, check_hostile, check_keys, check_address,
+               check_lessons, check_long, check_drop, check_trap, check_forms, check_many, check_quiet]  # fmt: skip
 
 
 def main():

@@ -204,8 +204,9 @@ function openCapkit(calls) {
         if (told === CAPKIT.WRITTEN) return '';
       }
     }
-    // The packets that match, as the pieces of a pcapng file, with the names of their interfaces and their comments.
-    function write(kept) {
+    // The packets that match, as the pieces of a pcapng file, with the names of their interfaces and their comments. As the program
+    // does, it writes no file without packets if some couldn't be read or filtered.
+    function write(kept, isWhole) {
       const pieces = [], file = { used: 0, flush() { pieces.push(bytes(at.out, file.used).slice()); file.used = 0; } };
       begin();
       bytes(at.writer, LAYOUT.capkit_writer.bytes).fill(0);
@@ -213,7 +214,10 @@ function openCapkit(calls) {
         const refusal = kept[i] ? put(packet(i), file) : '';
         if (refusal) return { pieces: [], refusal: `packet ${i + 1}: ${refusal}` };
       }
-      if (!file.used && !pieces.length && calls.capkit_write_section(at.out, room, at.number) === CAPKIT.WRITTEN) file.used = number();
+      if (!file.used && !pieces.length) {
+        if (status !== CAPKIT.END || !isWhole) return { pieces, refusal: `no packet that can be ${isWhole ? 'read' : 'filtered'} matches` };
+        if (calls.capkit_write_section(at.out, room, at.number) === CAPKIT.WRITTEN) file.used = number();
+      }
       file.flush();
       return { pieces, refusal: '' };
     }

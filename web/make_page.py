@@ -16,7 +16,7 @@ import sys
 
 HERE = pathlib.Path(__file__).resolve().parent
 SAMPLES = HERE.parent / "samples"
-SCRIPTS = ["capkit.js", "words.js", "tree.js", "page.js"]
+SCRIPTS = ["capkit.js", "words.js", "tree.js", "ways.js", "page.js"]
 SHOWN = ["day.pcap", "comments.pcapng", "cooked.pcap", "two-sections.pcapng", "damaged.pcap"]
 SHORT, CUT = "short.pcap", 30
 

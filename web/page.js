@@ -92,6 +92,7 @@ function nameSides() {
     parts.title.textContent = letterOf(place, '') || 'Filter';
     parts.parts.textContent = letterOf(place, ': its parts') || 'Its parts';
     run.program.textContent = letterOf(place, ': the program') || 'The program';
+    run.ways.textContent = letterOf(place, ': the ways through it') || 'The ways through it';
   });
   $('second').setAttribute('aria-pressed', sides.length > 1);
   const option = $('show').querySelector('[value=differ]');
@@ -212,7 +213,7 @@ function match(side) {
 const differences = () => Array.from(sides[0].kept.keys()).filter((i) => sides[0].kept[i] !== sides[1].kept[i]);
 
 function save(side) {
-  const { pieces, refusal } = capture.write(side.kept);
+  const { pieces, refusal } = capture.write(side.kept, !side.unread.size);
   if (refusal) return say(side.parts.saved, `Nothing is saved: ${refusal}`, true);
   const link = made('a');
   link.href = URL.createObjectURL(new Blob(pieces, { type: 'application/octet-stream' }));
@@ -325,6 +326,14 @@ function showPacket() {
   showFacts(it, i);
   showReasons(it);
   showStep();
+  showAddress(i);
+}
+
+// The address of the page with the sample, the expressions and the packet that are shown.
+function showAddress(i) {
+  const texts = sides.map(({ parts }) => parts.text.value), named = { sample: $('sample').value, filter: texts[0] };
+  $('address').hidden = !named.sample || sides.some(({ listing }) => listing);
+  $('address').href = `#${new URLSearchParams({ ...named, ...(sides.length > 1 && { with: texts[1] }), ...(i !== undefined && { packet: i + 1 }) })}`;
 }
 
 function showFacts(it, i) {
@@ -402,8 +411,9 @@ function rowOf({ instructions, glosses }, index) {
 function showProgram(side) {
   const { run, look, trace } = side, states = trace?.states ?? [];
   if (!look) {
-    side.rows = new Map();
+    Object.assign(side, { rows: new Map(), picture: undefined, shownLook: undefined });
     run.rows.replaceChildren();
+    run.picture.replaceChildren();
     run.count.textContent = 'No filter is compiled for the link type of the packet.';
     return;
   }
@@ -415,9 +425,12 @@ function showProgram(side) {
     side.rows = new Map(indexes.map((index) => [index, rowOf(look, index)]));
     run.rows.replaceChildren(...side.rows.values());
     run.rows.parentElement.classList.toggle('without-memory', !look.instructions.some(usesMemory));
+    side.picture = length > MOST_DRAWN ? undefined : waysPicture(look.instructions);
+    run.picture.replaceChildren(side.picture?.svg ?? made('p', 'It has too many instructions to draw.'));
     side.shownLook = look;
   }
   fillRows(side, states);
+  side.picture?.mark(states);
 }
 
 const GOES = { yes: 'yes', no: 'no', next: '' };
@@ -474,9 +487,10 @@ function showStep() {
     const state = trace?.states[step], row = state && rows.get(state.index);
     row?.classList.add('here');
     row?.scrollIntoView(NEAREST);
+    sides[place].picture?.frame(state?.index);
     if (state) {
       const { text } = look.glosses[state.index], insn = look.instructions[state.index].text.replace(/\s+/g, ' ');
-      told.push(`${letterOf(place, ': ')}${insn}: ${text}. Before it A is ${register(state.a)} and X is ${register(state.x)}.`);
+      told.push(`${letterOf(place, ': ')}${insn}: ${text}${text.endsWith('?') ? '' : '.'} Before it A is ${register(state.a)} and X is ${register(state.x)}.`);
     }
   });
   say($('step'), step < 0 ? '' : `Step ${step + 1}. ${told.join(' ')}`);
@@ -512,11 +526,12 @@ const guarded = (action) => async (event) => {
     await start();
   }
 };
-const load = async (file) => {
+const load = async ([file, ...others]) => {
   if (!file) return;
   $('sample').value = '';
   say($('about'), `${visible(file.name)}: it is read`);
   open(new Uint8Array(await file.arrayBuffer()), file.name);
+  if (others.length) say($('about'), `${$('about').textContent}; of ${others.length + 1} files only this one is opened`, true);
 };
 const sample = async (name) => {
   $('sample').value = name;
@@ -543,7 +558,7 @@ function choosePacket(i) {
 
 const listen = (id, event, action) => $(id).addEventListener(event, guarded(action));
 function listenToAll() {
-  listen('file', 'change', () => load($('file').files[0]));
+  listen('file', 'change', () => load($('file').files));
   listen('sample', 'change', () => $('sample').value && sample($('sample').value));
   listen('second', 'click', () => capture && compare());
   listen('show', 'change', () => capture && list());
@@ -563,7 +578,7 @@ function listenToAll() {
   for (const kind of ['dragover', 'dragleave', 'drop']) {
     document.addEventListener(kind, (event) => { event.preventDefault(); document.body.classList.toggle('dropping', kind === 'dragover'); });
   }
-  document.addEventListener('drop', guarded((event) => load(event.dataTransfer.files[0])));
+  document.addEventListener('drop', guarded((event) => load(event.dataTransfer.files)));
   window.addEventListener('hashchange', guarded(follow));
 }
 

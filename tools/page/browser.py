@@ -21,6 +21,8 @@ import urllib.request
 
 ELEMENT = "element-6066-11e4-a52e-4f735466cecf"
 SECONDS = 120
+# An address at which nothing listens, for pages that try to fetch something.
+NOWHERE = "http://127.0.0.1:8099/"
 # Of a machine without a display, and of root, whose processes Chromium doesn't put into a sandbox.
 OPTIONS = ["--headless=new", "--no-sandbox", "--disable-gpu", "--disable-background-networking", "--hide-scrollbars", "--force-color-profile=srgb"]
 KEYS = {"Tab": "\ue004", "Enter": "\ue007", "Space": " ", "PageUp": "\ue00e", "PageDown": "\ue00f", "End": "\ue010", "Home": "\ue011",
@@ -99,6 +101,15 @@ class Browser:
         found = self.send("element", "WebDriver:FindElement", using="css selector", value=selector)
         self.send(f"element/{found[ELEMENT]}/{name}", marionette, id=found[ELEMENT], **parameters)
 
+    def names(self, selector):
+        """What a screen reader calls these elements."""
+        found = self.send("elements", "WebDriver:FindElements", using="css selector", value=selector)
+        return [self.name(it[ELEMENT]) for it in found]
+
+    def printed(self):
+        """The page on paper, as a PDF file."""
+        return base64.b64decode(self.send("print", "WebDriver:Print"))
+
 
 class Chromium(Browser):
     def command(self):
@@ -115,7 +126,10 @@ class Chromium(Browser):
         self.size(1300, 1000)
 
     def post(self, path, **parameters):
-        request = urllib.request.Request(self.at + path, json.dumps(parameters).encode(), {"Content-Type": "application/json"})
+        return self.ask(path, json.dumps(parameters).encode())
+
+    def ask(self, path, data=None):
+        request = urllib.request.Request(self.at + path, data, {"Content-Type": "application/json"})
         try:
             with urllib.request.urlopen(request, timeout=2 * SECONDS) as answer:
                 return json.load(answer)["value"]
@@ -148,21 +162,66 @@ class Chromium(Browser):
     def fetched(self):
         """The addresses that pages asked for since this was asked last, but files and what they made themselves."""
         events = [json.loads(it["message"])["message"] for it in self.log("performance")]
-        asked = [it["params"]["request"]["url"] for it in events if it["method"] == "Network.requestWillBeSent"]
-        return [it for it in asked if not it.startswith(("file:", "blob:", "about:", "data:", "chrome:"))]
+        blocked = {it["params"]["requestId"] for it in events if it["params"].get("blockedReason") == "csp"}
+        asked = [it["params"] for it in events if it["method"] == "Network.requestWillBeSent" and it["params"]["requestId"] not in blocked]
+        return [url for it in asked if not (url := it["request"]["url"]).startswith(("file:", "blob:", "about:", "data:", "chrome:"))]
+
+    def name(self, element):
+        return self.ask(f"/element/{element}/computedlabel")
+
+    def inside(self, expression):
+        """Evaluates an expression among the page's own constants."""
+        self.value(expression)
+
+    def drag(self, kind, *paths):
+        """Drags files over the page ("dragover"), or drops them there ("drop")."""
+        files = {"items": [], "files": [str(pathlib.Path(it).resolve()) for it in paths], "dragOperationsMask": 1}
+        for it in {"dragover": ["dragEnter", "dragOver"], "drop": ["drop"]}[kind]:
+            self.call("Input.dispatchDragEvent", type=it, x=300, y=300, data=files)
 
     def picture(self):
         return base64.b64decode(self.call("Page.captureScreenshot", format="png", captureBeyondViewport=True)["data"])
 
 
 class Firefox(Browser):
+    # Scripts of the browser itself. The first one notes what pages fetch, and their errors and warnings.
+    WATCH = """
+      window.fetched = [];
+      window.faults = [];
+      const fetching = ({ URI, loadInfo }) => { if (!loadInfo.triggeringPrincipal.isSystemPrincipal) window.fetched.push(URI.spec); };
+      const told = (it) => { if (/javascript|Security|CORS/.test(it.category) && !/chrome/.test(it.category)) window.faults.push(it.errorMessage); };
+      Services.obs.addObserver({ observe: (it) => fetching(it.QueryInterface(Ci.nsIHttpChannel)) }, "http-on-opening-request");
+      Services.console.registerListener({ observe: (it) => { if (it instanceof Ci.nsIScriptError) told(it); } });
+    """
+    SIZE = """
+      Object.assign(gBrowser.selectedBrowser.style, { flex: "none", minWidth: "0", width: `${arguments[0]}px`, height: `${arguments[1]}px` });
+    """
+    MEDIA = """
+      Object.assign(gBrowser.selectedBrowser.browsingContext, { mediumOverride: arguments[0], prefersColorSchemeOverride: arguments[1] || "none" });
+    """
+    INSIDE = """
+      const { addDebuggerToGlobal } = ChromeUtils.importESModule("resource://gre/modules/jsdebugger.sys.mjs");
+      addDebuggerToGlobal(globalThis);
+      new Debugger().addDebuggee(window).executeInGlobal(arguments[0]);
+    """
+    # The page gets the event of a drag, with the files of a chooser that is made for it.
+    CHOOSER = """document.body.append(Object.assign(document.createElement("input"), { type: "file", id: "dragged", multiple: true }))"""
+    DRAG = """((kind) => {
+      const chooser = document.getElementById("dragged"), dataTransfer = new DataTransfer();
+      for (const file of chooser.files) dataTransfer.items.add(file);
+      chooser.remove();
+      const event = new DragEvent(kind, { dataTransfer, bubbles: true, cancelable: true });
+      return document.elementFromPoint(300, 300).dispatchEvent(event);
+    })(arguments[0])"""
+
     def command(self):
         wanted = {"marionette.port": self.port, "browser.download.dir": str(self.folder), "browser.download.folderList": 2,
                   "browser.helperApps.neverAsk.saveToDisk": "application/octet-stream", "browser.download.alwaysOpenPanel": False,
                   "browser.shell.checkDefaultBrowser": False, "datareporting.policy.dataSubmissionEnabled": False}  # fmt: skip
         lines = "".join(f"user_pref({json.dumps(name)}, {json.dumps(value)});\n" for name, value in wanted.items())
         pathlib.Path(self.profile, "user.js").write_text(lines)
-        return [shutil.which("firefox-esr") or shutil.which("firefox") or "firefox-esr", "--headless", "--marionette", "--profile", self.profile]
+        words = ["--headless", "--marionette", "--remote-allow-system-access", "--profile", self.profile]
+        return [shutil.which("firefox-esr") or shutil.which("firefox") or "firefox-esr", *words]
 
     def begin(self):
         self.count, self.socket = 0, self.again(lambda: socket.create_connection(("127.0.0.1", self.port), timeout=2 * SECONDS))
@@ -171,6 +230,7 @@ class Firefox(Browser):
         self.send("", "WebDriver:NewSession", capabilities={})
         self.send("", "WebDriver:SetTimeouts", script=1000 * SECONDS, pageLoad=1000 * SECONDS)
         self.send("", "WebDriver:SetWindowRect", width=1300, height=1000)
+        self.own(self.WATCH)
 
     def message(self):
         size = b""
@@ -186,3 +246,45 @@ class Firefox(Browser):
         if error:
             raise RuntimeError(error["message"])
         return result.get("value") if isinstance(result, dict) and set(result) == {"value"} else result
+
+    def own(self, script, *arguments):
+        """Runs a script of the browser's own window."""
+        self.send("", "Marionette:SetContext", value="chrome")
+        try:
+            return self.send("", "WebDriver:ExecuteScript", script=script, args=list(arguments))
+        finally:
+            self.send("", "Marionette:SetContext", value="content")
+
+    def size(self, width, height):
+        """Sets how large the page's window is."""
+        self.own(self.SIZE, width, height)
+        self.wait("innerWidth === arguments[0] && innerHeight === arguments[1]", width, height)
+
+    def media(self, name="", scheme=""):
+        """For what the page is laid out, as "print"; and what its reader prefers, as "dark"."""
+        self.own(self.MEDIA, name, scheme)
+
+    def faults(self):
+        """Errors and warnings of pages since this was asked last."""
+        return self.own("return window.faults.splice(0)")
+
+    def fetched(self):
+        """The addresses that pages asked for since this was asked last, but files and what they made themselves."""
+        return self.own("return window.fetched.splice(0)")
+
+    def name(self, element):
+        return self.send("", "WebDriver:GetComputedLabel", id=element)
+
+    def inside(self, expression):
+        """Evaluates an expression among the page's own constants."""
+        self.send("", "WebDriver:ExecuteScript", script=self.INSIDE, args=[expression], sandbox="system")
+
+    def drag(self, kind, *paths):
+        """Drags files over the page ("dragover"), or drops them there ("drop")."""
+        self.value(self.CHOOSER)
+        self.type("#dragged", "\n".join(str(pathlib.Path(it).resolve()) for it in paths))
+        if self.value(self.DRAG, kind):
+            raise RuntimeError("the page leaves the files to the browser, which opens them")
+
+    def picture(self):
+        return base64.b64decode(self.send("", "WebDriver:TakeScreenshot", full=True))

@@ -71,7 +71,7 @@ def expressions(chance, count):
                 text[chance.randrange(len(text))] = chance.randrange(256)
             yield bytes(text)
         process.terminate()
-    yield from (b"", b"tcp prot", "é".encode(), b"tcp port 80", b"len << 3 > 100", b"9" * 30, b"(" * 200 + b"tcp" + b")" * 200)
+    yield from (b"", b"tcp prot", "é".encode(), b"tcp port 80", b"ip[0:4] / ip[4] = 3", b"len << 3 > 100", b"9" * 30, b"(" * 200 + b"tcp" + b")" * 200)
 
 
 def call_compiler(calls, chance):
@@ -160,7 +160,7 @@ def main(library, out, seed=1):
         calls = Calls(library, file)
         programs = call_compiler(calls, chance)
         call_programs(calls, chance, programs)
-        for data in [*samples, *(compare.damaged(chance, chance.choice(samples)) for _ in range(120))]:
+        for data in [*samples, *(compare.damaged(chance, chance.choice(samples)) for _ in range(130))]:
             call_reader(calls, chance, programs, data)
             call_search(calls, chance, programs, data)
         for number in range(300):

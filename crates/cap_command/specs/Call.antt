@@ -1,4 +1,4 @@
--- A call of a run, and what it hands back.
+-- The arguments of a run, and what it returns of them.
 use Rattle.std.specs.Prelude.{ℕ, Bool, List}
 use Rattle.cap_octet.specs.Views.{FreshInput, FreshOutput, OutputView}
 

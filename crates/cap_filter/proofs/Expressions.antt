@@ -1,4 +1,4 @@
--- Which texts are expressions, by what the parts of the compiler say of them.
+-- A text is an expression, or is refused for a reason, if lexer, parser and checks together say so.
 use Rattle.cap_filter.proofs.Common.{◌≡◌, ◌≢◌, ◌↔◌, ◌⊎◌, inl, inr, List, ℕ, None, Some, Result, Ok, Err, ◌∙◌, sym, ap, Token, Tokens, Expression}
 use Rattle.std.specs.Result.{IfOk, IfErr}
 use Rattle.flt_words.specs.declared.fault.ExprFault.{ExprFault}

@@ -1,4 +1,4 @@
--- Which texts are expressions and which are programs, and why others are refused.
+-- Which texts are expressions, which programs are valid, and why others are refused.
 use Rattle.std.specs.Prelude.{◌≡◌, ◌⊎◌, List, ℕ, None, Some, Ok, Err}
 use Rattle.flt_words.specs.{Tokens.Tokens, declared.fault.ExprFault.ExprFault, declared.token.Token.Token}
 use Rattle.flt_ast.specs.{Checks.check_fault, Filled.fill_expression, Resolved.fill_fault, Tree.Expression}

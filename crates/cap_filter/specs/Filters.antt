@@ -1,4 +1,5 @@
--- What a contract sees of a filter: its rule and its programs, and what their runs cost.
+-- What contracts see of a filter: its rule, its programs, and how many instructions their runs
+-- execute.
 use Rattle.std.specs.List.{position}
 use Rattle.std.specs.Prelude.{◌≡◌, ◌==◌, ℕ, List, [], ◌∷◌, All, length, Option, None, Some}
 use Rattle.cap_octet.specs.{Link.all_links, Link.link_type, Packet.Captured}

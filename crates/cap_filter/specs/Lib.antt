@@ -1,3 +1,4 @@
+-- The definitions that contracts cite.
 pub mod Programs
 pub mod Expressions
 pub mod FilterRules

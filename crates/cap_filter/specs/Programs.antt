@@ -1,4 +1,5 @@
--- What a contract sees of an expression with its programs, and what their runs cost.
+-- What contracts see of an expression with its programs, and how many instructions their runs
+-- execute.
 use Rattle.std.specs.Prelude.{ℕ, suc, zero, ◌+◌, ◌-◌, ◌^◌, min, List, [], ◌∷◌, length, Option, None, Some}
 use Rattle.cap_octet.specs.{Packet.Captured, declared.link.Link.Link}
 use Rattle.flt_bpf.specs.Content.{Content}

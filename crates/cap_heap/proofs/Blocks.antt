@@ -1,4 +1,4 @@
--- What a `Memory` owns, as room for a type, and the two cases of what `take` gave. Assumes `Logic`.
+-- A `Memory` owns room for a type, and `take` gave it or nothing. Assumes `Logic`.
 use Rattle.std.proofs.Common.{◌≡◌, ℕ, zero, suc, ◌*◌, ◌/◌, ◌^◌, ◌<◌, ◌≤◌, List, [], ◌∷◌, ◌++◌, IfSome, None, Some, refl, sym, ap, subst, ◌∙◌, arith, w64}
 use seplogic.Ra.Ura.{Ura}
 use mir.Syntax.{Ty, Width, w8, w16, w32, w128}

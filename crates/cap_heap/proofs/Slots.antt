@@ -1,4 +1,5 @@
--- What a `Slot` holds is one machine value, and is reached through a `&` with the thread's token. Assumes `Logic`.
+-- A `Slot` holds one machine value, which is reached through a `&` with the thread's token. Assumes
+-- `Logic`.
 use Rattle.std.proofs.Common.{◌≡◌, ℕ, List, [], ◌∷◌, refl}
 use seplogic.Ra.Ura.{Ura}
 use mir.Syntax.{Ty}

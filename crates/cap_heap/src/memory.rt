@@ -1,3 +1,4 @@
+//! Memory that a caller lends.
 ghost use Rattle.std.specs.Prelude.{◌≡◌};
 ghost use Rattle.cap_heap.specs.Lending.{Place, bytes_at};
 

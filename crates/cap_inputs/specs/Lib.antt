@@ -1,3 +1,4 @@
+-- The definitions that contracts cite.
 pub mod Cursor
 pub mod Fresh
 pub mod Inputs

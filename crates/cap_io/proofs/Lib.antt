@@ -1,3 +1,4 @@
+-- The lemmas that several proofs share.
 pub mod Common
 pub mod Fronts
 pub mod Came

@@ -1,3 +1,4 @@
+-- The definitions that contracts cite.
 pub mod Capture
 pub mod Sequence
 pub mod Reading

@@ -1,4 +1,4 @@
--- A table of checks returns no fault exactly where all of them are met.
+-- A table of checks finds no fault if and only if every check passes.
 use Rattle.std.proofs.Common.{◌≡◌, Bool, true, false, List, [], ◌∷◌, ◌++◌, Option, Some, None, Ok, Err, refl}
 use Rattle.std.specs.List.{AllByRecursion}
 use Rattle.cap_octet.specs.{Checks.checked, Checks.first_failing, declared.fault.Fault.Fault}

@@ -1,4 +1,4 @@
--- Dates, second by second and digit by digit.
+-- A printed date is the text of its second, followed by nine digits for the nanoseconds.
 use Rattle.std.proofs.Common.{◌≡◌, ℕ, zero, suc, ◌+◌, ◌-◌, ◌*◌, ◌/◌, ◌%◌, ◌<◌, Bool, true, ◌&&◌, T, eqb, ◌++◌, get_or, refl, arith, eqb→eq, eq-zero-or-pos, inl}
 use Rattle.std.proofs.Common.{inr, append_assoc}
 use lib.Ieee.Fits.{and_l, and_r}

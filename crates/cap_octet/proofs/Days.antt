@@ -1,4 +1,4 @@
--- Days counted one by one are the days of their numbers.
+-- Counting days one by one gives the same dates as jiff's day numbers.
 use Rattle.cap_octet.proofs.Common.{◌≡◌, ℕ, ap, zero, suc, ◌+◌, ◌<◌, ◌≤◌, ◌⊎◌, inl, inr, refl, sym, ◌∙◌, arith, rules, ℤ, pos, negsuc, ◌≤ℤ◌, ◌+ℤ◌, ◌-◌}
 use Rattle.cap_octet.proofs.Common.{unsigned_abs, Some, nat_lt, lt-ltb, le-ltb, cases_order, days_in_month, IsCivilDate, epoch_day, signed_arith, le-leb}
 use Rattle.cap_octet.proofs.Common.{leb-true, day_number}

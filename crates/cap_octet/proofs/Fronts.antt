@@ -1,4 +1,4 @@
--- Reads into a part of a buffer.
+-- A read into the first part of a buffer is a read into the buffer.
 use Rattle.cap_octet.proofs.Common.{◌≡◌, ℕ, ◌<◌, ◌≤◌, List, ◌++◌, length, take, drop, sym, ◌∙◌, ap, arith, Result, Ok, Err, IfOk, drop-append-le, append_assoc}
 use Rattle.cap_octet.proofs.Common.{length-take-le, take-append-drop, TakesSome, Reads}
 use Rattle.cap_octet.specs.declared.device.DeviceFault.{DeviceFault}

@@ -1,4 +1,4 @@
--- A number depends on its own bytes alone.
+-- A number in bytes depends only on its own bytes, not on those after it.
 use Rattle.std.proofs.Common.{◌≡◌, ℕ, ◌+◌, ◌≤◌, List, ◌++◌, length, drop, ap, ◌∙◌, arith, length-drop}
 use Rattle.std.proofs.lemmas.List.{drop-append-le}
 use Rattle.byteorder.specs.Endian.{big_number, little_number}

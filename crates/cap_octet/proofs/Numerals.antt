@@ -1,4 +1,4 @@
--- What digits write: more digits make it no less, and few digits less than 2^64.
+-- n decimal digits are a number below 10^n, and more digits never make a number smaller.
 use Rattle.cap_octet.proofs.Common.{◌≡◌, ℕ, ◌+◌, ◌*◌, ◌^◌, ◌<◌, ◌≤◌, Bool, true, false, nat_lt, ◌&&◌, ◌==◌, not, List, [], ◌∷◌, length, drop, get_or, Some}
 use Rattle.cap_octet.proofs.Common.{None, refl, arith, if◌then◌else◌, mul-le-mul_left, pow-le-pow_right, lt-ltb, at_drop_more, AllDigits, digits_value_after}
 use Rattle.cap_octet.proofs.Common.{digits_value, are_digits, decimal_value, in_u64}

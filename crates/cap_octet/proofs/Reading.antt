@@ -1,4 +1,4 @@
--- One read after another, and one write after another.
+-- Two reads after each other are one longer read, and two writes one longer write.
 use Rattle.cap_octet.proofs.Common.{◌≡◌, ℕ, ◌+◌, ◌-◌, ◌<◌, ◌≤◌, Bool, true, false, if◌then◌else◌, List, [], ◌++◌, length, take, drop, sym, ◌∙◌, ap, arith}
 use Rattle.cap_octet.proofs.Common.{subst, Option, None, Some, length-take, drop-drop, drop_at, take_at, append-nil, append_assoc, take-take, take_all}
 use Rattle.cap_octet.proofs.Common.{drop-append-le, take-append-drop, take-add, Takes, TakesSome, TakesFull}

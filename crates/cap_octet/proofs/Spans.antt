@@ -1,4 +1,4 @@
--- A number of seconds is read in a word of 64 bits, and nothing is lost by that.
+-- Reading seconds and their fraction in 64 bits gives the same value as in unbounded numbers.
 use Rattle.cap_octet.proofs.Common.{◌≡◌, ℕ, ◌+◌, ◌-◌, ◌*◌, ◌^◌, ◌<◌, ◌≤◌, inl, inr, Bool, true, false, nat_le, ◌&&◌, ◌==◌, not, List, length, Option, Some}
 use Rattle.cap_octet.proofs.Common.{None, refl, sym, ap, ◌∙◌, arith, if◌then◌else◌, take, drop, one-le-pow, mul-le-mul_right, cases_order, lt-ltb, le-ltb}
 use Rattle.cap_octet.proofs.Common.{digits_value, NANOS_PER_SECOND, are_digits, decimal_value, in_u64, duration_of_parts, fraction_nanoseconds, number_at}

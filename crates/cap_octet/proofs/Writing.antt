@@ -1,4 +1,4 @@
--- Bytes that are written part by part, and where that stops.
+-- What has been written when a write of several parts stops.
 use Rattle.cap_octet.proofs.Common.{◌≡◌, ℕ, ◌+◌, ◌<◌, List, ◌++◌, length, take, drop, get_or, Err, ap, sym, ◌∙◌, arith, length-append, take-append-add}
 use Rattle.cap_octet.proofs.Common.{flat_map, append_assoc, take-append-le, take-append-drop, drop_more, Stops, WritesAll}
 use Rattle.std.proofs.lemmas.Grind.{flat_map-append}

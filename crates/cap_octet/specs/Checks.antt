@@ -1,4 +1,4 @@
--- Checks are tables: each row is a test and the fault that is reported if the test is not met.
+-- Tables of checks: each row is a condition and the fault that is reported if it doesn't hold.
 use Rattle.std.specs.Prelude.{Bool, List, [], ◌∷◌, Option, Some, None, Result, Ok, Err, if◌then◌else◌}
 use Rattle.cap_octet.specs.declared.fault.Fault.{Fault}
 

@@ -1,4 +1,4 @@
--- Numbers that digits write.
+-- The numbers that digits write.
 use Rattle.std.specs.{Char.digit_value, List.list_all, Option.option_and_then}
 use Rattle.std.specs.Prelude.{ℕ, ◌^◌, nat_lt, ◌==◌, ◌&&◌, not, Bool, if◌then◌else◌, List, length, Option, Some, None}
 use Rattle.std.specs.Str.Parse.{digits_value}

@@ -1,4 +1,4 @@
--- The formats that captures are written in.
+-- The formats in which captures are written.
 use Rattle.std.specs.List.{find}
 use Rattle.std.specs.{Prelude.ℕ, Prelude.List, Prelude.[], Prelude.◌∷◌, Prelude.Option, Prelude.codes, Str.bytes_eq}
 use Rattle.cap_octet.specs.declared.format.Format.{Format, TheVariants.Pcap, TheVariants.NsecPcap, TheVariants.Pcapng}

@@ -1,5 +1,5 @@
--- Days are counted in two ways: one by one when a date is printed, and by jiff's day numbers when
--- one is read.
+-- The law that counting days one by one, by which dates are printed, agrees with jiff's day
+-- numbers, by which they are read.
 use Rattle.std.specs.Prelude.{◌≡◌, ℕ, ◌≤◌, Some}
 use Rattle.cap_octet.specs.{Calendar.ymd, Calendar.day_from_epoch, Timestamp.day_number}
 

@@ -1,4 +1,4 @@
--- The links that lines and expressions know: how packets begin that were captured on them.
+-- The link types that lines and expressions support, and the link headers of their packets.
 use Rattle.std.specs.List.{find}
 use Rattle.std.specs.Prelude.{ℕ, ◌==◌, List, [], ◌∷◌, Option, None, Some, codes}
 use Rattle.std.specs.Str.{bytes_eq}

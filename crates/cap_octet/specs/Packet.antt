@@ -1,4 +1,4 @@
--- A packet by its values, without their places in memory.
+-- A packet as its values, without their addresses in memory.
 use Rattle.std.specs.Prelude.{ℕ, List}
 use Rattle.cap_octet.specs.declared.packet.Packet.{Packet}
 

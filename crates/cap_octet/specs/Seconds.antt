@@ -1,4 +1,4 @@
--- Decimal numbers of seconds that are read as nanoseconds.
+-- Decimal numbers of seconds, read as nanoseconds.
 use Rattle.std.specs.Option.{option_and_then}
 use Rattle.std.specs.Prelude.{ℕ, ◌+◌, ◌-◌, ◌*◌, ◌^◌, nat_lt, nat_le, ◌==◌, if◌then◌else◌, List, length, take, drop, position, Option, Some, None}
 use Rattle.cap_octet.specs.{Date.NANOS_PER_SECOND, Date.TIME_END, Digits.decimal_value}

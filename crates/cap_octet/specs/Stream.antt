@@ -1,4 +1,5 @@
--- What a device over a reader or a writer of std returns, by what that reader or writer returned.
+-- The results of a device over a reader or writer of std, in terms of what that reader or writer
+-- returned.
 use Rattle.std.specs.Io.{ReadsAtMost, StartsWith, WritesAtMost}
 use Rattle.std.specs.Io.KnownBytes.{Consumes, ReadConsumes, WriteAppends}
 use Rattle.std.specs.IoError.{error_kind}

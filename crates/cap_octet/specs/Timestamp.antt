@@ -1,5 +1,5 @@
--- Timestamps that are read as times: dates with times of day in UTC, as RFC 3339 writes them, or
--- numbers of seconds.
+-- The texts that are read as times: dates with times of day in UTC (RFC 3339), or numbers of
+-- seconds.
 use Rattle.std.specs.Option.{option_and_then}
 use Rattle.std.specs.Prelude.{ℕ, ◌+◌, ◌-◌, ◌*◌, nat_lt, nat_le, ◌==◌, ◌&&◌, Bool, if◌then◌else◌, List, length, take, drop, slice_index, Option, Some, None, pos, unsigned_abs}
 use Rattle.jiff_core.specs.Calendar.{days_in_month, days_from_civil}

@@ -1,4 +1,4 @@
--- The views of the devices that a call takes and returns.
+-- What contracts see of the devices that a call takes and returns.
 use Rattle.std.specs.Prelude.{ℕ, Bool, List, Option}
 use Rattle.cap_octet.specs.declared.device.Input as input
 use Rattle.cap_octet.specs.declared.device.Output as output

@@ -1,4 +1,4 @@
-//! The formats that captures are written in.
+//! The formats in which captures are written.
 
 /// A savefile format. All of them are written little-endian.
 #[derive(Clone, Copy)]

@@ -1,4 +1,4 @@
-//! The links that lines and expressions know.
+//! The link types that lines and expressions support.
 
 use crate::assigned::{
     ETHERNET_HEADER_LENGTH, ETHERNET_TYPE_OFFSET, LINKTYPE_ETHERNET, LINKTYPE_LINUX_SLL,

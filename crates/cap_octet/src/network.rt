@@ -1,4 +1,4 @@
-//! What network header a packet has, by its link type.
+//! Which network header a packet has, by its link type.
 ghost use Rattle.std.specs.Prelude.{◌≡◌, ◌≤◌, IfSome};
 ghost use Rattle.cap_octet.specs.NetworkHeader.{header_after, link_header_length, network_header};
 ghost use Rattle.cap_octet.specs.Link.{longest_header};

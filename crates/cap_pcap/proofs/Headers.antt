@@ -1,4 +1,4 @@
--- What a text begins with is told by its first bytes alone: the file header.
+-- The first 24 bytes determine the file header and its first failing check.
 use Rattle.std.proofs.Common.{◌≡◌, ℕ, ◌+◌, ◌<◌, ◌≤◌, true, List, ◌++◌, length, Some, None, is_some, refl, arith}
 use Rattle.std.proofs.lemmas.{Bool.leb-true, Bool.le-leb, Bool.lt-leb, List.length-append}
 use Rattle.cap_octet.specs.declared.fault.Fault.TheVariants.{NotACaptureFile, Truncated}

@@ -1,4 +1,4 @@
--- Pcap savefiles as they are written: the headers, and which packets they hold.
+-- Pcap files as they are written: the headers, and which packets they can hold.
 use Rattle.std.specs.Prelude.{ℕ, ◌^◌, ◌/◌, ◌%◌, Bool, List, [], ◌∷◌, ◌++◌, length, nat_lt, nat_le}
 use Rattle.byteorder.specs.Endian.{little_bytes}
 use Rattle.cap_octet.specs.{Date.NANOS_PER_SECOND, Packet.Captured}

@@ -1,4 +1,4 @@
--- The file header of a pcap savefile: its checks, in order, and what it says
+-- The file header of a pcap file: its checks, in their order, and its fields
 -- (draft-ietf-opsawg-pcap, "File Header").
 use Rattle.std.specs.Prelude.{◌≡◌, ℕ, ◌==◌, ◌&&◌, if◌then◌else◌, Bool, List, [], ◌∷◌, length, nat_lt, nat_le, Option, Some, None, is_some, unwrap_or}
 use Rattle.cap_octet.specs.{Checks.first_failing, Number.u16_in, Number.u32_in, declared.fault.Fault.Fault}

@@ -1,4 +1,4 @@
--- A record of a pcap savefile: its checks, in order, and its packet (draft-ietf-opsawg-pcap,
+-- A record of a pcap file: its checks, in their order, and its packet (draft-ietf-opsawg-pcap,
 -- "Packet Record").
 use Rattle.std.specs.Prelude.{◌≡◌, ℕ, ◌+◌, ◌*◌, Bool, List, [], ◌∷◌, ◌++◌, length, drop, nat_lt, nat_le, Option, None}
 use Rattle.cap_octet.specs.Checks.{first_failing}

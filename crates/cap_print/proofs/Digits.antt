@@ -1,4 +1,5 @@
--- Digits: leading zeros, the groups of an IPv6 address, and numbers in decimal, two digits at a time.
+-- Numbers in digits: leading zeros, groups of IPv6 addresses, and decimal numbers two digits at a
+-- time.
 use Rattle.std.proofs.Common.{◌≡◌, ◌≢◌, ℕ, suc, ◌+◌, ◌-◌, ◌<◌, List, ◌∷◌, length, drop, get_or, refl, sym, ap, ◌∙◌, arith, rules, ◌/◌, ◌%◌, ◌≤◌, [], ◌^◌, ◌++◌}
 use Rattle.std.proofs.Common.{append_assoc, decimal}
 use Rattle.std.proofs.lemmas.{Bool.Decides.nat_tests, Fmt.decimal_digit, Fmt.decimal_step, List.drop_more}

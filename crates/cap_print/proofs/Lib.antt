@@ -1,2 +1,3 @@
+-- The lemmas that several proofs share.
 mod Printing
 mod Digits

@@ -1,4 +1,4 @@
--- What is printed of a packet: the line, the rows of a dump, and what is written where the device fails.
+-- What is written of a packet's line and rows, all of it or up to a failure of the device.
 use Rattle.std.proofs.Common.{◌≡◌, ℕ, ◌+◌, ◌<◌, true, false, List, [], ◌++◌, length, take, Result, Ok, Err, refl, ap, sym, ◌∙◌, arith, length-append}
 use Rattle.std.proofs.Common.{append-nil, zero, suc, ◌-◌, append_assoc}
 use Rattle.std.proofs.{Math.Seq.take-append-add, lemmas.List.append_assoc}

@@ -1,4 +1,4 @@
--- Addresses and ports, as they are printed of the bytes p of a packet.
+-- The text of the addresses and ports in the bytes `p` of a packet.
 use Rattle.std.specs.Prelude.{ℕ, zero, suc, ◌+◌, ◌*◌, List, [], ◌∷◌, ◌++◌, slice_index, decimal, Option, Some, None}
 use Rattle.cap_octet.specs.{Number.u16_in, declared.number.Order.TheVariants.Big}
 use Rattle.cap_print.specs.Hexadecimal.{hex_two, hex_group}

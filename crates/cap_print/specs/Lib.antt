@@ -1,3 +1,4 @@
+-- The definitions that contracts cite.
 pub mod Addresses
 pub mod Dump
 pub mod Hexadecimal

@@ -1,5 +1,4 @@
--- What a line says of a packet's network header. p are the captured bytes, in which the header
--- begins at place l.
+-- The part of a line about the network header, which begins at place `l` of the captured bytes `p`.
 use Rattle.std.specs.Prelude.{ℕ, ◌+◌, ◌*◌, ◌%◌, nat_lt, nat_le, ◌==◌, ◌&&◌, ◌||◌, not, Bool, false, if◌then◌else◌, List, ◌++◌, length, slice_index, decimal, Option, Some, None, codes}
 use Rattle.cap_octet.specs.Assigned.{IPPROTO_ICMP, IPPROTO_TCP, IPPROTO_UDP, IPPROTO_ICMPV6}
 use Rattle.cap_octet.specs.NetworkHeader.{link_header_length, network_header}

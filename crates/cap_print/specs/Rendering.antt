@@ -1,4 +1,4 @@
--- What is printed of a packet.
+-- The text that is printed of a packet.
 use Rattle.std.specs.Prelude.{if◌then◌else◌, ℕ, List, [], ◌++◌}
 use Rattle.cap_octet.specs.Packet.{Captured}
 use Rattle.cap_print.specs.{Dump.link_payload, Dump.rows, Line.line, declared.print.Options.Options}

@@ -1,4 +1,5 @@
--- The index stays an index when a mark comes, when the oldest goes, and when all get new numbers.
+-- The index of the window stays sound when a mark is added, when the oldest is dropped, and when
+-- all are renumbered.
 use Rattle.cap_process.proofs.Common.{◌≡◌, ◌≢◌, ℕ, zero, suc, ◌+◌, ◌-◌, ◌^◌, ◌<◌, ◌≤◌, inl, inr, List, [], ◌∷◌, ◌++◌, length, get_or, drop, refl, sym, ap, ◌∙◌}
 use Rattle.cap_process.proofs.Common.{arith, set, length-append, length-drop, eq-zero-or-pos, cases_order, get_or-append_right, get_or-set_other}
 use Rattle.cap_process.proofs.Common.{get_or-set_same, length-set, take, Links, Mark, IsHung, IsIndex, IsPutOnTop, IsSoundIndex, IsWay, Ends, Goes, Agrees}

@@ -1,4 +1,5 @@
--- Lines and messages that are written in parts.
+-- Reports and messages that are written in parts are written as wholes, or up to a failure of the
+-- device.
 use Rattle.cap_process.proofs.Common.{◌≡◌, refl, ℕ, List, [], ◌∷◌, ◌++◌, codes, Bool, true, false, if◌then◌else◌, Option, None, Some, Err, ap, sym, ◌∙◌}
 use Rattle.cap_process.proofs.Common.{append_assoc, Stops, appends-following, Kind, Tally, lines, size_lines, time_lines}
 use Rattle.cap_process.specs.{Messages.code_message, Messages.line_feed, Reports.file_report}

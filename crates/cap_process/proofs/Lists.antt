@@ -1,9 +1,10 @@
--- What is counted, kept and searched of packets that come one after another, and how the verdicts on them end a job.
+-- The verdicts on packets that come one after another select a list of packets, and end the job at
+-- one of them.
 use Rattle.cap_process.proofs.Common.{map-append, ◌≡◌, ℕ, zero, suc, drop, ◌+◌, ◌-◌, ◌^◌, ◌<◌, ◌≤◌, ◌==◌, ◌&&◌, Bool, true, false, if◌then◌else◌, nat_le, min}
 use Rattle.cap_process.proofs.Common.{max, Option, None, Some, option_or, unwrap_or, List, [], ◌∷◌, ◌++◌, length, refl, sym, ◌∙◌, ap, arith, subst, nat_tests}
 use Rattle.cap_process.proofs.Common.{append_assoc, append-nil, sum_by-append, take-nil, sum_by, IfSome, Captured, Fault, TimeOutOfRange, Kind, Placed, Ending}
 use Rattle.cap_process.proofs.Common.{End, Decision, Keep, Rule, rule_decides, Mark, mark_of, has_same, last, Event, Packet, InputEnd, SequenceEnd, Complete}
-use Rattle.cap_process.proofs.Common.{FaultIn, end_of, packet_events, Policy, Count, Filter, KeepAll, Edit, EditRule, Judgement, Verdict, PassLast, Pass, Skip}
+use Rattle.cap_process.proofs.Common.{FaultIn, end_of, packet_events, Policy, Count, Filter, Edit, EditRule, Judgement, Verdict, PassLast, Pass, Skip}
 use Rattle.cap_process.proofs.Common.{Refuse, SelectorState, initial_state, edited_packet_with, filters, is_last, is_selected, judge, judge_by, shifted_time}
 use Rattle.cap_process.proofs.Common.{passes, refuses, selects, skip_judgement, unique, with_mark, Tally, tally_with, Report, Form, AsReports, JobProgress}
 use Rattle.cap_process.proofs.Common.{no_progress, form_refuses, unless_refused, decide, apply_verdict, next_progress, end_input, end_with, apply_events}

@@ -1,4 +1,5 @@
--- Marks in a window.
+-- Comparing marks decides whether they are equal, and a mark that has left the window never comes
+-- back.
 use Rattle.cap_process.proofs.Common.{refl, IsSome, option_copied, ◌≡◌, ◌↔◌, ℕ, ◌+◌, ◌-◌, ◌≤◌, ◌==◌, Bool, List, [], ◌∷◌, ◌++◌, length, drop, sym, ap, ◌∙◌}
 use Rattle.cap_process.proofs.Common.{arith, length-append, length-drop, IsTrue, Bor, Option, Some, None, drop-drop, drop-append-le, Mark, is_same_mark}
 use Rattle.cap_process.proofs.Common.{has_same, last}

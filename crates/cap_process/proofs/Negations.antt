@@ -1,4 +1,4 @@
--- An expression, its negation and rejection part packets.
+-- Each packet matches an expression, matches its negation, or is rejected.
 use Rattle.cap_process.proofs.Common.{◌≡◌, ℕ, ◌+◌, true, false, if◌then◌else◌, List, [], ◌∷◌, Option, None, Some, refl, sym, ◌∙◌, ap, subst, arith, sum_by}
 use Rattle.cap_process.proofs.Common.{sum_by-append, is_some, Captured, by_reading, decision_of, read_on, kept_by, packets_kept, AreRead, NegationParts}
 use Rattle.cap_process.proofs.Common.{is_rejected_on, is_rejection, packets_rejected}

@@ -1,8 +1,8 @@
--- How far a job comes over events that came, and over what comes next.
+-- The progress of a job over some events determines its progress over those after them.
 use Rattle.cap_process.proofs.Common.{◌≡◌, List, [], ◌∷◌, ◌++◌, Option, None, Some, refl, ◌∙◌, ap, Event, SequenceEnd, Sequence, with_front, Policy, Form}
 use Rattle.cap_process.proofs.Common.{JobProgress, no_progress, unless_ended, apply_event, next_progress, apply_events, end_with, end_unless_ended}
 use Rattle.cap_process.proofs.Common.{final_progress, ℕ, ◌+◌, sym, subst, append_assoc, append-nil, Captured, Fault, Placed, Kind, Report, Packet, InputEnd}
-use Rattle.cap_process.proofs.Common.{Complete, Edit, Filter, KeepAll, Count, SelectorState, Verdict, Pass, PassLast, Skip, Refuse, judge, decide}
+use Rattle.cap_process.proofs.Common.{Complete, Count, SelectorState, Verdict, Pass, PassLast, Skip, Refuse, judge, decide}
 use Rattle.cap_process.proofs.Common.{unless_refused, apply_verdict, end_input, form_refuses}
 
 pub progress-append : (a : Policy) (f : Form) (w : JobProgress) (xs ys : List Event) → apply_events a f w (xs ++ ys) ≡ apply_events a f

@@ -1,7 +1,7 @@
--- Where a job writes, from one call to the next.
+-- What a job's output holds after each packet, report and close.
 use Rattle.cap_process.proofs.Common.{◌≡◌, inl, inr, ℕ, ◌+◌, Bool, List, [], ◌∷◌, ◌++◌, length, Option, None, Some, Ok, Err, refl, sym, ◌∙◌, ap, add-zero, true}
 use Rattle.cap_process.proofs.Common.{append_assoc, append-nil, Stops, Captured, Fault, NoMemory, WriteFailed, Format, Options, takes_memory, added_text}
-use Rattle.cap_process.proofs.Common.{refusal_of, Report, Complete, SelectorState, Form, AsCapture, AsReports, AsLines, closing_text, lines_text, final_text}
+use Rattle.cap_process.proofs.Common.{refusal_of, Report, Complete, SelectorState, Form, AsCapture, closing_text, lines_text, final_text}
 use Rattle.cap_process.proofs.Common.{form_refuses, output_text, Target, Capture, Text, Lines, HasWrittenTo, form_to, written_to, failures_to, report_text}
 use Rattle.cap_process.proofs.Common.{reports_text}
 use Rattle.std.proofs.lemmas.Grind.{flat_map-append}

@@ -1,6 +1,7 @@
--- What a selector returns.
+-- A selector returns the verdict that its policy gives, and adds to its counts what the packet
+-- adds.
 use Rattle.cap_process.proofs.Common.{◌≡◌, ℕ, ◌+◌, ◌^◌, ◌<◌, ◌≤◌, nat_le, Bool, true, false, length, if◌then◌else◌, List, Option, None, Some, Ok, refl, sym}
-use Rattle.cap_process.proofs.Common.{◌∙◌, ap, arith, nat_tests, Captured, TooManyPackets, WindowView, Mark, Policy, Edit, Filter, KeepAll, Count}
+use Rattle.cap_process.proofs.Common.{◌∙◌, ap, arith, nat_tests, Captured, TooManyPackets, WindowView, Mark, Policy, Count}
 use Rattle.cap_process.proofs.Common.{SelectorState, Judgement, Pass, PassLast, Skip, is_too_many, judge, judge_by, refuses, is_last, Tally, tally_with}
 use Rattle.cap_process.proofs.Common.{is_count, spent_by, spent_by_verdict, marks_in, places, state_of, PolicyState, IsWindowFor, ReturnsVerdict, count_limit}
 use Rattle.cap_process.proofs.Common.{TakesTally, verdict_if, verdict_of, IsVerdict, ◌↔◌, ◌-◌, not, IsTrue, [], ◌∷◌, ◌++◌, Contains, has_same, last, mark_of}

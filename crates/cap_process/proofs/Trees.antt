@@ -1,4 +1,4 @@
--- The ways of searches, as marks and links change.
+-- The path of a search for a mark, when marks are added or dropped and links change.
 use Rattle.cap_process.proofs.Common.{◌≡◌, ◌≢◌, ℕ, zero, suc, ◌+◌, ◌-◌, ◌^◌, ◌<◌, ◌≤◌, ◌⊎◌, inl, inr, Bool, true, false, not, List, [], ◌∷◌, ◌++◌, length, refl}
 use Rattle.cap_process.proofs.Common.{sym, ap, ◌∙◌, arith, min, set, cases_order, get_or_append_left, length-append, get_or-set_other, get_or-set_same, IsWay}
 use Rattle.cap_process.proofs.Common.{Ends, Goes, Agrees, Lacks, IsHung, IsOnTop, IsPutOnTop, IsSameOutside, mark_bit, link_by_bit, links_at, mark_at, Links}

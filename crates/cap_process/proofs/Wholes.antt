@@ -1,4 +1,4 @@
--- What whole commands write, and how they end: the verdicts on packets make a list, of which the form refuses the rest.
+-- The laws of whole commands: which packets each one writes, and how it ends.
 use Rattle.cap_process.proofs.Common.{◌≡◌, ℕ, zero, suc, ◌+◌, ◌-◌, ◌^◌, ◌<◌, ◌&&◌, Bool, true, false, if◌then◌else◌, nat_le, max, List, [], ◌∷◌, ◌++◌, length}
 use Rattle.cap_process.proofs.Common.{take, Option, None, Some, refl, sym, ◌∙◌, ap, arith, subst, append_assoc, append-nil, length-map, IfSome, unwrap_or}
 use Rattle.cap_process.proofs.Common.{nat_lt, nat_eq, nat_tests, take-length, Captured, Fault, TooManyPackets, Format, Kind, Placed, Ending, End, FaultAt}

@@ -1,3 +1,4 @@
+-- The definitions that contracts cite.
 pub mod Outcome
 pub mod Output
 pub mod Selector

@@ -1,4 +1,5 @@
--- What is counted, kept and searched of packets that come one after another, as lists.
+-- Lists of packets: what is counted of them, which of them are kept, and which equal an earlier
+-- one.
 use Rattle.std.specs.{List.sum_by, Option.is_none, Option.option_map}
 use Rattle.std.specs.Prelude.{◌≡◌, ℕ, ◌+◌, ◌-◌, ◌^◌, ◌<◌, ◌&&◌, Bool, true, false, if◌then◌else◌, nat_le, min, max, List, [], ◌∷◌, ◌++◌, length, map, take, Option, None, Some, IfSome}
 use Rattle.cap_octet.specs.{Packet.Captured, declared.fault.Fault.TheVariants.TimeOutOfRange}

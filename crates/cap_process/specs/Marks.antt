@@ -1,4 +1,4 @@
--- What is compared of packets.
+-- The mark of a packet, by which equal packets are found.
 use Rattle.std.specs.{Cmp.Lexicographic.pointwise, List.list_any}
 use Rattle.std.specs.Prelude.{ℕ, ◌-◌, ◌==◌, ◌&&◌, Bool, List, length, drop, nat_eq}
 use Rattle.md5.specs.Md5.{md5}

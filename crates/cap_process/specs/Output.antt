@@ -1,4 +1,4 @@
--- The view of a job's output.
+-- What contracts see of a job's output.
 use Rattle.std.specs.Prelude.{◌≡◌, ℕ, List, ◌++◌}
 use Rattle.cap_octet.specs.Packet.{Captured}
 use Rattle.cap_print.specs.declared.print.Options.{Options}

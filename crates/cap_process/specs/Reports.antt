@@ -1,4 +1,4 @@
--- Reports of files.
+-- The report on a file.
 use Rattle.std.specs.{Fmt.decimal, List.flat_map, List.slice_get}
 use Rattle.std.specs.Prelude.{ℕ, ◌+◌, ◌-◌, ◌/◌, ◌%◌, ◌==◌, ◌&&◌, Bool, true, false, if◌then◌else◌, nat_le, min, max, List, [], ◌∷◌, ◌++◌, length, codes, Option, None, Some, unwrap_or}
 use Rattle.cap_octet.specs.Date.{NANOS_PER_SECOND, date_text, digits}

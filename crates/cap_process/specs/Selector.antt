@@ -1,4 +1,4 @@
--- The view of a selector.
+-- What contracts see of a selector.
 use Rattle.std.specs.Prelude.{◌≡◌, ℕ, ◌-◌, ◌^◌, ◌≤◌, Bool, true, false, if◌then◌else◌, List, [], ◌∷◌, map, Option, None, ◌*◌, Some}
 use Rattle.cap_octet.specs.{Link.all_links, Packet.Captured}
 use Rattle.cap_process.specs.{Window.WindowView, declared.mark.Mark.Mark}

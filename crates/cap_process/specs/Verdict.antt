@@ -1,5 +1,5 @@
--- The verdict on each packet of a job: by the job's policy, the state after the packets before, and
--- the packet with its number.
+-- The verdict on each packet of a job, by the job's policy, the state after earlier packets, the
+-- packet and its number.
 use Rattle.std.specs.Prelude.{◌≡◌, ℕ, ◌+◌, ◌-◌, ◌==◌, ◌&&◌, Bool, true, false, if◌then◌else◌, nat_lt, nat_le, List, [], ◌∷◌, ◌++◌, length, take, drop, Option, None, Some}
 use Rattle.cap_octet.specs.{Date.TIME_END, Packet.Captured}
 use Rattle.cap_octet.specs.declared.fault.Fault.{Fault, TheVariants.TimeOutOfRange, TheVariants.TooManyPackets}

@@ -1,5 +1,5 @@
--- The output of whole commands, as lists: the packets of their inputs that pass, up to the first
--- that isn't written.
+-- The laws of whole commands: the output as a list of the input packets that are kept, up to the
+-- first that can't be written.
 use Rattle.std.specs.{List.sum_by, Option.is_some, Option.option_or, Option.unwrap_or}
 use Rattle.std.specs.Prelude.{◌≡◌, ℕ, zero, suc, ◌+◌, ◌^◌, ◌<◌, Bool, true, false, if◌then◌else◌, nat_le, List, [], ◌∷◌, ◌++◌, length, take, Option, None, Some, IfSome}
 use Rattle.cap_octet.specs.{Link.link_of, Packet.Captured}

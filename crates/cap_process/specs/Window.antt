@@ -1,4 +1,4 @@
--- What a contract sees of a window.
+-- What contracts see of a window.
 use Rattle.std.specs.Prelude.{ℕ, List}
 use Rattle.cap_process.specs.declared.mark.Mark.{Mark}
 

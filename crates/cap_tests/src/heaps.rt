@@ -14,6 +14,7 @@ use cap_tools::run;
 use cap_trial::{command_over, names_over};
 use linked_list_allocator::LocalHeap;
 use std::alloc::{AllocError, Global};
+use std::process::Abort;
 use std::test::Fail;
 
 /// How many bytes a block has at most.
@@ -58,33 +59,32 @@ fn longest_blocks(alloc: Global, packets: u32) -> Result<Vec<u8>, Fail> {
 
 /// Runs the words, with `count` inputs `a` after them, in a heap of this size. The inputs have
 /// these bytes; the devices are outside of the heap. The result is the status, how many bytes were
-/// written, and the messages.
+/// written, and the messages. What fails outside of the heap ends the test.
 fn run_in(
-    alloc: Global,
+    (rt, alloc): (&impl Abort, Global),
     (size, words, count): (usize, &str, usize),
     bytes: &[u8],
     out: &mut [u8],
 ) -> Result<(u8, usize, Vec<u8>), Fail> {
-    let mut words = String::from_str(alloc, words)?;
+    let mut words = String::from_str(alloc, words).expect(rt, "memory");
     for _ in 0..count {
-        words.push_str(" a")?;
+        words.push_str(" a").expect(rt, "memory");
     }
     let line = line_of(alloc, &words)?;
-    let heap = LocalHeap::new(alloc, size)?;
-    let command = command_over(&heap, &line, &[])?;
-    let names = names_over(&heap, &line)?;
-    let mut inputs = Vec::with_capacity(&heap, line.inputs.len())?;
+    let heap = LocalHeap::new(alloc, size).expect(rt, "memory");
+    let command = command_over(&heap, &line, &[]).expect(rt, "a command");
+    let names = names_over(&heap, &line).expect(rt, "names");
+    let mut inputs = Vec::with_capacity(&heap, line.inputs.len()).expect(rt, "room");
     for _ in line.inputs.iter() {
-        inputs.push(MemInput::new(bytes))?;
+        inputs.push(MemInput::new(bytes)).expect(rt, "room");
     }
-    if !command.is_proper(inputs.len()) {
-        return Err(Fail::from("the command may not be run"));
-    }
+    assert!(rt; command.is_proper(inputs.len()));
     let mut room = [0; 100];
     let err = MemOutput::new(&mut room);
     let out = MemOutput::new(out);
     let (status, out, err) = run(&heap, command, names, inputs, out, err);
-    Ok((status, out.written().len(), err.written().to_vec(alloc)?))
+    let told = err.written().to_vec(alloc).expect(rt, "memory");
+    Ok((status, out.written().len(), told))
 }
 
 /// The bytes that a merge of twice 16 of the longest blocks writes: a section, an interface with
@@ -100,7 +100,12 @@ fn a_merge_holds_one_block_of_each_input(rt: HostRuntime) -> Result<(), Fail> {
         (8 << 20, 0, MERGED, ""),
         (64 << 10, 1, 0, "capkit: a: offset 48: no memory\n"),
     ] {
-        let done = run_in(rt.alloc(), (size, "merge -w out", 2), &bytes, &mut out)?;
+        let done = run_in(
+            (&rt, rt.alloc()),
+            (size, "merge -w out", 2),
+            &bytes,
+            &mut out,
+        )?;
         assert!(rt; done.0 == status && done.1 == written && done.2.as_slice() == told.as_bytes());
     }
     Ok(())
@@ -128,7 +133,12 @@ fn small_heaps_are_enough(rt: HostRuntime) -> Result<(), Fail> {
         (147_456, "merge -w out", 10, 256, 28 + 32 + 2_560 * 92),
     ] {
         let bytes = capture(rt.alloc(), packets)?;
-        let (status, count, told) = run_in(rt.alloc(), (size, words, inputs), &bytes, &mut out)?;
+        let (status, count, told) = run_in(
+            (&rt, rt.alloc()),
+            (size, words, inputs),
+            &bytes,
+            &mut out,
+        )?;
         assert!(rt; status == 0 && told.is_empty(), "{words}");
         assert!(rt; count == written, "{words}: {count}");
     }

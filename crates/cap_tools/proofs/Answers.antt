@@ -1,8 +1,8 @@
 -- The steps that decide the current packet.
 use Rattle.cap_tools.proofs.Coming.{carries-decided, true-wholes, true-fit, true-fits, get-at, At, stands-split, stands-join, rests-join, come-on}
 use Rattle.cap_tools.proofs.Common.{◌≡◌, ◌⊎◌, inl, inr, ℕ, ◌+◌, ◌<◌, ◌≤◌, Bool, true, false, List, [], ◌∷◌, ◌++◌, length, map, Option, None, Some, Result, Ok}
-use Rattle.cap_tools.proofs.Common.{Err, refl, sym, ◌∙◌, ap, arith, subst, ◌-◌, append-nil, map-append, slice_get, slice_set, Stops, Captured, Fault, NoMemory}
-use Rattle.cap_tools.proofs.Common.{WriteFailed, Placed, IsAt, SinkView, text, added_text, refusal_of, takes_memory, IsAt-decided, Tally, InputItems, Event}
+use Rattle.cap_tools.proofs.Common.{Err, refl, sym, ◌∙◌, ap, arith, subst, append-nil, map-append, slice_get, slice_set, Stops, Captured, Fault, NoMemory}
+use Rattle.cap_tools.proofs.Common.{WriteFailed, Placed, IsAt, SinkView, added_text, refusal_of, takes_memory, IsAt-decided, Tally, InputItems, Event}
 use Rattle.cap_tools.proofs.Common.{Packet, SequenceEnd, Complete, FaultIn, Sequence, sequence_of, with_front, PacketOrder, Policy, SelectorState, Verdict}
 use Rattle.cap_tools.proofs.Common.{Pass, PassLast, PassesAs, Skip, judge, IsWithin, PolicyState, GrowsByOne, IsVerdict, Form, AsCapture, JobProgress}
 use Rattle.cap_tools.proofs.Common.{IsNextEvent, no_progress, decide, unless_refused, apply_verdict, apply_event, apply_events, final_progress, form_refuses}

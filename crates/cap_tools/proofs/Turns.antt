@@ -1,5 +1,5 @@
 -- A turn of the loop: one step, or two.
-use Rattle.cap_tools.proofs.Common.{◌≡◌, ◌⊎◌, inl, inr, ℕ, ◌+◌, ◌<◌, ◌≤◌, Bool, true, false, List, Option, None, Some, IsTrue, refl, sym, ◌∙◌, ap, arith, subst}
+use Rattle.cap_tools.proofs.Common.{◌≡◌, ◌⊎◌, inl, inr, ℕ, ◌+◌, ◌≤◌, Bool, true, false, List, Option, None, Some, IsTrue, refl, sym, ◌∙◌, ap, arith, subst}
 use Rattle.cap_tools.proofs.Common.{OutputView, IsTold, InputsView, steps_left, next-is-of, Call, RunResult, CommandRuns, Assignment, JobEnd, JobState}
 use Rattle.cap_tools.proofs.Common.{StepGives, EndsJob, HavePrograms, Preparing, JobView, Turn, end_message, end_status, room_by, PreparesBy, StepReads}
 use Rattle.cap_tools.proofs.Common.{StepReadsBy, IsLight, reads_nothing, most_turns, HasFewTurns, IsCounted, IsSound, IsStep, ending, IsNext, next_of, Next}

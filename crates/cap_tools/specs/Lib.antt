@@ -1,3 +1,4 @@
+-- The definitions that contracts cite.
 pub mod Bounds
 pub mod Commands
 pub mod Jobs

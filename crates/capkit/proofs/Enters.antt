@@ -1,4 +1,4 @@
--- Words that clap takes enter a subcommand, since the line requires one.
+-- A command line that clap accepts has a subcommand, since one is required.
 use Rattle.capkit.proofs.Common.{◌≡◌, ◌∙◌, ap, sym, refl, subst, Bool, true, false, List, [], ◌∷◌, Option, Some, None, ◌&&◌, is_some, not, find, if◌then◌else◌}
 use Rattle.capkit.proofs.Common.{option_map, Box, list_any, ArgMatches, subcommand_name_of, subcommand_rows_of, TakesWords, line_app, name_of, Asks, Subcommand}
 use Rattle.std.specs.Box.{box_value}

@@ -1,4 +1,4 @@
--- One more row of a table, and then those after it.
+-- Adding the rows of a table one by one gives the same as adding them all.
 use Rattle.std.proofs.Common.{◌≡◌, ◌∙◌, ◌||◌, Bool, false, ◌∷◌, ◌+◌, ◌<◌, ◌≤◌, ap, sym, add-one, drop-cons, ℕ, List, length, drop, map, slice_index_or}
 use Rattle.std.proofs.{Math.Bool.or-false, lemmas.List.drop_all}
 use Rattle.std.specs.Prelude.{fold}

@@ -1,4 +1,4 @@
--- What the getters of clap's matches read.
+-- The getters of clap's matches return the texts of the options.
 use Rattle.capkit.proofs.Common.{◌≡◌, ap, sym, refl, List, ℕ, Bool, true, false, Option, Some, None, unwrap_or, codes, option_map_or, bytes_eq, ParsesBool}
 use Rattle.capkit.proofs.Common.{false_from_ne_true, ReadsOne, first_value-rows, one_text-rows, raw_values-rows}
 use Rattle.std.proofs.lemmas.Slice.Eq.{bytes_eq-Decides}

@@ -1,3 +1,4 @@
+-- The lemmas that several proofs share.
 mod Enters
 mod Folds
 pub mod Common

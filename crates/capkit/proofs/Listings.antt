@@ -1,4 +1,4 @@
--- A command with its listing.
+-- A command with a proper listing may be run.
 use Rattle.std.proofs.Common.{◌≡◌, ℕ, zero, suc, Bool, true, false, ◌&&◌, ◌||◌, not, nat_eq, nat_lt, refl, string_bytes, length, arith}
 use Rattle.std.proofs.lemmas.Bool.{lt-ltb}
 use Rattle.std.specs.{Global.Global, Global.Vec, Option.option_map_or}

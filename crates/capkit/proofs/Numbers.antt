@@ -1,4 +1,4 @@
--- What a text of digits parses to, and where a word has a hyphen.
+-- Which numbers digits write, and where a word is split at its hyphen.
 use Rattle.cap_octet.specs.Digits.{decimal_value, in_u64}
 use Rattle.std.specs.Char.{digit_value}
 use Rattle.capkit.proofs.Common.{◌&&◌, ap, IfNone, ◌==◌, lit<, suc, ◌+◌, ◌≤◌, cond, ◌≡◌, ◌<◌, ◌^◌, ℕ, Bool, true, false, List, [], ◌∷◌, length, refl, subst}

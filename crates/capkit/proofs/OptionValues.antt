@@ -1,4 +1,4 @@
--- What the options of an edit and of a print mean.
+-- The values of the options of `edit` and `print` are within their bounds.
 use Rattle.capkit.proofs.Common.{◌≡◌, ◌≤◌, ◌^◌, ◌+◌, ◌-◌, ◌*◌, ◌∙◌, ◌==◌, ap, refl, ℕ, Bool, true, false, length, take, drop, Option, Some, None, Result, Ok}
 use Rattle.capkit.proofs.Common.{Err, arith, ◌&&◌, IfSome, nat_le, nat_lt, if◌then◌else◌, position, option_and_then, option_map_or, ParsesUnsigned}
 use Rattle.capkit.proofs.Common.{digits_value, without_leading_plus, and_from, and_parts, le-leb, is_at_least_one, is_time, is_window, least_window}

@@ -1,4 +1,4 @@
--- What a parse of the command line gives and refuses.
+-- What clap accepts and refuses is what the rules of the command line accept and refuse.
 use Rattle.capkit.proofs.Common.{◌≡◌, ◌∙◌, ap, sym, subst, true, List, Result, Ok, Err, IfOk, IfErr, map, refl, inl, App, FailsBy, HasKind, HasMatchesOf, Text}
 use Rattle.capkit.proofs.Common.{fault_of, is_simple, is_simple_and_free, kind_of, subcommand_of, subcommand_rows_of, takes, AreChoices, RefusesWords}
 use Rattle.capkit.proofs.Common.{TakesWords, format_names, line_app, link_names}

@@ -1,4 +1,4 @@
--- The line of a print without a fault may be run.
+-- A line of `print` without a fault may be run.
 use Rattle.capkit.proofs.Common.{◌≡◌, ◌∙◌, ap, arith, refl, codes, Bool, true, false, List, [], ◌∷◌, length, Option, Some, None, String, string_bytes, vec_len}
 use Rattle.capkit.proofs.Common.{◌&&◌, ◌||◌, is_none, is_some, nat_eq, nat_lt, not, option_map, if◌then◌else◌, Global, join_by, option_map_or, and_from, eq-eqb}
 use Rattle.capkit.proofs.Common.{lt-ltb, has_at_most_one_filter, has_at_most_one_output, is_at_least_one, is_proper, Row, Text, first_of, IsPrintOf, flag_in}

@@ -1,4 +1,4 @@
--- When the words for ranges, and the names of several inputs, have a fault.
+-- When a range, or the names of several inputs, are refused.
 use Rattle.capkit.proofs.Common.{◌≡◌, ◌≤◌, ◌<◌, ◌∙◌, ap, sym, refl, ℕ, Bool, true, false, List, [], ◌∷◌, length, map, take, Option, Some, None, slice_index_or}
 use Rattle.capkit.proofs.Common.{is_none, if◌then◌else◌, Bor, list_all, list_any, cond-false, and_from, cond-true, le-leb, le-ltb, lt-ltb, length-map, take_all}
 use Rattle.capkit.proofs.Common.{list_any-map, has_proper_ranges, is_range, most_ranges, Text, range_fault, range_number, range_of, sides_of, BadRange}

@@ -1,4 +1,4 @@
--- The range that is read of a word is the one that the word writes.
+-- The range that is read from a word is the one that the word writes.
 use Rattle.capkit.proofs.Common.{◌≡◌, ◌∙◌, ◌++◌, ◌<◌, ap, arith, refl, subst, sym, ℕ, Bool, true, false, List, ◌∷◌, length, Option, Some, None, IfNone}
 use Rattle.capkit.proofs.Common.{if◌then◌else◌, nat_lt, slice_index_or, is_ascii_digit, after_first, before_first, list_all, list_any, position_or_len}
 use Rattle.capkit.proofs.Common.{IsNumeral, digits_value, and_from, and_parts, cond-true, eqb-true, lt-ltb, ltb-true, IsNumeralModel, not_in_digits}

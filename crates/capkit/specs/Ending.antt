@@ -1,4 +1,4 @@
--- How a run ends, by what became of what it wrote.
+-- How a run ends, depending on whether its output could be written.
 use Rattle.std.specs.Prelude.{ℕ, Bool, true, false, ◌||◌, Option, Some, None, is_some, max, if◌then◌else◌}
 use Rattle.std.specs.declared.io.ErrorKind.{ErrorKind, TheVariants.BrokenPipe}
 

@@ -1,3 +1,4 @@
+-- The definitions that contracts cite.
 pub mod Arguments
 pub mod Ending
 pub mod Line

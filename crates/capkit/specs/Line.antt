@@ -1,4 +1,4 @@
--- What the words of a command line ask for.
+-- The command that the words of a command line ask for.
 use Rattle.std.specs.{Global.Global, Global.Vec, List.join_by, List.list_any}
 use Rattle.std.specs.Option.{option_and_then, option_map_or, option_to_list}
 use Rattle.std.specs.Prelude.{◌≡◌, ◌&&◌, ◌||◌, ◌⊎◌, ℕ, Bool, false, not, List, [], ◌∷◌, length, map, nat_lt, codes, Option, Some, None, is_none, is_some, option_map, unwrap_or, if◌then◌else◌, string_bytes, vec_len}

@@ -1,4 +1,4 @@
--- Names of inputs and outputs.
+-- The names of inputs and outputs, and which of them are standard streams.
 use Rattle.std.specs.{List.list_any, Option.option_map_or}
 use Rattle.std.specs.Prelude.{◌&&◌, ◌||◌, ℕ, Bool, false, not, List, nat_lt, codes, count_by, Option}
 use Rattle.std.specs.Str.{bytes_eq}

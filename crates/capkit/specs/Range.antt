@@ -1,4 +1,4 @@
--- The ranges of packets that words of a command line name.
+-- The ranges of packets that words of a command line write.
 use Rattle.std.specs.{Char.is_ascii_digit, List.after_first, List.before_first, List.list_all, List.list_any}
 use Rattle.std.specs.Prelude.{◌==◌, ◌&&◌, ℕ, Bool, List, length, nat_lt, Option, Some, None, if◌then◌else◌}
 use Rattle.std.specs.Str.Parse.{digits_value}

@@ -1,4 +1,4 @@
--- The status that words which aren't a command line end with.
+-- The status of a command line that isn't run: help, version or a refusal.
 use Rattle.std.specs.Prelude.{ℕ, Bool, true, false, if◌then◌else◌}
 use Rattle.clap.specs.Words.{kind_of}
 use Rattle.clap.specs.declared.error.kind.ErrorKind.{ErrorKind, TheVariants.DisplayHelp, TheVariants.DisplayVersion}

@@ -1,4 +1,4 @@
-//! Whether a line's output is a file that the line reads too, under another name or through links.
+//! Whether a line's output is one of its inputs too, under another name or through links.
 ghost use Rattle.std.specs.Prelude.{◌≡◌, false, true, is_none, option_map, string_bytes, vec_len};
 ghost use Rattle.capkit.specs.inside.Streams.{input_path, output_path};
 

@@ -1,4 +1,4 @@
-//! How far long work is: shown on a terminal, if the output is a file, from two seconds on, and
+//! Shows the progress of long work on a terminal, if the output is a file: from two seconds on, and
 //! erased at the end.
 
 use crate::STANDARD;

@@ -1,4 +1,4 @@
-//! Why a command was not run to its end.
+//! Why a command stopped before its end.
 ghost use Rattle.std.specs.Prelude.{◌≡◌};
 
 use crate::FAULT;

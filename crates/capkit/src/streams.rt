@@ -167,7 +167,9 @@ impl<S> Created<'_, S> {
     {
         match self {
             Created::File(output) if !output.is_emptied => {
-                if output.file.metadata()?.is_file() {
+                // ext4 writes a file out when it is closed that was cut to nothing, even a new one.
+                let metadata = output.file.metadata()?;
+                if metadata.is_file() && metadata.len() > 0 {
                     output.file.set_len(0)?;
                 }
                 output.is_emptied = true;

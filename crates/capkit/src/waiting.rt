@@ -1,5 +1,5 @@
-//! When the output of a run is written out of its buffer: before a read that may wait, so that it
-//! is seen as it comes, and isn't lost if the run is stopped while it waits.
+//! Writes the buffered output of a run before a read that may wait, so that it is seen at once, and
+//! isn't lost if the run is stopped while it waits.
 ghost use Rattle.std.specs.Prelude.{◌≡◌, false, true};
 
 use crate::identity::Identify;

@@ -1,1 +1,2 @@
+-- The lemmas that several proofs share.
 pub mod NodesBack

@@ -1,3 +1,4 @@
+-- The definitions that contracts cite.
 pub mod Tree
 pub mod Nodes
 pub mod Nets

@@ -1,4 +1,4 @@
--- A listing is assembled from the bytes of its lines, and a front of it is written at each place.
+-- The bytes of the lines are the listing, and if a line can't be written, a prefix of it.
 use Rattle.flt_bpf.proofs.Common.{◌≡◌, ℕ, ◌+◌, ◌-◌, ◌<◌, ◌≤◌, List, [], ◌∷◌, ◌++◌, length, take, drop, length-append, append_assoc, refl, sym, ap, ◌∙◌, arith}
 use Rattle.flt_bpf.proofs.Common.{get_or, decimal, take_all, take_more, drop_more, take-append-drop, take-append-le, Insn, LINE_FEED, insn_line, insn_lines}
 use Rattle.flt_bpf.proofs.Common.{listing}

@@ -1,4 +1,4 @@
--- The code of an operation that a code gives is that code, and gives it; and the number in four bytes.
+-- Operations and their codes are the same in both directions, and a word is its four bytes.
 use Rattle.flt_bpf.proofs.Common.{◌≡◌, ℕ, List, [], ◌∷◌, Some, refl, arith, nat_tests, Operation, LoadAbsolute, LoadIndirect, Load, Store, Compute, JumpIf}
 use Rattle.flt_bpf.proofs.Common.{Immediate, Constant, Equal, code_of, found, operations, ◌+◌, ◌*◌, ◌<◌, zero, suc, All}
 use Rattle.flt_bpf.specs.Instructions.{operation_of}

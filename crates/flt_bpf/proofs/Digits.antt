@@ -1,5 +1,4 @@
--- What the reader takes for a number is one, and the numbers that are written are taken for
--- themselves.
+-- The reader of numbers accepts exactly the written numbers.
 use Rattle.flt_bpf.proofs.Common.{◌≡◌, ℕ, ◌^◌, ◌<◌, ◌≤◌, List, [], ◌∷◌, length, true, false, Some, ap, arith, nat_lt, ◌==◌, All, decimal, nat_tests}
 use Rattle.flt_bpf.proofs.Common.{decimal_is_IsNumeral, length-decimal-le, All-cons, All-nil, IsWrittenNumber, digits_from_test, digits_pass, numeral}
 use Rattle.std.specs.Str.Parse.{AllDigits, digits_value}

@@ -1,4 +1,4 @@
--- The jumps of code that has one more instruction in front.
+-- The jumps of code stay needed if an instruction is put before it.
 use Rattle.flt_bpf.proofs.Common.{◌≡◌, ℕ, zero, suc, ◌+◌, List, ◌∷◌, Some, arith, ap, ◌∙◌, inl, inr, ◌≢◌, ◌⊎◌, slice_get, Insn}
 use Rattle.flt_bpf.specs.Layout.{JUMP, IsNeeded, JumpsAreNeeded}
 

@@ -1,4 +1,4 @@
--- A listing, read line by line.
+-- Reading a listing line by line reads the whole listing.
 use Rattle.flt_bpf.proofs.Common.{◌≡◌, ℕ, zero, suc, ◌+◌, ◌-◌, ◌<◌, ◌≤◌, List, [], ◌∷◌, ◌++◌, length, length-append, Some, None, refl, sym, ap, ◌∙◌, subst}
 use Rattle.flt_bpf.proofs.Common.{arith, ◌==◌, ◌⊎◌, Bool, cond, inl, inr, onto_first, slice_get, slice_split, length-slice_split, AllZip, Insn, LINE_FEED}
 use Rattle.flt_bpf.proofs.Common.{lines_from, lines_of, IsInsnLine, line_numbers, insn_of, AreInsns, HasInsn, WrongAfter}

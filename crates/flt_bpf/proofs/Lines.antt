@@ -1,4 +1,4 @@
--- A text that is cut at the first of some byte, and the numbers of a line, read one by one.
+-- A text is cut at the first occurrence of a byte, and the numbers of a line are read one by one.
 use Rattle.flt_bpf.proofs.Common.{◌≡◌, ℕ, ◌<◌, List, [], ◌∷◌, length, Option, Some, None, refl, sym, ap, ◌∙◌, arith, ◌==◌, slice_split, length-slice_split}
 use Rattle.flt_bpf.proofs.Common.{Insn, BLANK, numeral, after, later_numbers, numbers_of, line_numbers, insn_from, insn_of, only_of, zero, suc, ◌+◌, ◌-◌}
 use Rattle.flt_bpf.proofs.Common.{get_or, take, drop, length-drop, true, false, nat_tests, slice_split-cons_yes, slice_split-cons_no, onto_first, take_all}

@@ -1,4 +1,4 @@
--- The numbers that the reader finds on a line are the line's.
+-- The numbers that the reader finds on a line are those that the line writes.
 use Rattle.flt_bpf.proofs.Common.{◌≡◌, ℕ, zero, suc, ◌<◌, List, [], ◌∷◌, ◌++◌, length, append_assoc, Bool, Option, Some, refl, sym, ap, ◌∙◌, subst, arith, ◌==◌}
 use Rattle.flt_bpf.proofs.Common.{replicate, slice_split, join_with_byte, slice_split_at, slice_split_none, length-slice_split, slice_split-cons_yes}
 use Rattle.flt_bpf.proofs.Common.{join_with_byte-slice_split, BLANK, AreNumbers, numeral, after, later_numbers, numbers_of, line_numbers}

@@ -1,4 +1,5 @@
--- The instruction that the reader finds on a line is the line's, and so a text is read in one way.
+-- The instruction that the reader finds on a line is the one that it writes, so a text has one
+-- reading.
 use Rattle.flt_bpf.proofs.Common.{◌≡◌, ℕ, ◌≤◌, List, [], ◌∷◌, length, Option, Some, refl, sym, ap, ◌∙◌, subst, AllZip, Insn, MOST_INSTRUCTIONS, MOST_BYTES}
 use Rattle.flt_bpf.proofs.Common.{IsWrittenNumber, IsInsnLine, lines_of, AreListingLines, IsListing, line_numbers, only_of, AreInsns, arith, nat_tests}
 use Rattle.flt_bpf.proofs.Common.{HasFieldsInRange, insn_from, insn_of}

@@ -1,4 +1,4 @@
--- The check of one instruction finds a fault exactly where the instruction breaks that rule.
+-- The check of one instruction finds a fault if and only if the instruction breaks that rule.
 use Rattle.flt_bpf.proofs.Common.{◌≡◌, ℕ, ◌+◌, ◌-◌, ◌<◌, Option, Some, arith, nat_tests, Insn, CheckFault, Operation, fault_if_known, OperationBreaks}
 use Rattle.flt_bpf.specs.{Check.fault_of, Instructions.operation_of}
 

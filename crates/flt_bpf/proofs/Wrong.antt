@@ -1,4 +1,4 @@
--- The line at which the reader refuses a text is the first wrong one, and a listing has none.
+-- The reader refuses a text at its first wrong line, and a listing has none.
 use Rattle.flt_bpf.proofs.Common.{◌≡◌, ℕ, zero, suc, ◌<◌, ◌≤◌, List, [], ◌∷◌, length, Some, refl, sym, ap, ◌∙◌, arith, ◌⊎◌, inl, inr, slice_get, AllZip, Insn}
 use Rattle.flt_bpf.proofs.Common.{MOST_INSTRUCTIONS, MOST_BYTES, IsWrittenNumber, IsInsnLine, lines_of, AreListingLines, IsListing, HasCount, IsWrong}
 use Rattle.flt_bpf.proofs.Common.{FirstWrong, IsRefusedAt, HasInsn, WrongAfter, IsFaultAfter, line_numbers, only_of}

@@ -1,4 +1,4 @@
--- Where long jumps are in a program.
+-- The places of long jumps in a program.
 use Rattle.std.specs.Prelude.{◌≡◌, ◌≢◌, ◌⊎◌, ℕ, ◌+◌, ◌<◌, ◌≤◌, Bool, true, false, List, length, Option, Some, slice_get, All}
 use Rattle.flt_bpf.specs.{Instructions.operation_of, declared.insn.Insn.Insn}
 use Rattle.flt_bpf.specs.declared.operation.Operation.{Operation, TheVariants.JumpIf}

@@ -1,5 +1,5 @@
--- Listings of programs: how they are written, which texts are one, and which line of another text
--- is the first wrong one.
+-- Listings of programs: how they are written, which texts are listings, and which line of another
+-- text is the first wrong one.
 use Rattle.std.specs.List.{slice_split, AllZip}
 use Rattle.std.specs.Prelude.{◌≡◌, ℕ, zero, suc, ◌+◌, ◌^◌, ◌<◌, ◌≤◌, ◌⊎◌, ◌==◌, List, [], ◌∷◌, ◌++◌, length, replicate, slice_get, IsSomeAnd, decimal}
 use Rattle.std.specs.Str.Parse.{IsNumeral, digits_value}

@@ -1,4 +1,4 @@
--- Why a text is not read as a listing.
+-- Why a text isn't read as a listing.
 use Rattle.std.specs.Prelude.{ℕ, List}
 use Rattle.flt_bpf.specs.Listing.{IsRefusedAt}
 use Rattle.flt_bpf.specs.declared.fault.ListingFault.{ListingFault, TheVariants.NotListing, TheVariants.Memory}

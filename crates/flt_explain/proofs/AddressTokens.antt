@@ -1,4 +1,4 @@
--- Addresses mean their tokens: each is a few numbers, which are written one by one and joined.
+-- A written address is a word that means its token.
 use Rattle.flt_explain.proofs.Common.{◌≡◌, ℕ, suc, zero, ◌+◌, ◌*◌, ◌/◌, ◌%◌, ◌^◌, ◌<◌, ◌≤◌, List, [], ◌∷◌, ◌++◌, length, map, refl, sym, ap, ◌∙◌, subst, arith}
 use Rattle.flt_explain.proofs.Common.{Bool, true, false, ◌==◌, cond, lit<, lit≤, append_assoc, pow-suc, nat_tests, AllByRecursion, digits_is_IsNumeral}
 use Rattle.flt_explain.proofs.Common.{decimal_is_IsNumeral, decimal, digit_value, digit_glyph, digits_onto, IsNumeral, digits_value, IsDotted, within_word}

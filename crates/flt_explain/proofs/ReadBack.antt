@@ -1,4 +1,4 @@
--- The tokens of a resolved tree are read as that tree, and so what an expression means is read as
+-- The tokens of a resolved tree are read as that tree, so the meaning of an expression is read as
 -- the expression.
 use Rattle.flt_explain.proofs.Common.{◌≡◌, ℕ, suc, refl, ap, Bool, true, false, ◌&&◌, not, is_some, List, [], ◌∷◌, Option, Some, None, Operator, Protocol}
 use Rattle.flt_explain.proofs.Common.{TokenKind, ValueType, Proto, Direction, Qualifiers, CompleteQualifiers, NetMask, Value, NumberTree, literal, len, named}

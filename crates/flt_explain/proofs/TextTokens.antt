@@ -1,4 +1,4 @@
--- A sign in a text is a token, and the text of tokens is cut into these tokens.
+-- The text of tokens is cut into these tokens.
 use Rattle.flt_explain.proofs.Common.{◌≡◌, ℕ, ◌<◌, ◌≤◌, ◌⊎◌, ⊎_elim, inr, List, [], ◌∷◌, ◌++◌, length, get_or, take, refl, ◌∙◌, arith, Bool, true, false, ◌==◌}
 use Rattle.flt_explain.proofs.Common.{◌&&◌, ◌||◌, not, nat_tests, list_all, Option, None, Some, TokenKind, within_word, look_up, symbol_of, found_passes}
 use Rattle.flt_explain.proofs.Common.{IsToken, symbol_meaning, longest_one, longest_two, fixed_spelling, inl, suc, zero, ◌+◌, drop, sym, ap, subst, cond}

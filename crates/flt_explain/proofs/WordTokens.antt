@@ -1,5 +1,5 @@
--- A word in a text, after which no byte of it follows, is a token; and each word that is written
--- means its token.
+-- A written word is a token if no byte of a word follows it, and means the token for which it was
+-- written.
 use Rattle.flt_explain.proofs.Common.{◌≡◌, ℕ, suc, zero, ◌+◌, ◌-◌, ◌<◌, ◌≤◌, List, [], ◌∷◌, ◌++◌, length, get_or, refl, sym, ap, ◌∙◌, arith, Bool, true, false}
 use Rattle.flt_explain.proofs.Common.{◌&&◌, nat_lt, Some, nat_tests, get_or-append-add, get_or_append_left, take_at, digit_value, is_ascii_alphanumeric}
 use Rattle.flt_explain.proofs.Common.{AllByRecursion, list_all, AllDigits, TokenKind, starts_word, within_word, keyword_of, IsToken, IsWordPiece, word_meaning}

@@ -1,4 +1,4 @@
--- Each tree that is read of a text is writable.
+-- Each token of a text can be written.
 use Rattle.flt_explain.proofs.Common.{◌≡◌, ℕ, ◌^◌, ◌<◌, List, refl, arith, rules, Bool, true, false, Result, Ok, Err, AllByRecursion, list_all, Token}
 use Rattle.flt_explain.proofs.Common.{TokenKind, IsDotted, IsIp6, shortened, whole, is_word_sized, PieceMeans, Tokens, TokensFrom, before, symbol_meaning}
 use Rattle.flt_explain.proofs.Common.{word_meaning, short, too_long, Spells, fits, keyword, mac, ip6, known, found_passes, kinds_of, IsDottedAddress, has_name}

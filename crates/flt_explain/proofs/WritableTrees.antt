@@ -1,4 +1,4 @@
--- What is read of writable tokens is writable, and stays so as it is resolved.
+-- Each tree that is read from a text can be written, also after its qualifiers are completed.
 use Rattle.flt_explain.proofs.Common.{ℕ, List, Option, Ok, lit<, AllByRecursion, Protocol, Token, TokenKind, ValueType, Tokens, Direction, Qualifiers, NetMask}
 use Rattle.flt_explain.proofs.Common.{Value, NumberTree, TruthTree, denied, joined, Expression, empty, truth, latest, with_inherited, complete, only_host}
 use Rattle.flt_explain.proofs.Common.{fill_expression, ReadsProtocol, no_protocol, protocol, ReadsDirection, no_direction, one_side, ReadsType, no_type}

@@ -1,4 +1,4 @@
--- The nodes from the last to the first are written as the tokens of their tree.
+-- Writing the nodes from the last to the first gives the tokens of their tree.
 use Rattle.flt_explain.proofs.Common.{◌≡◌, ℕ, ◌+◌, ◌-◌, ◌<◌, ◌≤◌, refl, sym, ap, ◌∙◌, subst, arith, Bool, true, false, List, [], ◌∷◌, Some, None, length, drop}
 use Rattle.flt_explain.proofs.Common.{get_or, nat_lt, nat_tests, drop_more, length-drop, TokenKind, NumberTree, load, negated, applied, TruthTree, check, cast}
 use Rattle.flt_explain.proofs.Common.{compared, denied, joined, Expression, empty, truth, number_tokens, truth_tokens, explained_tokens, open_operand}

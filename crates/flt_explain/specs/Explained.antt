@@ -1,5 +1,5 @@
--- What an expression means, as an expression: its tree with all qualifiers, and parentheses around
--- each operand that is neither a single word nor an accessor.
+-- The meaning of an expression, as an expression: its tree with all qualifiers, and parentheses
+-- around each operand that is neither a single word nor an accessor.
 use Rattle.std.specs.Prelude.{ℕ, Bool, true, false, List, [], ◌∷◌, Option, Some, None}
 use Rattle.flt_words.specs.declared.token.Operator.TheVariants.{Subtract, Divide}
 use Rattle.flt_words.specs.declared.token.Protocol.{Protocol}

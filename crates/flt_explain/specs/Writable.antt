@@ -1,4 +1,4 @@
--- The trees that a text can give, and what it is that a text is read back as a tree.
+-- The trees that a text can have, and what it means that a text is read back as a tree.
 use Rattle.std.specs.Prelude.{◌≡◌, ℕ, ◌<◌, ◌≤◌, ◌-◌, ◌%◌, ◌^◌, ◌==◌, Bool, true, ◌||◌, List, Some, None, Ok}
 use Rattle.flt_words.specs.declared.token.Token.{Token}
 use Rattle.flt_words.specs.Tokens.{Tokens}

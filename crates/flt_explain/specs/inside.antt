@@ -1,3 +1,3 @@
--- What no promise rests on: it helps the crate's own functions and proofs.
+-- Helpers for functions and proofs of this crate: no promise rests on them.
 pub mod Backward
 pub mod Writable

@@ -1,6 +1,7 @@
 -- Decision trees of cases: they read as one case after the other, and have few tests.
 use Rattle.flt_gen.proofs.Ascending.{if_case, each_is}
-use Rattle.flt_gen.proofs.Common.{◌≡◌, ℕ, zero, suc, ◌+◌, ◌-◌, ◌*◌, ◌^◌, ◌<◌, ◌≤◌, List, [], ◌∷◌, ◌++◌, length, map, max, length-take, take, drop, Bool, true}
+use Rattle.flt_gen.proofs.Common.{◌≡◌, ℕ, zero, suc, ◌+◌, ◌-◌, ◌*◌, ◌/◌, ◌^◌, ◌<◌, ◌≤◌, List, [], ◌∷◌, ◌++◌, length, map, max, length-take, take, drop, Bool}
+use Rattle.flt_gen.proofs.Common.{true}
 use Rattle.flt_gen.proofs.Common.{false, Option, Some, None, refl, sym, ap, ap₂, ◌∙◌, subst, arith, add-one, field, is_empty, is_idle, capture_test, last_test}
 use Rattle.flt_gen.proofs.Common.{needed_tests, ◌==◌, ◌&&◌, nat_lt, nat_le, bit_and, nat_tests, and_parts, pow_pos, and_le_r, Tcp, Direction, Link, first_bits}
 use Rattle.flt_gen.proofs.Common.{Word, HalfWord, Byte, Width, Offset, Fixed, Equal, Elementary, Field, MatchResult, Yes, No, Rejected, reading_of, with}
@@ -8,7 +9,9 @@ use Rattle.flt_gen.proofs.Common.{field_at, under_mask, compares, elementary_rea
 use Rattle.flt_gen.proofs.Counted.{Bare, bare_within, bare_all, bare_one, bare_some, bare_both, bare_either, bare_split}
 use Rattle.flt_gen.proofs.Exclusive.{both_either, or_no, either_assoc, and_yes}
 use Rattle.flt_gen.proofs.{Needed.all_put, Needed.later_none, Needed.idle_holds, Needed.fewer, Once.equal_are, Together.word_small}
-use Rattle.std.specs.{List.list_all, List.insert, Prelude.slice_get}
+use Rattle.std.specs.{List.list_all, List.insert, Prelude.slice_get, Prelude.is_none}
+use Rattle.flt_ast.specs.declared.qualifiers.Direction.TheVariants as direction
+use Rattle.flt_words.specs.declared.token.Join.TheVariants.{Or}
 use Rattle.flt_gen.specs.Formula.{choose, Split}
 use Rattle.flt_gen.specs.declared.cases.Bound.{Bound, TheVariants.Below, TheVariants.From, TheVariants.Exactly}
 use Rattle.flt_gen.specs.declared.cases.Case.{Case}
@@ -17,7 +20,8 @@ use Rattle.flt_gen.specs.declared.{elementary.FieldTest.FieldTest, relation.Rela
 use Rattle.flt_gen.specs.inside.{Emitted.equals, Code.accessor_offset}
 use Rattle.flt_gen.specs.Numbers.{accessor_tests, width_of}
 use Rattle.flt_words.specs.declared.token.Protocol.{Protocol}
-use Rattle.flt_gen.specs.inside.Cases.{same_words, case_front, mac_place, ip6_place, case_tests, word_test, lowest, is_whole, keeps, all_keep, chain, test_at}
+use Rattle.flt_gen.specs.inside.Cases.{shares, same_words, case_front, mac_place, ip6_place, case_tests, word_test, lowest, is_whole, keeps, all_keep, chain}
+use Rattle.flt_gen.specs.inside.Cases.{test_at}
 use Rattle.flt_gen.specs.inside.Cases.{from_test, middle, is_parted, same_word, decided, decision}
 use Rattle.std.proofs.lemmas.{List.length-map, List.map-append, List.take-append-drop, List.length-drop, List.length-append, Nat.and-not, Nat.and_comm}
 
@@ -92,8 +96,9 @@ some_fields link d (Mac a) = omega arith
 some_fields link d _ = omega arith
 
 -- relations of one accessor
-relations_are : (a b : Relation) → same_words (Case.Relation a) (Case.Relation b) ≡ true → (a.protocol ≡ b.protocol) × (a.size ≡ b.size) × (a.index ≡ b.index)
-relations_are a b e =
+relations_are : (d : Direction) (a b : Relation) → same_words d (Case.Relation a) (Case.Relation b) ≡ true → (a.protocol ≡ b.protocol) × (a.size
+    ≡ b.size) × (a.index ≡ b.index)
+relations_are d a b e =
     let one = and_parts (equals a.protocol b.protocol) _ e in
     let same = one.1 in
     (equal_are a.protocol b.protocol one.0, grind (arith, nat_tests), grind (arith, nat_tests))
@@ -106,18 +111,18 @@ some_front link (Case.Relation r) = by r.protocol
     by _ = omega arith
 some_front link _ = omega arith
 
-pub alike : (link : Link) (d : Direction) (a b : Case) → same_words a b ≡ true → (fields_of link d b ≡ fields_of link d a)
+pub alike : (link : Link) (e d : Direction) (a b : Case) → same_words e a b ≡ true → (fields_of link d b ≡ fields_of link d a)
     × (case_front link b ≡ case_front link a)
-alike link d (Case.Relation a) (Case.Relation b) e =
-    let h = relations_are a b e in (
+alike link e d (Case.Relation a) (Case.Relation b) same =
+    let h = relations_are e a b same in (
       ap₂ (λ o w. (o, w) ∷ []) (ap₂ (accessor_offset link) (sym h.0) (sym h.2)) (ap width_of (sym h.1)),
       ap (accessor_tests link) (sym h.0),
     )
-alike link d (Mac a) (Mac b) e = (refl, refl)
-alike link d (Ip6 m a) (Ip6 n b) e = (refl, refl)
-alike link d (IpProto a) (IpProto b) e = (refl, refl)
-alike link d (Ip6Proto a) (Ip6Proto b) e = (refl, refl)
-alike link d _ _ e = cc
+alike link e d (Mac a) (Mac b) same = (refl, refl)
+alike link e d (Ip6 m a) (Ip6 n b) same = (refl, refl)
+alike link e d (IpProto a) (IpProto b) same = (refl, refl)
+alike link e d (Ip6Proto a) (Ip6Proto b) same = (refl, refl)
+alike link e d _ _ same = cc
 
 -- ---- what is read of words
 
@@ -153,7 +158,7 @@ abbrev first : List Elementary → Option Elementary
 first [] = None
 first (t ∷ ts) = Some t
 
-abbrev rest : List Elementary → List Elementary
+abbrev pub rest : List Elementary → List Elementary
 rest [] = []
 rest (t ∷ ts) = ts
 
@@ -181,11 +186,11 @@ kept_rows : (by : Case → List Elementary) (w : ℕ) (b : Bound) (cs : List Cas
 kept_rows by w b [] = refl
 kept_rows by w b (c ∷ cs) = ap₂ (λ o z. keeps b o && z) (first_is (by c) w) (kept_rows by w b cs)
 
-rows_rest : (by : Case → List Elementary) (w : ℕ) (cs : List Case) → rows by (w + 1) cs ≡ map rest (rows by w cs)
+pub rows_rest : (by : Case → List Elementary) (w : ℕ) (cs : List Case) → rows by (w + 1) cs ≡ map rest (rows by w cs)
 rows_rest by w [] = refl
 rows_rest by w (c ∷ cs) = ap₂ (λ x xs. x ∷ xs) (rest_is (by c) w) (rows_rest by w cs)
 
-shapes_rest : (f : Offset × Width) (fs : List (Offset × Width)) (rs : List (List Elementary)) → Shapes (f ∷ fs) rs → Shapes fs (map rest rs)
+pub shapes_rest : (f : Offset × Width) (fs : List (Offset × Width)) (rs : List (List Elementary)) → Shapes (f ∷ fs) rs → Shapes fs (map rest rs)
 shapes_rest f fs [] h = tt
 shapes_rest f fs ((Field t ∷ ts) ∷ rs) h = ((h.0).4, shapes_rest f fs rs h.1)
 shapes_rest f fs (_ ∷ rs) h = absurd h.0
@@ -213,7 +218,8 @@ sizes_append : (rs ss : List (List Elementary)) → sizes (rs ++ ss) ≡ sizes r
 sizes_append [] ss = omega arith
 sizes_append (r ∷ rs) ss = let h = sizes_append rs ss in omega arith
 
-sizes_rest : (f : Offset × Width) (fs : List (Offset × Width)) (rs : List (List Elementary)) → Shapes (f ∷ fs) rs → sizes rs ≡ length rs + sizes (map rest rs)
+pub sizes_rest : (f : Offset × Width) (fs : List (Offset × Width)) (rs : List (List Elementary)) → Shapes (f ∷ fs) rs → sizes rs ≡ length rs + sizes
+    (map rest rs)
 sizes_rest f fs [] h = omega arith
 sizes_rest f fs ((Field t ∷ ts) ∷ rs) h = let more = sizes_rest f fs rs h.1 in omega arith
 sizes_rest f fs (_ ∷ rs) h = absurd h.0
@@ -535,38 +541,52 @@ module _ (link : Link) where
 
 -- ---- cases that have the words of one
 
-abbrev pub Likes : Case → List Case → Type 0
-Likes k [] = Unit {0}
-Likes k (c ∷ cs) = (same_words k c ≡ true) × Likes k cs
+abbrev pub Likes : Direction → Case → List Case → Type 0
+Likes e k [] = Unit {0}
+Likes e k (c ∷ cs) = (same_words e k c ≡ true) × Likes e k cs
 
-pub shapes_of : (link : Link) (d : Direction) (k : Case) (cs : List Case) → Likes k cs → Shapes (fields_of link d k) (rows (case_tests link d) 0 cs)
-shapes_of link d k [] h = tt
-shapes_of link d k (c ∷ cs) h = (subst (λ fs. Shape fs (case_tests link d c)) (alike link d k c h.0).0 (shape_of link d c), shapes_of link d k cs h.1)
+pub shapes_of : (link : Link) (e d : Direction) (k : Case) (cs : List Case) → Likes e k cs → Shapes (fields_of link d k) (rows (case_tests link d) 0 cs)
+shapes_of link e d k [] h = tt
+shapes_of link e d k (c ∷ cs) h = (subst (λ fs. Shape fs (case_tests link d c)) (alike link e d k c h.0).0 (shape_of link d c), shapes_of link e d k cs h.1)
 
-pub alike_alike : (a b c : Case) → same_words a b ≡ true → same_words b c ≡ true → same_words a c ≡ true
-alike_alike (Case.Relation a) (Case.Relation b) (Case.Relation c) e f =
-    let h = relations_are a b e in
+shared : (e : Direction) (s t u : Bool) → (s ≡ true → t ≡ true → u ≡ true) → shares e s ≡ true → shares e t ≡ true → shares e u ≡ true
+shared (direction.Both Or) s t u h f g = h f g
+shared _ s t u h f g = refl
+
+same_number : (x y z : ℕ) → (x == y) ≡ true → (y == z) ≡ true → (x == z) ≡ true
+same_number x y z e f = grind (arith, nat_tests)
+
+pub alike_alike : (e : Direction) (a b c : Case) → same_words e a b ≡ true → same_words e b c ≡ true → same_words e a c ≡ true
+alike_alike e (Case.Relation a) (Case.Relation b) (Case.Relation c) f g =
+    let h = relations_are e a b f in
     ap (λ p. equals p c.protocol && (a.size == c.size && a.index == c.index)) h.0
-    ∙ ap₂ (λ s i. equals b.protocol c.protocol && (s == c.size && i == c.index)) h.1 h.2 ∙ f
-alike_alike (Mac a) (Mac b) (Mac c) e f = refl
-alike_alike (Ip6 m a) (Ip6 n b) (Ip6 l c) e f = refl
-alike_alike (IpProto a) (IpProto b) (IpProto c) e f = refl
-alike_alike (Ip6Proto a) (Ip6Proto b) (Ip6Proto c) e f = refl
-alike_alike _ _ _ e f = cc
+    ∙ ap₂ (λ s i. equals b.protocol c.protocol && (s == c.size && i == c.index)) h.1 h.2 ∙ g
+alike_alike e (Mac a) (Mac b) (Mac c) f g = shared e _ _ _ (same_number (a / 2 ^ 16) (b / 2 ^ 16) (c / 2 ^ 16)) f g
+alike_alike e (Ip6 m a) (Ip6 n b) (Ip6 l c) f g = shared e _ _ _ by f g
+  where
+    by : ((is_none m && is_none n) && a / 2 ^ 32 == b / 2 ^ 32) ≡ true → ((is_none n && is_none l) && b / 2 ^ 32 == c / 2 ^ 32) ≡ true
+        → ((is_none m && is_none l) && a / 2 ^ 32 == c / 2 ^ 32) ≡ true
+    by f g =
+        let h = and_parts (is_none m && is_none n) _ f in
+        let k = and_parts (is_none n && is_none l) _ g in
+        ap₂ (λ x y. x && y)
+        (ap₂ (λ x y. x && y) (and_parts (is_none m) (is_none n) h.0).0 (and_parts (is_none n) (is_none l) k.0).1)
+        (same_number (a / 2 ^ 32) (b / 2 ^ 32) (c / 2 ^ 32) h.1 k.1)
+alike_alike e (IpProto a) (IpProto b) (IpProto c) f g = refl
+alike_alike e (Ip6Proto a) (Ip6Proto b) (Ip6Proto c) f g = refl
+alike_alike e _ _ _ f g = cc
 
-pub self_alike : (a : Case) → same_words a a ≡ true
-self_alike (Case.Relation r) = ap₂ (λ b c. b && c) (self_equal r.protocol) (let t : (r.size == r.size && r.index == r.index) ≡ true =
-    grind (arith, nat_tests) in t)
+pub self_relation : (r : Relation) → (equals r.protocol r.protocol && (r.size == r.size && r.index == r.index)) ≡ true
+self_relation r = ap₂ (λ b c. b && c) (self_equal r.protocol) (let t : (r.size == r.size && r.index == r.index) ≡ true = grind (arith, nat_tests) in t)
   where
     self_equal : (p : Protocol) → equals p p ≡ true
     self_equal Tcp = refl
     self_equal _ = refl
-self_alike _ = refl
 
-pub likes_put : (k c : Case) (i : ℕ) (cs : List Case) → same_words k c ≡ true → Likes k cs → Likes k (insert cs i c)
-likes_put k c zero cs e h = (e, h)
-likes_put k c (suc i) [] e h = (e, tt)
-likes_put k c (suc i) (d ∷ ds) e h = (h.0, likes_put k c i ds e h.1)
+pub likes_put : (e : Direction) (k c : Case) (i : ℕ) (cs : List Case) → same_words e k c ≡ true → Likes e k cs → Likes e k (insert cs i c)
+likes_put e k c zero cs f h = (f, h)
+likes_put e k c (suc i) [] f h = (f, tt)
+likes_put e k c (suc i) (d ∷ ds) f h = (h.0, likes_put e k c i ds f h.1)
 
 pub sizes_put : (by : Case → List Elementary) (c : Case) (i : ℕ) (cs : List Case) → sizes (rows by 0 (insert cs i c)) ≡ length (by c) + sizes (rows by 0 cs)
 sizes_put by c zero cs = refl

@@ -7,13 +7,12 @@ use Rattle.std.specs.declared.alloc.AllocError.{AllocError}
 use Rattle.flt_gen.specs.Formula.{Formula, Single, Both, Split, all_of, guarded_formula}
 use Rattle.flt_gen.specs.{declared.cases.Bound.TheVariants.Exactly, declared.cases.Case.Case}
 use Rattle.flt_gen.specs.declared.elementary.Elementary.{Elementary}
-use Rattle.flt_gen.specs.inside.Cases.{case_front, case_tests, cases_formula, few_of, MOST_DECISIONS, chain, decided, decision, all_keep, is_parted, middle}
+use Rattle.flt_gen.specs.inside.Cases.{chain, decided, decision, all_keep, is_parted, middle}
 use Rattle.flt_gen.specs.inside.Cases.{test_at, lowest, from_test, same_word}
 use Rattle.flt_gen.specs.inside.Emitted.{needed_tests, last_test, is_idle}
 use Rattle.flt_gen.specs.inside.{Code.Block, Code.emit_all, Code.emit_elementary, Code.emit_formula, Emits.Emits}
 use Rattle.flt_gen.proofs.Ascending.{if_case}
 use Rattle.flt_bpf.specs.declared.insn.Insn.{Insn}
-use Rattle.flt_ast.specs.declared.qualifiers.Direction.{Direction}
 use Rattle.cap_octet.specs.declared.link.Link.{Link}
 
 decision_put : (few k : ℕ) (tests : Case → List Elementary) (word : ℕ) (cs : List Case) → 0 < k → decision few k tests word cs ≡ decided few
@@ -60,11 +59,6 @@ turn_emitted r new link tests word cs other hit miss c e l is done =
     subst (λ (f : Block). Emits r f new)
     (sym (chain_emitted link tests word cs other hit miss c l ∙ ap (λ (f : Block). emit_all (needed_tests (drop word (tests (get_or cs 0 other)))) hit
     f.entry f.code) is)) done
-
-pub cases_put : (link : Link) (d : Direction) (cs : List Case) (other : Case) → 1 ≤ length cs → cases_formula link d cs
-    ≡ guarded_formula (case_front link (get_or cs 0 other)) (decision (few_of (get_or cs 0 other) (length cs)) MOST_DECISIONS (case_tests link d) 0 cs)
-cases_put link d [] other l = absurd (omega arith)
-cases_put link d (c ∷ cs) other l = refl
 
 pub tests_from : (ts : List Elementary) (word : ℕ) (t : Elementary) → slice_get ts word ≡ Some t → drop word ts ≡ t ∷ drop (word + 1) ts
 tests_from [] zero t e = cc

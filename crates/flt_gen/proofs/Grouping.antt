@@ -2,7 +2,8 @@
 -- and has no more tests.
 use Rattle.flt_gen.proofs.Ascending.{if_case, Each, each_is, Searchable, Reached, Ready, Ordered, Points, ordered_inserted, points_inserted, length_inserted}
 use Rattle.flt_gen.proofs.Ascending.{within_inserted, within_joined, searchable_joined, ends_few, one_point, joined_few, joined_points}
-use Rattle.flt_gen.proofs.Common.{◌≡◌, ℕ, ◌+◌, ◌-◌, ◌*◌, ◌<◌, ◌≤◌, max, List, [], ◌∷◌, length, Bool, true, false, Option, Some, None, refl, sym, ap, ap₂, ◌∙◌}
+use Rattle.flt_gen.proofs.Common.{◌≡◌, ℕ, ◌+◌, ◌-◌, ◌*◌, ◌/◌, ◌^◌, ◌<◌, ◌≤◌, max, List, [], ◌∷◌, length, Bool, true, false, Option, Some, None, refl, sym, ap}
+use Rattle.flt_gen.proofs.Common.{ap₂, ◌∙◌}
 use Rattle.flt_gen.proofs.Common.{subst, arith, ◌==◌, ◌||◌, ◌&&◌, nat_lt, nat_le, if◌then◌else◌, suc-mul, nat_tests, and_parts, or_parts, Protocol, Ip, Tcp}
 use Rattle.flt_gen.proofs.Common.{Udp, Source, Destination, And, Or, ValueType, Host, Net, Port, PortRange, Direction, CompleteQualifiers, Value, Interval}
 use Rattle.flt_gen.proofs.Common.{Sides, FrameKind, network_offset, not, map, and-false, inl, inr, Sought, sought_tests, is_address, joined_all, left_out}
@@ -11,24 +12,25 @@ use Rattle.flt_gen.proofs.Common.{valued, qualified, compared, denied, joined, i
 use Rattle.flt_gen.proofs.Common.{is_within, both, either, negation, Numbers, reads, check_formula, cast_formula, sized_formula, hosts_formula, port_test}
 use Rattle.flt_gen.proofs.Common.{port_formula, relation_formula, qualified_needed, formula, first_ends, Group, no_group, entry, with_member, same_type}
 use Rattle.flt_gen.proofs.Common.{same_protocol, same_direction, goes_with, member_of, group_and, larger_group, is_searched, numbers_of, several_formula}
-use Rattle.flt_gen.proofs.Common.{all_of, accessor_tests, accessor_test_count, guarded_formula, Elementary, with, Tcp, value_formula, Proto, rows_formula}
+use Rattle.flt_gen.proofs.Common.{accessor_tests, accessor_test_count, guarded_formula, Elementary, with, Tcp, value_formula, Proto, rows_formula}
 use Rattle.flt_gen.proofs.Common.{group_formula, or_any, or_group, choice, grouped_formula, MOST_TOGETHER, FEWEST_RANGES}
 use Rattle.flt_gen.proofs.Counted.{Sized, Bare, bare_within, bare_some, bare_both, bare_either, bare_else, bare_after, bare_sought, bare_check, bare_cast}
 use Rattle.flt_gen.proofs.Counted.{of_kinds, bare_hosts, bare_ports}
-use Rattle.flt_gen.proofs.Deciding.{fields_of, some_fields, some_front, shapes_of, rows, read_all, sizes, decision_good, Likes, likes_put, sizes_put}
-use Rattle.flt_gen.proofs.Deciding.{length_put, read_put, alike, alike_alike, self_alike}
+use Rattle.flt_gen.proofs.Deciding.{some_front, rows, Likes, likes_put, length_put, alike, alike_alike, self_relation}
+use Rattle.flt_gen.proofs.EitherSide.{one_formula, one_size, list_read, list_size, list_alone, list_more, none_size, size_put, list_formula, list_good}
+use Rattle.flt_gen.proofs.EitherSide.{like_either}
 use Rattle.flt_gen.proofs.{Exclusive.or_no, Exclusive.both_either, Exclusive.either_assoc, IdleBits.uncut}
 use Rattle.flt_gen.proofs.{Needed.bare_needed, Needed.value_same, Once.relation_sizes, Once.relation_same, Once.all_read, Once.guarded_read}
 use Rattle.flt_gen.proofs.Relations.{entry_tests, entry_bare, IsEntry, entry_is}
 use Rattle.flt_gen.proofs.Prefixes.{Idle, idle_sought, cut_in, cut_within, cut_order, cut_apart}
 use Rattle.flt_gen.proofs.Together.{Fitting, fitting_small, unmasked_fitting, address_fitting, Merged, members_read, members_more, members_alone, member_reads}
 use Rattle.flt_gen.proofs.Together.{IsMember, member_tests, several_are, member_is}
-use Rattle.std.specs.Prelude.{◌⊎◌, count_by}
+use Rattle.std.specs.Prelude.{◌⊎◌, count_by, is_none}
 use Rattle.flt_words.specs.declared.token.Protocol.TheVariants as protocol
 use Rattle.flt_gen.specs.declared.{address.Hosts.Hosts, cases.Case.Case}
-use Rattle.flt_gen.specs.inside.Cases.{case_of, same_words, key_of, case_front, case_tests, MOST_DECISIONS}
-use Rattle.flt_gen.specs.inside.Group.{with_case, has_none, shares_words, case_goes_with, larger_with, together_formula, entry_formula, entry_of, leaf_formula}
-use Rattle.flt_gen.specs.inside.Group.{fewest}
+use Rattle.flt_gen.specs.inside.Cases.{case_of, same_words, key_of, case_front, insert_case, are_either}
+use Rattle.flt_gen.specs.inside.Group.{with_case, shares_words, case_goes_with, larger_with, together_formula, entry_formula, entry_of, leaf_formula}
+use Rattle.flt_gen.specs.inside.Group.{fewest, fewest_as, fewest_either}
 use Rattle.std.proofs.lemmas.List.{length-map}
 use Rattle.cap_octet.specs.declared.link.Link.TheVariants as link
 use Rattle.cap_octet.specs.declared.link.Link.TheVariants.{Ether}
@@ -59,24 +61,27 @@ pub record Held (group : Group) (ms : List Interval) : Type 0 where
   pub rows : (link : Link) (p : List ℕ) (n : ℕ) → reads link (rows_formula link group.entries) p n ≡ members_read link p n group.qualifiers.value_type
       group.qualifiers.protocol group.qualifiers.direction group.first ms
 
--- a group of cases of this direction, which have the words of one
+-- a group of cases of this direction, which have the words of one, of which another one stands first
 pub record Listed (d : Direction) (group : Group) : Type 0 where
   pub kind : Case
-  pub like : Likes kind group.cases
+  pub first : Case
+  pub is_first : group.case ≡ Some first
+  pub first_like : same_words d kind first ≡ true
+  pub like : Likes d kind group.cases
   pub some : 0 < length group.cases
   pub all_count : length group.cases ≡ length group.entries
-  pub counted : (link : Link) → length (case_front link kind) + sizes (rows (case_tests link d) 0 group.cases) + length group.cases ≤ 1 + group_tests group
+  pub counted : (link : Link) → length (case_front link kind) + list_size (are_either d kind) link d group.cases + length group.cases ≤ 1 + group_tests group
   pub rows_are : (link : Link) (p : List ℕ) (n : ℕ) → reads link (rows_formula link group.entries) p n
-      ≡ both (all_read link p n (case_front link kind)) (read_all link p n (rows (case_tests link d) 0 group.cases))
+      ≡ both (all_read link p n (case_front link kind)) (list_read (are_either d kind) link d first group.cases p n)
 
 -- a group that waits: it has no members, or numbers or cases
 pub data Kept (group : Group) : Type 0 where
-  nothing : group.entries ≡ [] → group.all ≡ [] → group.cases ≡ [] → Kept group
-  numbered : 0 < length group.entries → group.cases ≡ [] → (ms : List Interval) → Held group ms → Kept group
+  nothing : group.entries ≡ [] → group.all ≡ [] → group.cases ≡ [] → group.case ≡ None → Kept group
+  numbered : 0 < length group.entries → group.case ≡ None → (ms : List Interval) → Held group ms → Kept group
   listed : 0 < length group.entries → Listed group.qualifiers.direction group → Kept group
 
 pub kept_none : Kept no_group
-kept_none = nothing refl refl refl
+kept_none = nothing refl refl refl refl
 
 -- several members' formula has no more tests
 several_hosts_few : (protocol : Option Protocol) (d : Direction) (n x : ℕ) → 1 + x ≤ n → of_kinds protocol (1 + (n * count.side_tests d 1 + x)) ≤ n *
@@ -173,8 +178,8 @@ ready at b group ms h some fit reached = record {
     up = searchable_joined group.all (let c = h.all_count in omega arith) h.ascends
 
 -- a group of members with numbers is searched by how many they are
-by_numbers : (group : Group) → group.cases ≡ [] → is_searched group ≡ nat_le (if group.is_plain then 2 else FEWEST_RANGES) (length group.entries)
-by_numbers group e = ap (λ cs. nat_le (fewest cs group.is_plain) (length group.entries)) e
+by_numbers : (group : Group) → group.case ≡ None → is_searched group ≡ nat_le (if group.is_plain then 2 else FEWEST_RANGES) (length group.entries)
+by_numbers group e = ap (λ o. nat_le (fewest o group.qualifiers.direction group.is_plain) (length group.entries)) e
 
 group_bare_several : (link : Link) (group : Group) (ms : List Interval) → Held group ms → nat_le (if group.is_plain then 2 else FEWEST_RANGES)
     (length group.entries) ≡ true → Bare (several_formula link group.qualifiers group.qualifiers.value_type (numbers_of group)) (group_tests group)
@@ -234,35 +239,55 @@ front_bare [] h = bare_within _ (omega arith) h
 front_bare (t ∷ ts) h = bare_within _ (omega arith) (bare_after (front_bare ts h))
 
 -- a group of cases has few tests, and reads as one after the other
-listed_is : (link : Link) (group : Group) → Listed group.qualifiers.direction group → is_searched group ≡ true → (cs : List Case) → cs ≡ group.cases
-    → Bare (together_formula link group cs) (group_tests group) × ((p : List ℕ) (n : ℕ) → reads link (together_formula link group cs) p n ≡ reads link
-    (rows_formula link group.entries) p n)
-listed_is link group h searched [] e = absurd (let some = h.some in let z = ap length e in omega arith)
-listed_is link group h searched (c ∷ cs) e =
-    let d = group.qualifiers.direction in
-    let by = case_tests link d in
+listed_is : (link : Link) (group : Group) → Listed group.qualifiers.direction group → is_searched group ≡ true
+    → Bare (together_formula link group group.case) (group_tests group) × ((p : List ℕ) (n : ℕ) → reads link (together_formula link group group.case) p n
+    ≡ reads link (rows_formula link group.entries) p n)
+listed_is link group h searched = subst Good (sym h.is_first)
+    (let good = list_good b link d h.kind h.first group.cases refl h.first_like h.like h.some many in
     let few = h.counted link in
-    let front : case_front link c ≡ case_front link h.kind = (alike link d h.kind c (subst (Likes h.kind) (sym e) h.like).0).1 in
-    let fronts = ap (λ (ts : List Elementary). length ts) front in
-    let rest : sizes (rows by 0 (c ∷ cs)) + length (c ∷ cs) ≡ sizes (rows by 0 group.cases) + length group.cases =
-    ap (λ ds. sizes (rows by 0 ds) + length ds) e in
-    let long = length-map cs by in
-    let good = decision_good link by _ MOST_DECISIONS 0 (fields_of link d h.kind) (c ∷ cs)
-    (shapes_of link d h.kind (c ∷ cs) (subst (Likes h.kind) (sym e) h.like)) in (
-      bare_within _ (omega arith) (front_bare (case_front link c) (good.1 (some_fields link d h.kind) (omega arith))),
-      λ p n. guarded_read link p n (case_front link c) _
-          ∙ ap₂ (λ ts r. both (all_read link p n ts) r) front (good.0 p n ∙ ap (λ ds. read_all link p n (rows by 0 ds)) e)
+    let fronts = ap (λ (ts : List Elementary). length ts) front in (
+      subst (λ (f : Formula). Bare f (group_tests group)) (sym put) (bare_within _ (omega arith) (front_bare (case_front link h.first) good.0)),
+      λ p n. ap (λ (f : Formula). reads link f p n) put ∙ guarded_read link p n (case_front link h.first) _
+          ∙ ap₂ (λ ts r. both (all_read link p n ts) r) front (good.1 p n)
           ∙ sym (h.rows_are link p n),
-    )
+    ))
+  where
+    d : Direction
+    d = group.qualifiers.direction
+
+    b : Bool
+    b = are_either d h.kind
+
+    Good : Option Case → Type 0
+    Good o = Bare (together_formula link group o) (group_tests group) × ((p : List ℕ) (n : ℕ) → reads link (together_formula link group o) p n
+        ≡ reads link (rows_formula link group.entries) p n)
+
+    same : are_either d h.first ≡ b
+    same = like_either d h.kind h.first h.first_like
+
+    front : case_front link h.first ≡ case_front link h.kind
+    front = (alike link d d h.kind h.first h.first_like).1
+
+    put : together_formula link group (Some h.first) ≡ guarded_formula (case_front link h.first) (list_formula b link d h.first group.cases)
+    put = ap (λ c. guarded_formula (case_front link h.first) (list_formula c link d h.first group.cases)) same
+
+    many : b ≡ true → fewest_either h.first ≤ length group.cases
+    many e =
+        let t : nat_le (fewest_either h.first) (length group.entries) ≡ true =
+        sym (ap (λ o. nat_le (fewest o d group.is_plain) (length group.entries)) h.is_first
+        ∙ ap (λ c. nat_le (if c then fewest_either h.first else fewest_as h.first) (length group.entries)) (same ∙ e)) ∙ searched in
+        let l = h.all_count in
+        let m : fewest_either h.first ≤ length group.entries = grind (arith, nat_tests) in
+        omega arith
 
 group_bare : (link : Link) (group : Group) → Kept group → 0 < length group.entries → Bare (group_formula link group) (group_tests group)
 group_bare link group k l = if_case (λ (f : Formula). Bare f (group_tests group)) (is_searched group) _ _ (by k) (λ e. rows_bare link group.entries l)
   where
-    by : Kept group → is_searched group ≡ true → Bare (together_formula link group group.cases) (group_tests group)
-    by (nothing none all empty) e = absurd (let z = ap length none in omega arith)
-    by (numbered l empty ms h) e = subst (λ cs. Bare (together_formula link group cs) (group_tests group)) (sym empty)
+    by : Kept group → is_searched group ≡ true → Bare (together_formula link group group.case) (group_tests group)
+    by (nothing none all empty alone) e = absurd (let z = ap length none in omega arith)
+    by (numbered l empty ms h) e = subst (λ o. Bare (together_formula link group o) (group_tests group)) (sym empty)
         (group_bare_several link group ms h (sym (by_numbers group empty) ∙ e))
-    by (listed l h) e = (listed_is link group h e group.cases refl).0
+    by (listed l h) e = (listed_is link group h e).0
 
 -- members that are looked for together read as one after the other
 searched_two : (group : Group) → nat_le (if group.is_plain then 2 else FEWEST_RANGES) (length group.entries) ≡ true → 2 ≤ length group.entries
@@ -273,16 +298,16 @@ group_rows : (link : Link) (p : List ℕ) (n : ℕ) (group : Group) → Kept gro
 group_rows link p n group k =
     if_case (λ (f : Formula). reads link f p n ≡ reads link (rows_formula link group.entries) p n) (is_searched group) _ _ (by k) (λ e. refl)
   where
-    by : Kept group → is_searched group ≡ true → reads link (together_formula link group group.cases) p n ≡ reads link (rows_formula link group.entries) p n
-    by (nothing none all empty) e = absurd (let two = searched_two group (sym (by_numbers group empty) ∙ e) in let z = ap length none in omega arith)
+    by : Kept group → is_searched group ≡ true → reads link (together_formula link group group.case) p n ≡ reads link (rows_formula link group.entries) p n
+    by (nothing none all empty alone) e = absurd (let two = searched_two group (sym (by_numbers group alone) ∙ e) in let z = ap length none in omega arith)
     by (numbered l empty ms h) e =
         let few = sym (by_numbers group empty) ∙ e in
-        ap (λ cs. reads link (together_formula link group cs) p n) empty
+        ap (λ o. reads link (together_formula link group o) p n) empty
         ∙ several_are link p n group.qualifiers (is_address group.qualifiers.value_type && not group.is_plain) group.first ms group.all
         (h.merged (searched_two group few)) h.ascends h.all_within group.qualifiers.value_type
         (λ t. (and_parts (is_address group.qualifiers.value_type) (not group.is_plain) t).0)
         ∙ sym (h.rows link p n)
-    by (listed l h) e = (listed_is link group h e group.cases refl).1 p n
+    by (listed l h) e = (listed_is link group h e).1 p n
 
 -- a formula stands for a truth, or else for the group after it
 pub record Stands (link : Link) (f : Formula) (a : TruthTree) (group : Group) : Type 0 where
@@ -335,7 +360,7 @@ alike_types _ _ e = (λ o d. cc, λ link p n o d m ms. cc)
 
 -- what is known where a value goes with members
 record Fits_in (q : CompleteQualifiers) (group : Group) : Type 0 where
-  none : has_none group.cases ≡ true
+  none : is_none group.case ≡ true
   merged : Merged q.direction
   tests_are : member_tests group.qualifiers.value_type group.qualifiers.protocol group.qualifiers.direction ≡ member_tests q.value_type q.protocol q.direction
   reads_are : (link : Link) (p : List ℕ) (n : ℕ) (m : Interval) (ms : List Interval) → members_read link p n group.qualifiers.value_type
@@ -346,7 +371,7 @@ fits_in q group [] l g = absurd (omega arith)
 fits_in q group (e ∷ es) l g =
     let room = nat_lt (length (e ∷ es)) MOST_TOGETHER in
     let o = group.qualifiers in
-    let a = and_parts (has_none group.cases) _ g in
+    let a = and_parts (is_none group.case) _ g in
     let b = and_parts (same_type q.value_type o.value_type) (same_protocol q.protocol o.protocol && (same_direction q.direction o.direction && room)) a.1 in
     let c = and_parts (same_protocol q.protocol o.protocol) (same_direction q.direction o.direction && room) b.1 in
     let d = and_parts (same_direction q.direction o.direction) room c.1 in
@@ -398,10 +423,10 @@ held_put q v m group ls w up within many points few merged rows = record {
 
 kept_with : (q : CompleteQualifiers) (v : Value) (m : Interval) (group : Group) → Kept group → goes_with q group group.entries ≡ true
     → member_of q.value_type v ≡ Some m → Kept (with_member q v m group)
-kept_with q v m group (nothing none all empty) g w =
+kept_with q v m group (nothing none all empty alone) g w =
     let zero : length group.entries ≡ 0 = ap length none in
     let no_all : length group.all ≡ 0 = ap length all in
-    numbered (omega arith) empty []
+    numbered (omega arith) alone []
     (held_put q v m group [] w (subst (Ordered 0) (sym all) tt) (λ y. ap (is_within y) all) (omega arith) (λ plain. subst Points (sym all) tt)
     (subst (λ k. k * member_tests q.value_type q.protocol q.direction ≤ group_tests group) (sym zero) (omega arith)) (λ l. absurd (omega arith))
     (λ link p n. ap (λ es. either (member_reads link p n q.value_type q.protocol q.direction m) (reads link (rows_formula link es) p n)) none
@@ -413,30 +438,31 @@ kept_with q v m group (numbered l empty ms h) g w =
     (subst (λ k. length group.entries * k ≤ group_tests group) f.tests_are h.counted) (λ l. f.merged)
     (λ link p n. ap (either (member_reads link p n q.value_type q.protocol q.direction m)) (h.rows link p n ∙ f.reads_are link p n group.first ms)
     ∙ sym (members_more link p n q.value_type q.protocol q.direction m group.first ms f.merged)))
-kept_with q v m group (listed l h) g w = absurd (no_cases group.cases (fits_in q group group.entries l g).none h.some)
-  where
-    no_cases : (cs : List Case) → has_none cs ≡ true → 0 < length cs → ⊥
-    no_cases [] e l = omega arith
-    no_cases (c ∷ cs) e l = cc
+kept_with q v m group (listed l h) g w = absurd (let none = ap is_none (sym h.is_first) ∙ (fits_in q group group.entries l g).none in cc)
 
 -- what has so many tests and this formula is a case
 abbrev Cased : Link → Direction → Case → ℕ → Formula → Type 0
-Cased link d c tests f = (length (case_front link c) + length (case_tests link d c) ≤ tests)
-    × ((p : List ℕ) (n : ℕ) → reads link f p n ≡ reads link (guarded_formula (case_front link c) (all_of (case_tests link d c))) p n)
+Cased link d c tests f = (same_words d c c ≡ true) × (length (case_front link c) + one_size (are_either d c) link d c ≤ tests)
+    × ((p : List ℕ) (n : ℕ) → reads link f p n ≡ reads link (guarded_formula (case_front link c) (one_formula (are_either d c) link d c)) p n)
 
 -- a value that is a case
 abbrev IsCase : Link → ValueType → Option Protocol → Direction → Value → Case → Type 0
 IsCase link k o d v c = Cased link d c (count.typed_tests k o d v) (value_formula link k o d v)
 
+self_number : (x : ℕ) → (x == x) ≡ true
+self_number x = grind (arith, nat_tests)
+
 case_is : (link : Link) (k : ValueType) (o : Option Protocol) (d : Direction) (v : Value) → Each (case_of k o d v) (IsCase link k o d v)
-case_is link Host o (direction.One Source) (value.Mac a) = (omega arith, λ p n. refl)
-case_is link Host o (direction.One Destination) (value.Mac a) = (omega arith, λ p n. refl)
-case_is link Host o (direction.One Source) (value.Ip6 a m) = (omega arith, λ p n. refl)
-case_is link Host o (direction.One Destination) (value.Ip6 a m) = (omega arith, λ p n. refl)
-case_is link Net o (direction.One Source) (value.Ip6 a m) = (omega arith, λ p n. refl)
-case_is link Net o (direction.One Destination) (value.Ip6 a m) = (omega arith, λ p n. refl)
-case_is link Proto (Some Ip) d (value.Number x m) = (omega arith, λ p n. refl)
-case_is link Proto (Some protocol.Ip6) d (value.Number x m) = (omega arith, λ p n. refl)
+case_is link Host o (direction.One Source) (value.Mac a) = (refl, omega arith, λ p n. refl)
+case_is link Host o (direction.One Destination) (value.Mac a) = (refl, omega arith, λ p n. refl)
+case_is link Host o (direction.Both Or) (value.Mac a) = (self_number (a / 2 ^ 16), omega arith, λ p n. refl)
+case_is link Host o (direction.One Source) (value.Ip6 a m) = (refl, omega arith, λ p n. refl)
+case_is link Host o (direction.One Destination) (value.Ip6 a m) = (refl, omega arith, λ p n. refl)
+case_is link Host o (direction.Both Or) (value.Ip6 a m) = (self_number (a / 2 ^ 32), omega arith, λ p n. refl)
+case_is link Net o (direction.One Source) (value.Ip6 a m) = (refl, omega arith, λ p n. refl)
+case_is link Net o (direction.One Destination) (value.Ip6 a m) = (refl, omega arith, λ p n. refl)
+case_is link Proto (Some Ip) d (value.Number x m) = (refl, omega arith, λ p n. refl)
+case_is link Proto (Some protocol.Ip6) d (value.Number x m) = (refl, omega arith, λ p n. refl)
 case_is link _ o d _ = tt
 
 fronts_few : (link : Link) (p : Protocol) → length (accessor_tests link p) + 1 ≤ accessor_test_count p + 1
@@ -449,70 +475,74 @@ place c cs = count_by (λ d. nat_lt (key_of d) (key_of c)) cs
 
 -- one more case before those of a group without numbers
 listed_put : (q : CompleteQualifiers) (e : Entry) (c kind : Case) (group : Group)
-    → ((link : Link) → Cased link q.direction c (entry_tests e) (entry_formula link e)) → Likes kind group.cases → same_words kind c ≡ true → length group.cases
-    ≡ length group.entries → ((link : Link) → sizes (rows (case_tests link q.direction) 0 group.cases) + length group.cases ≤ group_tests group)
-    → ((link : Link) (p : List ℕ) (n : ℕ) → let front = all_read link p n (case_front link kind) in let by = case_tests link q.direction in
-    either (both front (reads link (all_of (by c)) p n)) (reads link (rows_formula link group.entries) p n)
-    ≡ both front (either (reads link (all_of (by c)) p n) (read_all link p n (rows by 0 group.cases))))
-    → Listed q.direction (with_case q e c group)
+    → ((link : Link) → Cased link q.direction c (entry_tests e) (entry_formula link e)) → Likes q.direction kind group.cases
+    → same_words q.direction kind c ≡ true → length group.cases ≡ length group.entries → let b = are_either q.direction kind in
+    ((link : Link) → list_size b link q.direction group.cases + length group.cases ≤ group_tests group) → ((link : Link) (p : List ℕ) (n : ℕ) →
+    let front = all_read link p n (case_front link kind) in
+    either (both front (reads link (one_formula b link q.direction c) p n)) (reads link (rows_formula link group.entries) p n)
+    ≡ both front (list_read b link q.direction c (insert_case c group.cases) p n)) → Listed q.direction (with_case q e c group)
 listed_put q e c kind group its likes like count few rows_are = record {
   kind = kind;
-  like = likes_put kind c (place c group.cases) group.cases like likes;
+  first = c;
+  is_first = refl;
+  first_like = like;
+  like = likes_put q.direction kind c (place c group.cases) group.cases like likes;
   some = let l = length_put c (place c group.cases) group.cases in omega arith;
   all_count = let l = length_put c (place c group.cases) group.cases in omega arith;
   counted = λ link.
       let l = length_put c (place c group.cases) group.cases in
-      let s = sizes_put (case_tests link q.direction) c (place c group.cases) group.cases in
-      let one = (its link).0 in
+      let s = size_put (are_either q.direction kind) link q.direction c (place c group.cases) group.cases in
+      let one = subst (λ b. length (case_front link c) + one_size b link q.direction c ≤ entry_tests e) same (its link).1 in
       let old = few link in
-      let fronts = ap (λ (ts : List Elementary). length ts) (alike link q.direction kind c like).1 in
+      let fronts = ap (λ (ts : List Elementary). length ts) (front link) in
       omega arith;
   rows_are = λ link p n.
-      let by = case_tests link q.direction in
-      let one = reads link (all_of (by c)) p n in
       rows_put link p n e group.entries
-      ∙ ap (λ r. either r (reads link (rows_formula link group.entries) p n)) ((its link).1 p n ∙ guarded_read link p n (case_front link c) (all_of (by c))
-      ∙ ap (λ ts. both (all_read link p n ts) one) (alike link q.direction kind c like).1)
-      ∙ rows_are link p n
-      ∙ ap (both (all_read link p n (case_front link kind))) (sym (read_put link p n 0 by (fields_of link q.direction kind) c (place c group.cases) group.cases
-      (shapes_of link q.direction kind (c ∷ []) (like, tt)).0 (shapes_of link q.direction kind group.cases likes)));
+      ∙ ap (λ r. either r (reads link (rows_formula link group.entries) p n)) ((its link).2 p n ∙ guarded_read link p n (case_front link c) _
+      ∙ ap₂ (λ ts b. both (all_read link p n ts) (reads link (one_formula b link q.direction c) p n)) (front link) same)
+      ∙ rows_are link p n;
 }
+  where
+    same : are_either q.direction c ≡ are_either q.direction kind
+    same = like_either q.direction kind c like
+
+    front : (link : Link) → case_front link c ≡ case_front link kind
+    front link = (alike link q.direction q.direction kind c like).1
 
 -- what is known where a case goes with members
 case_fits : (c : Case) (d : Direction) (group : Group) (es : List Entry) → 0 < length es → case_goes_with c d group es ≡ true
-    → (shares_words c group.cases ≡ true) × (group.qualifiers.direction ≡ d)
+    → (shares_words d c group.case ≡ true) × (group.qualifiers.direction ≡ d)
 case_fits c d group [] l g = absurd (omega arith)
 case_fits c d group (e ∷ es) l g =
-    let a = and_parts (shares_words c group.cases) _ g in
+    let a = and_parts (shares_words d c group.case) _ g in
     (a.0, (directions_are d group.qualifiers.direction (and_parts (same_direction d group.qualifiers.direction) _ a.1).0).0)
-
-shared : (kind c : Case) (cs : List Case) → Likes kind cs → shares_words c cs ≡ true → same_words kind c ≡ true
-shared kind c [] h e = cc
-shared kind c (x ∷ xs) h e = alike_alike kind x c h.0 e
 
 kept_with_case : (q : CompleteQualifiers) (e : Entry) (c : Case) (group : Group) → Kept group → case_goes_with c q.direction group group.entries ≡ true
     → ((link : Link) → Cased link q.direction c (entry_tests e) (entry_formula link e)) → Kept (with_case q e c group)
-kept_with_case q e c group (nothing none all empty) g w =
+kept_with_case q e c group (nothing none all empty alone) g w =
+    let b = are_either q.direction c in
     listed (omega arith)
-    (listed_put q e c c group w (subst (Likes c) (sym empty) tt) (self_alike c) (ap length empty ∙ sym (ap length none))
-    (λ link. subst (λ cs. sizes (rows (case_tests link q.direction) 0 cs) + length cs ≤ group_tests group) (sym empty) (omega arith))
+    (listed_put q e c c group w (subst (Likes q.direction c) (sym empty) tt) (w Ether).0 (ap length empty ∙ sym (ap length none))
+    (λ link. subst (λ cs. list_size b link q.direction cs + length cs ≤ group_tests group) (sym empty) (omega (arith, none_size b link q.direction)))
     (λ link p n.
-    let by = case_tests link q.direction in
-    let one = both (all_read link p n (case_front link c)) (reads link (all_of (by c)) p n) in
+    let one = both (all_read link p n (case_front link c)) (reads link (one_formula b link q.direction c) p n) in
     ap (λ es. either one (reads link (rows_formula link es) p n)) none ∙ or_no one
-    ∙ ap (both (all_read link p n (case_front link c))) (sym (or_no _)
-    ∙ ap (λ cs. either (reads link (all_of (by c)) p n) (read_all link p n (rows by 0 cs))) (sym empty))))
-kept_with_case q e c group (numbered l empty ms h) g w = absurd (let no = ap (shares_words c) (sym empty)
-    ∙ (case_fits c q.direction group group.entries l g).0 in cc)
+    ∙ ap (both (all_read link p n (case_front link c)))
+    (sym (ap (λ cs. list_read b link q.direction c (insert_case c cs) p n) empty ∙ list_alone b link q.direction c p n))))
+kept_with_case q e c group (numbered l empty ms h) g w =
+    absurd (let none = ap (shares_words q.direction c) (sym empty) ∙ (case_fits c q.direction group group.entries l g).0 in cc)
 kept_with_case q e c group (listed l h) g w =
     let fit = case_fits c q.direction group group.entries l g in
     let j = subst (λ d. Listed d group) fit.1 h in
-    let few : (link : Link) → sizes (rows (case_tests link q.direction) 0 group.cases) + length group.cases ≤ group_tests group =
+    let b = are_either q.direction j.kind in
+    let like = alike_alike q.direction j.kind j.first c j.first_like (ap (shares_words q.direction c) (sym j.is_first) ∙ fit.0) in
+    let few : (link : Link) → list_size b link q.direction group.cases + length group.cases ≤ group_tests group =
     λ link. (let all = j.counted link in let some = some_front link j.kind in omega arith) in
-    listed (omega arith) (listed_put q e c j.kind group w j.like (shared j.kind c group.cases j.like fit.0) j.all_count few
+    listed (omega arith) (listed_put q e c j.kind group w j.like like j.all_count few
     (λ link p n.
-    let one = reads link (all_of (case_tests link q.direction c)) p n in
-    ap (either (both _ one)) (j.rows_are link p n) ∙ sym (both_either _ one _)))
+    let one = reads link (one_formula b link q.direction c) p n in
+    ap (either (both _ one)) (j.rows_are link p n) ∙ sym (both_either _ one _)
+    ∙ ap (both _) (sym (list_more b link q.direction j.kind j.first c (place c group.cases) group.cases p n refl like j.first_like j.like))))
 
 -- what a member and those after it are, and how they read
 record Taken (link : Link) (e : Entry) (group more : Group) : Type 0 where
@@ -547,7 +577,12 @@ module _ (link : Link) (group more : Group) (k : Kept group) where
   by_case q v None w e = by_member q v (member_of q.value_type v) refl e
   by_case q v (Some c) w e =
       by_test (entry q v) (with_case q (entry q v) c group) (case_goes_with c q.direction group group.entries)
-      (λ g. kept_with_case q (entry q v) c group k g (λ l. ((its l).0, λ p n. value_same l p n q.value_type q.protocol q.direction v ∙ (its l).1 p n))) refl e
+      (λ g. kept_with_case q (entry q v) c group k g (λ l. (
+        (its l).0,
+        (its l).1,
+        λ p n. value_same l p n q.value_type q.protocol q.direction v ∙
+            (its l).2 p n,
+      ))) refl e
     where
       its : (l : Link) → IsCase l q.value_type q.protocol q.direction v c
       its l = each_is (case_of q.value_type q.protocol q.direction v) (IsCase l q.value_type q.protocol q.direction v) c
@@ -558,7 +593,8 @@ module _ (link : Link) (group more : Group) (k : Kept group) where
   taken (Entry.Relation r) some =
       by_test (Entry.Relation r) (with_case no_group.qualifiers (Entry.Relation r) (Case.Relation r) group)
       (case_goes_with (Case.Relation r) no_group.qualifiers.direction group group.entries)
-      (λ g. kept_with_case no_group.qualifiers (Entry.Relation r) (Case.Relation r) group k g (λ l. (fronts_few l r.protocol, λ p n. refl))) refl some
+      (λ g. kept_with_case no_group.qualifiers (Entry.Relation r) (Case.Relation r) group k g (λ l.
+      (self_relation r, fronts_few l r.protocol, λ p n. refl))) refl some
 
 sized_sizes : (s : Size) (n : ℕ) → Sized (sized_formula s n) 2 1 1
 sized_sizes Size.Less n = record { nodes_fit = omega arith; words_fit = omega arith; searches = tt; tests_fit = omega arith }

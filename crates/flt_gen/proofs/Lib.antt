@@ -1,3 +1,4 @@
+-- The lemmas that several proofs share.
 pub mod Common
 pub mod Search
 pub mod Ascending
@@ -23,4 +24,5 @@ pub mod Turned
 pub mod Masks
 pub mod Whole
 pub mod Deciding
+pub mod EitherSide
 pub mod Decision

@@ -1,7 +1,8 @@
 -- Addresses or ports that are looked for together read as one after the other.
 use Rattle.flt_gen.proofs.Ascending.{if_case, Each, each_is, Ordered, within_joined}
 use Rattle.flt_gen.proofs.Common.{◌≡◌, ℕ, ◌+◌, ◌*◌, ◌^◌, ◌%◌, ◌<◌, ◌≤◌, List, [], ◌∷◌, length, map, Bool, true, false, Option, Some, None, refl, sym, ap, ap₂}
-use Rattle.flt_gen.proofs.Common.{◌∙◌, arith, inl, inr, ◌==◌, ◌||◌, ◌&&◌, nat_le, min, max, bit_and, nat_tests, or-false, Protocol, Ip, Tcp, Udp, ValueType}
+use Rattle.flt_gen.proofs.Common.{subst, ◌-◌, ◌∙◌, arith, inl, inr, ◌==◌, ◌||◌, ◌&&◌, nat_le, min, max, bit_and, nat_tests, and_parts, or-false, Protocol, Ip}
+use Rattle.flt_gen.proofs.Common.{Tcp, Udp, ValueType}
 use Rattle.flt_gen.proofs.Common.{Host, Net, Port, PortRange, Source, Destination, And, Or, Direction, CompleteQualifiers, Value, first_bits, Word, HalfWord}
 use Rattle.flt_gen.proofs.Common.{Offset, field, Link, type_offset, FrameKind, Elementary, Interval, One, Between, Several, Sides, Transport, MatchResult, Yes}
 use Rattle.flt_gen.proofs.Common.{No, Rejected, reading_of, with, field_at, under_mask, kind_test, elementary_reads, Formula, Sought, is_in, is_within, both}
@@ -14,7 +15,9 @@ use Rattle.flt_gen.proofs.Runs.{one_number}
 use Rattle.std.specs.Prelude.{◌⊎◌}
 use Rattle.std.proofs.Math.Nat.{mod-lt}
 use Rattle.flt_ast.specs.Counts as count
-use Rattle.flt_ast.specs.declared.value.NetMask.{NetMask}
+use Rattle.flt_ast.specs.Nets.{ip4_mask}
+use Rattle.flt_gen.specs.inside.Group.{is_prefix}
+use Rattle.std.specs.Prelude.{count_ones}
 use Rattle.flt_gen.specs.declared.elementary.FrameKind.TheVariants as kind
 use Rattle.flt_gen.specs.declared.port.Ports.{Ports}
 
@@ -412,22 +415,30 @@ module _ (link : Link) (p : List ℕ) (n : ℕ) where
       × (reads link (value_formula link k protocol d v) p n ≡ member_reads k protocol d m)
 
   abbrev IsNet : Option Protocol → Direction → ℕ → ℕ → Interval → Type 0
-  IsNet protocol d b a m = (m.low ≤ m.high) × (count.ip4_tests protocol d ≤ count.ip4_tests protocol d)
-      × (reads link (net_formula link protocol d (partial_mask (first_bits 32 b)) a) p n ≡ member_reads Net protocol d m)
+  IsNet protocol d mask a m = (m.low ≤ m.high) × (count.ip4_tests protocol d ≤ count.ip4_tests protocol d)
+      × (reads link (net_formula link protocol d (partial_mask mask) a) p n ≡ member_reads Net protocol d m)
 
-  net_row : (protocol : Option Protocol) (d : Direction) (b a : ℕ) → Each (net_numbers (record { address = a; mask = first_bits 32 b })) (IsNet protocol d b a)
-  net_row protocol d b a =
-      if_case (λ o. Each o (IsNet protocol d b a)) (bit_and a (first_bits 32 b) == a) _ _
-      (λ t. (omega arith, omega arith, address_row protocol d (partial_mask (first_bits 32 b)) a _ (λ x s. net_hit b a x s (grind (arith, nat_tests)))))
+  prefix_hit : (mask b a x : ℕ) → mask ≡ first_bits 32 b → bit_and a mask ≡ a → x < 2 ^ 32 → (under_mask (partial_mask mask) x == a) ≡ is_in x
+      (record { low = a; high = a + (2 ^ 32 - 1 - mask) })
+  prefix_hit mask b a x e = subst (λ m. bit_and a m ≡ a → x < 2 ^ 32 → (under_mask (partial_mask m) x == a) ≡ is_in x
+      (record { low = a; high = a + (2 ^ 32 - 1 - m) })) (sym e) (λ h s. net_hit b a x s h)
+
+  net_row : (protocol : Option Protocol) (d : Direction) (mask a : ℕ) → Each (net_numbers (record { address = a; mask = mask })) (IsNet protocol d mask a)
+  net_row protocol d mask a =
+      if_case (λ o. Each o (IsNet protocol d mask a)) (is_prefix mask && bit_and a mask == a) _ _
+      (λ t.
+      let h = and_parts (is_prefix mask) (bit_and a mask == a) t in
+      let first : mask ≡ first_bits 32 (count_ones mask) = (let u = h.0 in let v : mask + 2 ^ (32 - count_ones mask) ≡ 2 ^ 32 = grind
+      (arith, nat_tests) in omega arith) in
+      let under : bit_and a mask ≡ a = (let u = h.1 in grind (arith, nat_tests)) in
+      (omega arith, omega arith, address_row protocol d (partial_mask mask) a _ (λ x s. prefix_hit mask (count_ones mask) a x first under s)))
       (λ t. tt)
 
   pub member_is : (k : ValueType) (protocol : Option Protocol) (d : Direction) (v : Value) → Each (member_of k v) (IsMember k protocol d v)
   member_is Host protocol d (Value.Dotted x z) =
       (omega arith, omega arith, address_row protocol d None x.address _ (λ y s. one_number y x.address x.address refl))
-  member_is Net protocol d (Value.Number x NetMask.Unwritten) = net_row protocol d 8 (x % 256 * 2 ^ 24)
-  member_is Net protocol d (Value.Number x (NetMask.Prefix b)) = net_row protocol d b (x % 256 * 2 ^ 24)
-  member_is Net protocol d (Value.Dotted x NetMask.Unwritten) = net_row protocol d (8 * x.parts) x.address
-  member_is Net protocol d (Value.Dotted x (NetMask.Prefix b)) = net_row protocol d b x.address
+  member_is Net protocol d (Value.Number x z) = net_row protocol d (ip4_mask 1 z) (x % 256 * 2 ^ 24)
+  member_is Net protocol d (Value.Dotted x z) = net_row protocol d (ip4_mask x.parts z) x.address
   member_is Port protocol d (Value.Number x z) = (
     omega arith,
     omega arith,

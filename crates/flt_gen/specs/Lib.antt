@@ -1,3 +1,4 @@
+-- The definitions that contracts cite.
 pub mod Elementary
 pub mod Numbers
 pub mod Formula

@@ -1,6 +1,7 @@
-//! Lists of MAC addresses, of addresses and networks of IPv6, and of protocol numbers, each on one
-//! side, and of relations of one accessor, as decision trees: the first words are compared by
-//! halves, and then the next ones. Each test loads its word; `flt_short` leaves out repeated loads.
+//! Lists of MAC addresses, of addresses and networks of IPv6, of protocol numbers, and of relations of
+//! one accessor, as decision trees: the first words are compared by halves, and then the next ones.
+//! Addresses are on one side, or on either, if all of their words but the last are the same. Each
+//! test loads its word; `flt_short` leaves out repeated loads.
 
 ghost use Rattle.std.specs.Prelude.{◌≡◌, drop, length, OnOk, count_by, nat_lt};
 ghost use Rattle.flt_gen.specs.inside.Cases.{case_of, same_words, key_of, insert_case, case_front};
@@ -8,7 +9,8 @@ ghost use Rattle.flt_gen.specs.inside.Cases.{case_tests, lowest, reach, word_tes
 ghost use Rattle.flt_gen.specs.inside.Cases.{test_at, from_test, middle, is_parted, chain};
 ghost use Rattle.flt_gen.specs.inside.{Emits.Emits, Code.emit_all, Code.emit_formula};
 ghost use Rattle.flt_gen.specs.inside.Emitted.{needed_tests};
-ghost use Rattle.flt_gen.specs.inside.Cases.{decision, cases_formula, few_of};
+ghost use Rattle.flt_gen.specs.inside.Cases.{decision, either_formula, cases_formula, few_of};
+ghost use Rattle.flt_gen.specs.inside.Cases.{shares, are_either};
 ghost use Rattle.flt_gen.specs.inside.Emits.{EmitsFormula};
 
 use crate::address::{ip6_test, is_idle, last_test};
@@ -21,7 +23,7 @@ use crate::protocol::mac_tests;
 use crate::relation::{Relation, relation_test};
 use cap_octet::Link;
 use flt_ast::{CompleteQualifiers, Direction, Value};
-use flt_words::{Comparison, Protocol, Side, ValueType};
+use flt_words::{Comparison, Join, Protocol, Side, ValueType};
 use std::alloc::{AllocError, Allocator};
 
 /// How many cases of several words are compared one after the other, at most. Each half of more
@@ -42,6 +44,12 @@ const MOST_IN_TURN: usize = 40;
 /// How often cases are halved, or all have the same word, at most.
 const MOST_DECISIONS: usize = 64;
 
+/// A MAC address divided by this is its first word.
+const MAC_FRONT: u64 = 0x1_0000;
+
+/// An address of IPv6 divided by this is its first three words.
+const IP6_FRONT: u128 = 0x1_0000_0000;
+
 /// A value that is compared word by word.
 #[derive(Clone, Copy)]
 pub enum Case {
@@ -61,17 +69,16 @@ enum Bound {
     Exactly(u32),
 }
 
-/// A value with its qualifiers as a case: an address of one side, or a protocol of IPv4 or of IPv6.
-/// `None` for any other.
+/// A value with its qualifiers as a case: an address of one side or of either, a network of one side,
+/// or a protocol of IPv4 or of IPv6. `None` for any other.
 pub fn case_of(qualifiers: CompleteQualifiers, value: Value) -> Option<Case>
     ensures { result
         ≡ case_of qualifiers.value_type qualifiers.protocol qualifiers.direction value }
 {
     match (qualifiers.value_type, qualifiers.direction, value) {
-        (ValueType::Host, Direction::One(_), Value::Mac(address)) => Some(Case::Mac(address)),
-        (ValueType::Host, Direction::One(_), Value::Ip6(address, _)) => {
-            Some(Case::Ip6(None, address))
-        }
+        (ValueType::Host, Direction::Both(Join::And), _) => None,
+        (ValueType::Host, _, Value::Mac(address)) => Some(Case::Mac(address)),
+        (ValueType::Host, _, Value::Ip6(address, _)) => Some(Case::Ip6(None, address)),
         (ValueType::Net, Direction::One(_), Value::Ip6(address, prefix)) => {
             Some(Case::Ip6(prefix, address))
         }
@@ -84,15 +91,30 @@ pub fn case_of(qualifiers: CompleteQualifiers, value: Value) -> Option<Case>
     }
 }
 
-/// Whether both are compared in the same words.
-pub fn same_words(one: Case, other: Case) -> bool
-    ensures { result ≡ same_words one other }
+/// Whether the words that two addresses have to share do so: on one side there are none.
+fn shares(direction: Direction, are_same: bool) -> bool
+    ensures { result ≡ shares direction are_same }
+{
+    match direction {
+        Direction::Both(Join::Or) => are_same,
+        _ => true,
+    }
+}
+
+/// Whether both are compared in the same words, of which on either side all but the last are the
+/// same.
+pub fn same_words(direction: Direction, one: Case, other: Case) -> bool
+    ensures { result ≡ same_words direction one other }
 {
     match (one, other) {
-        (Case::Mac(_), Case::Mac(_))
-        | (Case::Ip6(_, _), Case::Ip6(_, _))
-        | (Case::IpProto(_), Case::IpProto(_))
-        | (Case::Ip6Proto(_), Case::Ip6Proto(_)) => true,
+        (Case::Mac(one), Case::Mac(other)) => {
+            shares(direction, one / MAC_FRONT == other / MAC_FRONT)
+        }
+        (Case::Ip6(prefix, one), Case::Ip6(other_prefix, other)) => {
+            let are_hosts = prefix.is_none() && other_prefix.is_none();
+            shares(direction, are_hosts && one / IP6_FRONT == other / IP6_FRONT)
+        }
+        (Case::IpProto(_), Case::IpProto(_)) | (Case::Ip6Proto(_), Case::Ip6Proto(_)) => true,
         (Case::Relation(one), Case::Relation(other)) => {
             one.protocol == other.protocol && one.size == other.size && one.index == other.index
         }
@@ -265,6 +287,13 @@ fn is_parted(link: Link, direction: Direction, word: usize, cases: &[Case], at: 
         && all_keep(link, direction, word, Bound::From(number), &cases[at..])
 }
 
+/// Whether cases with this direction, as this one, are looked for on either side.
+pub fn are_either(direction: Direction, case: Case) -> bool
+    ensures { result ≡ are_either direction case }
+{
+    matches!(case, Case::Mac(_) | Case::Ip6(_, _)) && matches!(direction, Direction::Both(Join::Or))
+}
+
 /// How many of some cases with the words of this one are compared one after the other, at most.
 fn few_of(one: Case, count: usize) -> usize
     ensures { result ≡ few_of one count }
@@ -383,22 +412,50 @@ impl<A: Allocator> Code<A> {
         self.emit_elementary(kind_test(link, kind), to)
     }
 
-    /// Emits cases after the tests in front of them. Returns the place where the code begins.
+    /// Emits cases on either side, of which `first` stands first in the expression: if the source is
+    /// one of them, but not that one, as much of the destination as a test of that one reads has to
+    /// be captured.
+    #[tactic(auto, using(crate::proofs::Decision::all_emitted))]
+    fn emit_either(
+        &mut self,
+        link: Link,
+        few: usize,
+        first: Case,
+        cases: &[Case],
+        to: Targets,
+    ) -> Result<usize, AllocError>
+        ensures { EmitsFormula link (either_formula link few first cases.now) to self.old result
+            self.new }
+    {
+        let source = Direction::One(Side::Source);
+        let destination = Direction::One(Side::Destination);
+        let no = self.emit_decision(MOST_DECISIONS, few, link, destination, 0, cases, to)?;
+        let yes = to.yes;
+        let asked = self.emit_case_from(link, destination, 0, first, Targets { yes, no: yes })?;
+        let later = self.emit_case_from(link, source, 0, first, Targets { yes, no: asked })?;
+        let to = Targets { yes: later, no };
+        self.emit_decision(MOST_DECISIONS, few, link, source, 0, cases, to)
+    }
+
+    /// Emits cases, of which `first` stands first in the expression, after the tests in front of
+    /// them. Returns the place where the code begins.
     pub fn emit_cases(
         &mut self,
         link: Link,
         direction: Direction,
+        first: Case,
         cases: &[Case],
         to: Targets,
     ) -> Result<usize, AllocError>
-        ensures { EmitsFormula link (cases_formula link direction cases.now) to self.old result
-            self.new }
+        ensures { EmitsFormula link (cases_formula link direction first cases.now) to self.old
+            result self.new }
     {
-        let [first, ..] = cases else {
-            return Ok(to.no);
+        let few = few_of(first, cases.len());
+        let yes = if are_either(direction, first) {
+            self.emit_either(link, few, first, cases, to)?
+        } else {
+            self.emit_decision(MOST_DECISIONS, few, link, direction, 0, cases, to)?
         };
-        let few = few_of(*first, cases.len());
-        let yes = self.emit_decision(MOST_DECISIONS, few, link, direction, 0, cases, to)?;
-        self.emit_front(link, *first, Targets { yes, no: to.no })
+        self.emit_front(link, first, Targets { yes, no: to.no })
     }
 }

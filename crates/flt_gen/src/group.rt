@@ -5,16 +5,16 @@
 ghost use Rattle.std.specs.Prelude.{◌≡◌, ◌≤◌, [], if◌then◌else◌, Some, None, length, IfOk, OnOk};
 ghost use Rattle.std.specs.{List.insert, Prelude.reverse};
 ghost use Rattle.flt_gen.specs.inside.Group.{no_group, same_type, same_protocol, same_direction};
-ghost use Rattle.flt_gen.specs.inside.Group.{goes_with, is_masked, net_member, member_of, is_empty};
+ghost use Rattle.flt_gen.specs.inside.Group.{goes_with, is_prefix, net_member, member_of, is_empty};
 ghost use Rattle.flt_gen.specs.inside.Group.{larger_group, is_searched, group_formula};
 ghost use Rattle.flt_gen.specs.inside.Group.{rows_formula, several_formula};
 ghost use Rattle.flt_gen.specs.inside.{Cases.case_of, Emits.EmitsFormula};
 ghost use Rattle.flt_gen.specs.inside.Intervals.{insert_ascending};
 ghost use Rattle.flt_gen.specs.inside.Group.{has_networks, case_goes_with, with_case};
-ghost use Rattle.flt_gen.specs.inside.Group.{larger_by, entry_formula};
+ghost use Rattle.flt_gen.specs.inside.Group.{larger_by, entry_formula, fewest_either};
 
 use crate::address::Hosts;
-use crate::cases::{Case, case_of, put_case, same_words};
+use crate::cases::{Case, are_either, case_of, put_case, same_words};
 use crate::code::{Code, Targets};
 use crate::elementary::Interval;
 use crate::intervals::{Numbers, Room};
@@ -23,7 +23,7 @@ use crate::port::{PortTest, Ports};
 use crate::relation::{Relation, relation_test};
 use crate::stack::Stack;
 use cap_octet::Link;
-use flt_ast::{CompleteQualifiers, Direction, NetMask, Value};
+use flt_ast::{CompleteQualifiers, Direction, Value};
 use flt_words::{Join, Protocol, Side, ValueType};
 use std::alloc::{AllocError, Allocator};
 use std::marker::Model;
@@ -42,6 +42,13 @@ const FEWEST_CASES: usize = 8;
 /// How many addresses and networks of IPv6 on one side are: fewer may be longer, if networks contain
 /// others of the list.
 const FEWEST_ADDRESSES: usize = 20;
+
+/// How many addresses of IPv6 on either side are: the code of two might be longer than their bound
+/// allows.
+const FEWEST_EITHER_IP6: usize = 3;
+
+/// How many MAC addresses on either side are, for the same reason: each has fewer tests.
+const FEWEST_EITHER_MAC: usize = 4;
 
 /// A member: a value with its qualifiers, or a relation.
 #[derive(Clone, Copy)]
@@ -62,7 +69,9 @@ pub struct Group<A: Allocator> {
     first: Interval,
     /// The numbers of all, which ascend by their beginnings.
     all: Vec<Interval, A>,
-    /// The members that are compared word by word, which ascend; the others have numbers.
+    /// The member that stands first, if they are compared word by word; else they have numbers.
+    case: Option<Case>,
+    /// The members that are compared word by word, which ascend.
     cases: Vec<Case, A>,
     /// The members, of which the first in the expression is the latest.
     entries: Stack<Entry, A>,
@@ -79,6 +88,7 @@ impl<A: Allocator> Model for Group<A> {
       is_plain = g.is_plain;
       first = g.first;
       all = g.all.items;
+      case = g.case;
       cases = g.cases.items;
       entries = g.entries;
     } };
@@ -124,14 +134,11 @@ fn same_direction(one: Direction, other: Direction) -> bool
     }
 }
 
-/// Whether a network is written with `mask`, whose bits need be no prefix.
-fn is_masked(value: Value) -> bool
-    ensures { result ≡ is_masked value }
+/// Whether a mask is that of a prefix: its bits are the first ones.
+fn is_prefix(mask: u32) -> bool
+    ensures { result ≡ is_prefix mask }
 {
-    matches!(
-        value,
-        Value::Number(_, NetMask::Mask(_)) | Value::Dotted(_, NetMask::Mask(_))
-    )
+    u64::from(mask) + 2u64.pow(32 - mask.count_ones()) == 0x1_0000_0000
 }
 
 /// A network as a member: `None` if it has no prefix, or if its address has other bits.
@@ -139,7 +146,7 @@ fn net_member(value: Value) -> Option<Interval>
     ensures { result ≡ net_member value }
 {
     match value.ip4_net() {
-        Some(net) if !is_masked(value) && net.address & net.mask == net.address => {
+        Some(net) if is_prefix(net.mask) && net.address & net.mask == net.address => {
             let (low, high) = (net.address, net.address + (u32::MAX - net.mask));
             Some(Interval { low, high })
         }
@@ -175,6 +182,16 @@ fn place_among(numbers: &[Interval], new: Interval) -> usize
     at
 }
 
+/// How many cases with the words of this one are looked for together on either side at least.
+fn fewest_either(case: Case) -> usize
+    ensures { result ≡ fewest_either case }
+{
+    match case {
+        Case::Mac(_) => FEWEST_EITHER_MAC,
+        _ => FEWEST_EITHER_IP6,
+    }
+}
+
 impl<A: Allocator> Group<A> {
     /// Takes all members out.
     pub fn clear(&mut self)
@@ -184,6 +201,7 @@ impl<A: Allocator> Group<A> {
         self.is_plain = true;
         self.first = Interval { low: 0, high: 0 };
         self.all.clear();
+        self.case = None;
         self.cases.clear();
         self.entries.clear();
     }
@@ -202,7 +220,7 @@ impl<A: Allocator> Group<A> {
         ensures { result ≡ goes_with qualifiers self.now self.now.entries }
     {
         self.is_empty()
-            || (self.cases.is_empty()
+            || (self.case.is_none()
                 && (same_type(qualifiers.value_type, self.qualifiers.value_type)
                     && (same_protocol(qualifiers.protocol, self.qualifiers.protocol)
                         && (same_direction(qualifiers.direction, self.qualifiers.direction)
@@ -217,10 +235,10 @@ impl<A: Allocator> Group<A> {
         if self.is_empty() {
             return true;
         }
-        match self.cases.first() {
+        match self.case {
             None => false,
             Some(other) => {
-                same_words(*other, case)
+                same_words(direction, other, case)
                     && same_direction(direction, self.qualifiers.direction)
                     && self.entries.entries().len() < MOST_TOGETHER
             }
@@ -244,6 +262,7 @@ impl<A: Allocator> Group<A> {
         put_case(&mut self.cases, case)?;
         self.entries.push(entry)?;
         self.qualifiers = qualifiers;
+        self.case = Some(case);
         Ok(true)
     }
 
@@ -281,9 +300,10 @@ impl<A: Allocator> Group<A> {
     fn is_searched(&self) -> bool
         ensures { result ≡ is_searched self.now }
     {
-        let fewest = match self.cases.first() {
+        let fewest = match self.case {
             None if self.is_plain => 2,
             None => FEWEST_RANGES,
+            Some(case) if are_either(self.qualifiers.direction, case) => fewest_either(case),
             Some(Case::Ip6(_, _)) => FEWEST_ADDRESSES,
             Some(_) => FEWEST_CASES,
         };
@@ -304,8 +324,8 @@ impl<A: Allocator> Group<A> {
         if !self.is_searched() {
             return code.emit_rows(link, self.entries.entries(), to);
         }
-        if !self.cases.is_empty() {
-            return code.emit_cases(link, self.qualifiers.direction, &self.cases, to);
+        if let Some(first) = self.case {
+            return code.emit_cases(link, self.qualifiers.direction, first, &self.cases, to);
         }
         let has_networks = self.has_networks();
         let numbers = self.room.numbers(has_networks, self.first, &self.all)?;
@@ -385,6 +405,7 @@ impl<A: Allocator + Clone> Group<A> {
             is_plain: true,
             first: Interval { low: 0, high: 0 },
             all: Vec::new(alloc.clone()?),
+            case: None,
             cases: Vec::new(alloc.clone()?),
             entries: Stack::new(alloc.clone()?),
             room: Room::new(alloc)?,

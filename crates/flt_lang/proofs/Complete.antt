@@ -1,4 +1,4 @@
--- What the grammar reads, the machine reads.
+-- The parser reads whatever the grammar reads.
 use Rattle.flt_lang.proofs.Common.{◌≡◌, ◌≢◌, ℕ, ◌+◌, ◌<◌, ◌≤◌, List, [], ◌∷◌, refl, sym, ap, ◌∙◌, subst, ◌⊎◌, inl, inr, ⊎_elim, arith, Option, Some, None, true}
 use Rattle.flt_lang.proofs.Common.{lit≤, Protocol, Operator, Divide, Join, TokenKind, Value, Node, Frame, Operand, NumberTree, literal, TruthTree, bare}
 use Rattle.flt_lang.proofs.Common.{Expression, no_mask, prefix, ReadsValue, number, level, is_accessor, stands_alone, has_casts, Number, of_literal, of_len}

@@ -1,4 +1,4 @@
--- Counts over the nodes are counts over the tree; and a division by 0 stands right after the 0.
+-- A count over the nodes is a count over the tree, and a division by 0 comes right after the 0.
 use Rattle.flt_lang.proofs.Common.{◌≡◌, ℕ, ◌+◌, ◌≤◌, List, [], ◌∷◌, refl, sym, ap, ◌∙◌, arith, sum_by, fold, max, lit≤, Node, NumberTree, load, negated}
 use Rattle.flt_lang.proofs.Common.{applied, TruthTree, compared, denied, joined, Expression, empty, truth, number_nodes, truth_nodes, expr_nodes, tree_of}
 use Rattle.flt_lang.proofs.Common.{IsTree, number_tests, truth_tests, tests_of, number_size, truth_size, nodes_of, number_words, truth_words, words_of}

@@ -1,5 +1,5 @@
--- A fault of some node is a fault of some primitive; and the nodes and faults of a tree whose
--- values inherit, and of one that is completed.
+-- Completing the qualifiers of the nodes completes those of the tree, and a fault of a node is a
+-- fault of a primitive.
 use Rattle.flt_lang.proofs.Common.{◌≡◌, ℕ, List, [], ◌∷◌, refl, sym, ap, ◌∙◌, Bool, true, false, not, ◌||◌, list_any, Protocol, Operator, Node, NumberTree}
 use Rattle.flt_lang.proofs.Common.{literal, len, named, load, negated, applied, TruthTree, valued, qualified, compared, denied, joined, Expression, empty}
 use Rattle.flt_lang.proofs.Common.{truth, number_nodes, truth_nodes, expr_nodes, is_size, has_wrong_size, is_misfit, is_out_of_range, has_bits_past_mask}

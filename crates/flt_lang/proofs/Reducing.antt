@@ -1,4 +1,4 @@
--- One turn of the loop that lets tight frames take the operand.
+-- One turn of the loop in which tighter frames take the operand.
 use Rattle.flt_lang.proofs.Common.{◌≡◌, ℕ, ◌≤◌, ◌<◌, List, [], ◌∷◌, refl, Some, None, true, false, nat_le, arith, le-leb, Node, Frame, Operand, precedence}
 use Rattle.flt_lang.proofs.Common.{fill_frame, reduce, IsLoose}
 use Rattle.std.proofs.lemmas.Bool.Decides.{nat_tests}

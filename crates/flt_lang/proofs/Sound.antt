@@ -1,5 +1,5 @@
--- What the machine reads, the grammar reads: where an operand begins, and after one; so the machine
--- gives the nodes of the tree, or there is none.
+-- The grammar reads whatever the parser reads: if the parser returns nodes, they are those of a
+-- tree.
 use Rattle.flt_lang.proofs.Common.{◌≡◌, ℕ, suc, zero, ◌-◌, length, drop, inl, List, [], ◌∷◌, refl, sym, ap, ◌∙◌, subst, Option, Some, None, true, nat_le}
 use Rattle.flt_lang.proofs.Common.{zero-le, Protocol, Subtract, TokenKind, Value, Qualifiers, Node, Frame, Operand, len, named, TruthTree, check, cast, sized}
 use Rattle.flt_lang.proofs.Common.{bare, valued, is_written, qualifiers_of, value_of, is_accessor, stands_alone, has_casts, of_len, of_name, Truth, of_check}

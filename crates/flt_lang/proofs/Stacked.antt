@@ -1,5 +1,4 @@
--- What the parser keeps stands for the tokens before: each frame for its left side, the operand for
--- a number or a truth.
+-- The parser's frames and operand represent the tokens read so far.
 use Rattle.flt_lang.proofs.Common.{◌≡◌, ℕ, suc, zero, ◌+◌, ◌≤◌, ◌⊎◌, inl, inr, ⊎_elim, List, [], ◌∷◌, refl, sym, ap, ◌∙◌, subst, arith, Option, Some, None}
 use Rattle.flt_lang.proofs.Common.{Bool, true, false, nat_le, if◌then◌else◌, lit≤, zero-le, leb-true, Subtract, Divide, TokenKind, Node, Frame, Operand}
 use Rattle.flt_lang.proofs.Common.{NumberTree, literal, negated, applied, TruthTree, bare, compared, denied, joined, no_mask, number, level, is_accessor}

@@ -1,4 +1,4 @@
--- Tokens with a first one, and what the loop of the reader needs of the machine.
+-- What each step of the reader's loop needs to be a step of the defined parser.
 use Rattle.flt_lang.proofs.Common.{◌≡◌, ℕ, ◌+◌, ◌-◌, ◌<◌, ◌≤◌, ◌⊎◌, inl, inr, List, [], ◌∷◌, length, take, drop, get_or, ap, arith, Some, None, one-add}
 use Rattle.flt_lang.proofs.Common.{take_rest, Token, TokenKind, Value, kinds_of, value_of, sym, ◌∙◌, refl, Option, drop-map, drop-drop, Node, Frame, Operand}
 use Rattle.flt_lang.proofs.Common.{State, run, after_operand, begin_at, next_of, number_with_prefix, operand_precedence, token_precedence, reduce, Reduced}

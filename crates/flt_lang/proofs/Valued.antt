@@ -1,5 +1,5 @@
--- A value, with what stands before it or with nothing, as tokens and as the machine reads it. A
--- number alone waits, since it may be arithmetic.
+-- A value with its qualifiers, as tokens and as the parser reads it; a number by itself waits,
+-- since it may be arithmetic.
 use Rattle.flt_lang.proofs.Common.{◌≡◌, ℕ, suc, zero, ◌+◌, ◌-◌, ◌<◌, ◌≤◌, List, [], ◌∷◌, length, drop, refl, sym, ap, ◌∙◌, arith, is_some, ◌||◌, Option, Some}
 use Rattle.flt_lang.proofs.Common.{None, Bool, true, false, drop-drop, Protocol, Divide, Side, Source, Destination, ValueType, TokenKind, Direction, Qualifiers}
 use Rattle.flt_lang.proofs.Common.{NetMask, Value, Node, Frame, Operand, ReadsProtocol, no_protocol, protocol, ReadsDirection, no_direction, one_side}

@@ -1,4 +1,4 @@
--- What stands before a value, and the value, are read from the left as far as they go.
+-- Qualifiers and values are read from the left, as far as they go.
 use Rattle.flt_lang.proofs.Common.{◌≡◌, ◌≤◌, List, ◌∷◌, refl, subst, arith, lit≤, Option, Some, None, Bool, true, Protocol, Operator, Side, Source, Destination}
 use Rattle.flt_lang.proofs.Common.{ValueType, TokenKind, Direction, Qualifiers, NetMask, Value, ReadsProtocol, no_protocol, protocol, ReadsDirection}
 use Rattle.flt_lang.proofs.Common.{no_direction, one_side, ReadsType, no_type, of_type, ReadsQualifiers, qualifiers, ReadsMask, no_mask, ReadsValue, number}

@@ -1,4 +1,4 @@
--- The grammar: which tree the tokens at the start have, and which tokens are left after it.
+-- The grammar: the tree of the tokens at the start, and the tokens after it.
 use Rattle.std.specs.Prelude.{◌≡◌, Bool, true, false, ℕ, suc, List, [], ◌∷◌, map, Some, None}
 use Rattle.flt_words.specs.declared.token.{Cast.Cast, Comparison.Comparison}
 use Rattle.flt_words.specs.declared.token.{Join.Join, Operator.Operator, Protocol.Protocol}

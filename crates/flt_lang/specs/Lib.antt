@@ -1,4 +1,4 @@
--- What the contracts cite.
+-- The definitions that contracts cite.
 pub mod Values
 pub mod Grammar
 pub mod Nesting

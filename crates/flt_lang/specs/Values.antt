@@ -1,5 +1,5 @@
--- What may stand before a value, and the values, in tokens: which one the tokens at the start have,
--- and which tokens are left after it.
+-- Values and the qualifiers before them, as tokens: which value the tokens begin with, and which
+-- tokens follow it.
 use Rattle.std.specs.Prelude.{ℕ, List, ◌∷◌, Option, Some, None, Bool, is_some, ◌||◌}
 use Rattle.flt_words.specs.declared.token.{Join.Join, Operator.TheVariants.Divide}
 use Rattle.flt_words.specs.declared.token.{Protocol.Protocol, Side.Side}

@@ -1,5 +1,5 @@
--- A run that asks each instruction whether it breaks a rule: its steps, and that it is the
--- machine's run where none does.
+-- The steps of a run that checks each instruction when it meets it, which is the machine's run if
+-- no instruction breaks a rule.
 use Rattle.flt_trace.proofs.Common.{◌≡◌, ℕ, zero, suc, ◌+◌, ◌-◌, ◌<◌, ◌≤◌, List, length, true, Option, Some, None, refl, sym, ap, ◌∙◌, subst, arith, slice_get}
 use Rattle.flt_trace.proofs.Common.{IsSomeAnd, slice_get_within, slice_get_past, Insn, State, Next, Goes, Ends, Lost, Progress, Stands, Answered, Stuck, step}
 use Rattle.flt_trace.proofs.Common.{step_if_there, progress_after, run_from, start, machine, step_unless, step_by_rules, by_rules_from, run_end, run_by_rules}

@@ -1,4 +1,4 @@
--- A run is where the trace says, and what is written of it stays.
+-- The run is at the step that the trace shows, and earlier steps stay as they were written.
 use Rattle.flt_trace.proofs.Common.{◌≡◌, ◌≢◌, ℕ, zero, suc, ◌+◌, ◌-◌, ◌<◌, ◌≤◌, List, length, Some, refl, sym, ap, ◌∙◌, subst, arith, length-set, below_more}
 use Rattle.flt_trace.proofs.Common.{slice_get, slice_set, IsSomeAnd, Insn, State, Next, Goes, Ends, Lost, Stands, step, step_if_there, progress_after, run_from}
 use Rattle.flt_trace.proofs.Common.{start, machine, IsValid, parts, goes_inside, run_ends, run_goes}

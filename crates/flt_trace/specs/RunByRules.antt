@@ -1,5 +1,4 @@
--- A run of instructions that passed no check: each is asked, when it is met, whether it breaks a
--- rule.
+-- A run of instructions that weren't checked: each one is checked against the rules when it is met.
 use Rattle.std.specs.Prelude.{◌≡◌, ℕ, zero, suc, ◌+◌, ◌-◌, List, length, Option, Some, None, slice_get, IsSomeAnd}
 use Rattle.flt_bpf.specs.{Check.fault_of, Instructions.operation_of}
 use Rattle.flt_bpf.specs.Machine.{Next, Lost, Progress, Stands, Answered, Stuck, step, progress_after, start, machine}

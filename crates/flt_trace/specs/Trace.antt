@@ -1,5 +1,5 @@
--- The steps of a run, as a caller sees them. Here `p` is the captured bytes of a packet, and `n`
--- its original length.
+-- The steps of a run, as a caller sees them; `p` is the captured bytes of a packet, `n` its
+-- original length.
 use Rattle.std.specs.Prelude.{◌≡◌, ℕ, ◌<◌, ◌≤◌, List, length, slice_get, IsSomeAnd}
 use Rattle.flt_bpf.specs.Machine.{Stands, Answered, machine}
 use Rattle.flt_bpf.specs.declared.{insn.Insn.Insn, machine.State.State}

@@ -1,9 +1,8 @@
-//! Runs that no program counts: over instructions of the caller, with what the machine is before
-//! each, and of instructions that passed no check.
+//! Runs of a caller's instructions, which no program counts: step by step, with the machine's state
+//! before each step, if the program is valid, and of instructions that weren't checked.
 //!
-//! Each step is the machine's own (`execute`, `advance` of `flt_bpf`). The jobs have no use for
-//! this crate, so the only runner that they can name counts.
-
+//! Each step is the machine's own (`execute`, `advance` of `flt_bpf`). The jobs don't use this
+//! crate, so the only runner that they can name counts.
 ghost use Rattle.std.specs.Option.{IfSome};
 ghost use Rattle.std.specs.Prelude.{◌≡◌, ℕ, ◌≤◌, ◌<◌, ◌^◌, length, slice_set, IsSome};
 ghost use Rattle.flt_bpf.specs.{Machine.machine, Machine.Answered, Valid.IsValid};

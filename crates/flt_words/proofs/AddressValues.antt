@@ -1,5 +1,4 @@
--- Groups of digits, the parts of a text between separators, and the numbers of addresses. A text is
--- one list of groups at most.
+-- A text is at most one list of groups of digits, and the groups determine the address.
 use Rattle.flt_words.proofs.Common.{◌≡◌, ℕ, ◌^◌, ◌<◌, ◌≤◌, List, [], ◌∷◌, ◌++◌, length, refl, sym, ap, ◌∙◌, arith, false, ◌==◌, Result, Ok, Err, lit<, lit≤}
 use Rattle.flt_words.proofs.Common.{MatchOption, pow-le-pow_right, nat_tests, digits_value-lt, AllByRecursion, join_with_byte, slice_split, AllDigits}
 use Rattle.flt_words.proofs.Common.{IsNumeral, digits_value, Group, WordFault, AreGroups, IsGroup, group_value, separator_of, base_of, WritesNumber}

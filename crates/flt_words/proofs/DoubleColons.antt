@@ -1,4 +1,4 @@
--- Where two colons stand in an IPv6 address.
+-- Where two colons are in an IPv6 address.
 use Rattle.flt_words.proofs.Common.{◌≡◌, ◌≢◌, ℕ, suc, zero, ◌+◌, ◌<◌, List, [], ◌∷◌, ◌++◌, length, get_or, take, drop, refl, sym, ap, ◌∙◌, subst, arith, false}
 use Rattle.flt_words.proofs.Common.{◌==◌, Option, Some, None, MatchOption, add-one, length-append, drop-cons, drop-append-add, get_or-append_seam}
 use Rattle.flt_words.proofs.Common.{take-append_seam, nat_tests, get_or-append-add, get_or_append_left, take-append-drop, AllByRecursion, join_with_byte}

@@ -1,4 +1,4 @@
--- Numbers in words, and ranges; where a byte cuts a word.
+-- Numbers and ranges in words, and where a byte cuts a word.
 use Rattle.flt_words.proofs.Common.{◌≡◌, ◌≢◌, ℕ, ◌+◌, ◌<◌, ◌≤◌, List, [], ◌∷◌, ◌++◌, length, get_or, take, drop, refl, arith, Bool, true, false, ◌==◌, cond}
 use Rattle.flt_words.proofs.Common.{nat_lt, Option, Some, None, subst, nat_tests, passes_at_first, split_at_first, digit_value, position, position_or_len}
 use Rattle.flt_words.proofs.Common.{AllDigits, has, ◌^◌, digits_value, are_digits, WritesNumber, is_word_sized, ◌⊎◌, ⊎_elim, ◌||◌, sym, lit≤, IsNumber}

@@ -1,4 +1,4 @@
--- A text has one answer at most.
+-- A text has at most one list of tokens.
 use Rattle.flt_words.proofs.Common.{◌≡◌, ℕ, suc, zero, ◌+◌, ◌<◌, ◌≤◌, List, [], ◌∷◌, length, get_or, take, drop, refl, sym, ap, ◌∙◌, subst, arith, Bool, true}
 use Rattle.flt_words.proofs.Common.{false, Result, Ok, Err, Some, length-drop, length-take-le, get_or-drop, add-zero, false≢true, nat_tests, ExprFault, Token}
 use Rattle.flt_words.proofs.Common.{TokenKind, is_blank, is_inside, starts_word, symbol_of, IsLongest, IsPiece, IsRefused, IsToken, IsWordPiece, PieceMeans}

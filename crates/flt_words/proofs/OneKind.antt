@@ -1,4 +1,4 @@
--- A word stands for one thing at most, as its colons, points and dashes tell.
+-- A word means at most one token: its colons, points and dashes tell its kind.
 use Rattle.flt_words.proofs.AddressValues.{same_groups}
 use Rattle.flt_words.proofs.Common.{◌≡◌, ℕ, ◌≤◌, List, [], ◌∷◌, ◌++◌, length, refl, ap, ◌∙◌, arith, Bool, true, false, ◌==◌, cond, lit<, lit≤, Some}
 use Rattle.flt_words.proofs.Common.{digit_value, AllByRecursion, AllDigits, join_with_byte, Group, TokenKind, AreGroups, IsDotted, IsGroup, IsIp6, IsMac}

@@ -1,4 +1,4 @@
--- The longest piece at the front of a text.
+-- The longest piece at the start of a text.
 use Rattle.flt_words.proofs.Common.{◌≡◌, ℕ, ◌+◌, ◌-◌, ◌<◌, ◌≤◌, ◌≢◌, suc, zero, List, [], ◌∷◌, below_more, length, get_or, take, refl, sym, ap, ◌∙◌, arith}
 use Rattle.flt_words.proofs.Common.{Bool, true, false, length-take-le, Some, None, lit<, lit≤, subst, ⊎_elim, cases_lt, false≢true, get_or-take, TokenKind}
 use Rattle.flt_words.proofs.Common.{starts_word, within_word, symbol_of, IsLongest, IsPiece, IsWordPiece, symbol, word}

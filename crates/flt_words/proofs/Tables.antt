@@ -1,5 +1,5 @@
--- What holds of each entry of a table holds of what is looked up; and brackets stand in the tokens
--- of brackets alone.
+-- What holds for each row of a table holds for what is found in it, and only brackets are spelled
+-- with brackets.
 use Rattle.flt_words.proofs.Common.{◌≡◌, ℕ, List, [], ◌∷◌, refl, subst, Bool, true, false, ◌&&◌, not, ◌==◌, eqb-true, cond, Option, Some, get_or, nat_lt}
 use Rattle.flt_words.proofs.Common.{bytes_eq-Decides, list_all, bytes_eq, TokenKind, has, Spellings, keyword_of, look_up, fits, ◌<◌, ◌≤◌, count_by, length}
 use Rattle.flt_words.proofs.Common.{codes, arith, lit≤, is_ascii_alphanumeric, is_blank, starts_word, symbol_of, suc, take, sym, ap, ◌∙◌, Ok, false≢true}

@@ -1,4 +1,4 @@
--- The characters of which tokens are made.
+-- The characters of tokens.
 use Rattle.std.specs.Char.{is_ascii_alphanumeric}
 use Rattle.std.specs.Prelude.{ℕ, List, Bool, ◌==◌, ◌&&◌, ◌||◌, not, nat_lt, count_by}
 

@@ -23,10 +23,7 @@ def count(expression: capkit.Expression, name: str) -> int:
     except capkit.CaptureError as fault:
         report(f"{name}: {fault}")
         status = 1
-    except (capkit.CompileError, OSError) as error:
-        report(error)
-        return 1
-    print(f"{matching} of {seen} packets match")
+    print(f"{matching} of {seen} packets match", flush=True)
     return status
 
 
@@ -39,7 +36,11 @@ def main() -> int:
     except capkit.CompileError as error:
         report(error)
         return 2
-    return count(expression, sys.argv[2])
+    try:
+        return count(expression, sys.argv[2])
+    except (capkit.CompileError, OSError) as error:
+        report(error)
+        return 1
 
 
 sys.exit(main())

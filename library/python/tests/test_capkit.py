@@ -234,6 +234,8 @@ class PacketsTest(unittest.TestCase):
     def test_comments(self):
         comments = [p.comment for p in capkit.packets(str(SAMPLES / "comments.pcapng"))]
         self.assertEqual(comments, [b"a first look", b"", b"of two"])
+        longest = [packet(comment=bytes(range(1, 256)) * 257), packet(), packet(comment=b"look\0")]
+        self.assertEqual(list(capkit.packets(written(longest))), longest)
 
     def test_a_fault_has_the_packets_before(self):
         with self.assertRaisesRegex(capkit.CaptureError, "^offset 2631: too long$") as caught:

@@ -21,6 +21,7 @@ ROUNDS, SEED = int(os.environ.get("CAPKIT_ROUNDS", 12)), int(os.environ.get("CAP
 END, SKIPPED, ODD = 222, 228, (208, 210, 212, 213)
 _at, _size = ctypes.c_void_p, ctypes.c_size_t
 NEXT = native.declare("capkit_next", ctypes.c_uint32, _at, _at, _size, _at, _size, _at)
+COMMENT = native.declare("capkit_comment", _size, _at, _at, _size, _at, _at, _size)
 
 
 def damaged(chance, data):
@@ -61,7 +62,7 @@ def by_the_calls(data, with_skip):
             return packets, skipped, (found, reader.offset)
         else:
             comment = ctypes.create_string_buffer(it.options_length + 1)
-            size = native.comment(*place[:1], *place[3:], ctypes.byref(it), comment, len(comment))
+            size = COMMENT(*place[:1], *place[3:], ctypes.byref(it), comment, len(comment))
             entry = table[it.interface] if it.interface < reader.interfaces else native.Interface()
             packets.append(capkit.Packet(
                 it.time, it.link_type, data[it.at : it.at + it.captured], it.original,

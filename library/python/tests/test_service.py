@@ -18,7 +18,9 @@ import struct
 import sys
 import tempfile
 import threading
+import time
 import unittest
+import warnings
 
 import capkit
 from test_capkit import SAMPLES, UDP, packet, written
@@ -314,6 +316,39 @@ class SourcesTest(FolderTest):
                     errors = (OSError, KeyboardInterrupt)
                     self.assertEqual(patiently(capkit.packets(source), errors), want)
 
+    def test_errors_of_a_signals_handler(self):
+        """A loop goes on after one, or has ended; packets are neither lost before others nor made up."""
+
+        class Alarm(Exception):
+            pass
+
+        def ring(*_):
+            nonlocal is_on
+            if is_on:
+                is_on = False
+                raise Alarm
+
+        is_on, rings = False, 0
+        notes = [b"" if number % 500 else b"note" for number in range(10000)]
+        want = [packet(bytes([number % 256]) * 60, comment=note) for number, note in enumerate(notes)]
+        self.path.write_bytes(written(want))
+        self.addCleanup(signal.signal, signal.SIGALRM, signal.signal(signal.SIGALRM, ring))
+        self.addCleanup(signal.setitimer, signal.ITIMER_REAL, 0)
+        signal.setitimer(signal.ITIMER_REAL, 0.0005, 0.0005)
+        while rings < 300:
+            with open(self.path, "rb", rings % 2 - 1) as file:
+                packets, found = capkit.packets(file if rings % 3 else self.path), []
+                has_ended = False
+                while not has_ended:
+                    try:
+                        is_on = True
+                        # A call in C, so the error comes in the middle of the package.
+                        found.extend(packets)
+                        is_on, has_ended = False, True
+                    except Alarm:
+                        rings += 1
+                self.assertEqual(found, want[: len(found)])
+
     def test_a_pipe_that_does_not_block(self):
         data, want = DAY.read_bytes(), list(capkit.packets(DAY))
         for buffering in (0, -1):
@@ -398,6 +433,28 @@ class SourcesTest(FolderTest):
             in_threads(read, 4)
         self.assertEqual(seen, [40] * 20)
 
+    def test_a_fork_while_threads_read_and_write(self):
+        self.path.write_bytes(damaged(40)[0])
+        capture, writer = capkit.Capture(self.path), capkit.Writer(Slow(), "pcap")
+        is_over = threading.Event()
+
+        def work():
+            while not is_over.is_set():
+                writer.write(packet())
+                with contextlib.suppress(capkit.CaptureError):
+                    list(capture)
+
+        threads = [threading.Thread(target=work) for _ in range(3)]
+        for thread in threads:
+            thread.start()
+        try:
+            statuses = [os.waitpid(forked(capture, writer), 0)[1] for _ in range(5)]
+        finally:
+            is_over.set()
+            for thread in threads:
+                thread.join()
+        self.assertEqual(statuses, [0] * 5)
+
     def test_an_error_ends_all_of_a_loop(self):
         """Packets after one that isn't filtered aren't given as if nothing was lost."""
         capture = written([packet(UDP), packet(UDP, link_type=276), packet(UDP)] * 100)
@@ -406,6 +463,33 @@ class SourcesTest(FolderTest):
         with self.assertRaises(capkit.CompileError):
             list(packets)
         self.assertEqual(list(packets), [])
+
+
+class Slow(io.RawIOBase):
+    """An output that other threads run during."""
+
+    def write(self, data):
+        time.sleep(0.001)
+        return len(data)
+
+
+def forked(capture, writer):
+    """A process that reads a capture, closes a writer, and ends: with status 0 if it can."""
+    with warnings.catch_warnings():
+        warnings.simplefilter("ignore", DeprecationWarning)  # since Python 3.12, if there are threads
+        process = os.fork()
+    if process == 0:
+        signal.alarm(20)
+        try:
+            count = 0
+            with contextlib.suppress(capkit.CaptureError):
+                for count, _ in enumerate(capture, 1):
+                    pass
+            with contextlib.suppress(RuntimeError):  # the fork was in the middle of a packet
+                writer.close()
+        finally:
+            os._exit(count != 40)
+    return process
 
 
 def error_of_next(packets):
@@ -591,6 +675,42 @@ class OutputsTest(FolderTest):
                     writer.write(packet())
                 writer.write(packet(UDP))
             self.assertEqual(output.bytes, written([packet(), packet(UDP)], format))
+
+    def test_errors_of_a_signals_handler(self):
+        """Each packet is written whole or not at all, and if write returns, it is written."""
+
+        class Alarm(Exception):
+            pass
+
+        def ring(*_):
+            nonlocal is_on
+            if is_on:
+                is_on = False
+                raise Alarm
+
+        is_on, rings = False, 0
+        self.addCleanup(signal.signal, signal.SIGALRM, signal.signal(signal.SIGALRM, ring))
+        self.addCleanup(signal.setitimer, signal.ITIMER_REAL, 0)
+        signal.setitimer(signal.ITIMER_REAL, 0.0003, 0.0003)
+        while rings < 1000:
+            format, buffering = ("pcap", "pcapng")[rings % 2], (None, -1, 0)[rings % 3]
+            target = self.path if buffering is None else open(self.path, "wb", buffering)
+            writer, sure = capkit.Writer(target, format), set()
+            for number in range(200):
+                name = b"" if format == "pcap" else b"%d" % (number % 3)
+                try:
+                    is_on = True
+                    writer.write(packet(b"%d" % number * 9, interface_name=name))
+                    is_on = False
+                    sure.add(number)
+                except Alarm:
+                    rings += 1
+            writer.close()
+            if buffering is not None:
+                target.close()
+            found = [int(each.data[: len(each.data) // 9]) for each in capkit.packets(self.path)]
+            self.assertEqual(found, sorted(set(found)))
+            self.assertLessEqual(sure, set(found))
 
     def test_bytes_that_lie(self):
         class Lies(bytes):

@@ -6,14 +6,16 @@
 use capkit::{Expression, Format, Packets, Writer};
 use std::fs::{self, File};
 use std::os::unix::fs::MetadataExt;
-use std::{env, error::Error, fmt::Display, io::BufWriter, process::ExitCode};
+use std::{
+    env, error::Error, ffi::OsString, fmt::Display, io::BufWriter, path::Path, process::ExitCode,
+};
 
 fn fail(problem: impl Display, status: u8) -> ExitCode {
     eprintln!("keep: {problem}");
     ExitCode::from(status)
 }
 
-fn is_same_file(one: &str, other: &str) -> bool {
+fn is_same_file(one: &Path, other: &Path) -> bool {
     match (fs::metadata(one), fs::metadata(other)) {
         (Ok(one), Ok(other)) => (one.dev(), one.ino()) == (other.dev(), other.ino()),
         _ => false,
@@ -21,9 +23,9 @@ fn is_same_file(one: &str, other: &str) -> bool {
 }
 
 /// Writes the packets that match; after a fault, those before it.
-fn keep(expression: Expression, name: &str, out: &str) -> Result<(), Box<dyn Error>> {
-    let of_input = |error: &dyn Display| format!("{name}: {error}");
-    let of_output = |error: &dyn Display| format!("{out}: {error}");
+fn keep(expression: Expression, name: &Path, out: &Path) -> Result<(), Box<dyn Error>> {
+    let of_input = |error: &dyn Display| format!("{}: {error}", name.display());
+    let of_output = |error: &dyn Display| format!("{}: {error}", out.display());
     let packets = Packets::open(name).map_err(|error| of_input(&error))?;
     let mut packets = packets.matching(&expression).map_err(|error| of_input(&error))?;
     let mut next = packets.next().transpose().map_err(|error| of_input(&error))?;
@@ -41,20 +43,20 @@ fn keep(expression: Expression, name: &str, out: &str) -> Result<(), Box<dyn Err
 }
 
 fn main() -> ExitCode {
-    let words: Vec<String> = env::args().collect();
+    let words: Vec<OsString> = env::args_os().collect();
     let (text, name, out) = match &words[..] {
-        [_, text, name, out] => (text, name, out),
+        [_, text, name, out] => (text.to_string_lossy(), Path::new(name), Path::new(out)),
         _ => {
             eprintln!("usage: keep EXPRESSION IN OUT");
             return ExitCode::from(2);
         }
     };
-    let expression = match Expression::new(text) {
+    let expression = match Expression::new(&text) {
         Ok(expression) => expression,
         Err(error) => return fail(error, 2),
     };
     if is_same_file(name, out) {
-        return fail(format_args!("{out}: is the input too"), 2);
+        return fail(format_args!("{}: is the input too", out.display()), 2);
     }
     match keep(expression, name, out) {
         Ok(()) => ExitCode::SUCCESS,

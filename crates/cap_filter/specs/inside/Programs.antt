@@ -1,4 +1,4 @@
--- The programs that a compiled expression holds.
+-- The programs of a compiled expression.
 use Rattle.std.specs.{Coded.Coded, Coded.code_by, Coded.coded_list, Prelude.List}
 use Rattle.flt_bpf.specs.Content.{Content}
 use Rattle.flt_ast.specs.Nodes.{expr_nodes, tree_of}

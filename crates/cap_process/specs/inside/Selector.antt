@@ -1,4 +1,4 @@
--- The state of a selector, and its change by one verdict.
+-- The state of a selector, and how one verdict changes it.
 use Rattle.std.specs.Prelude.{◌≡◌, ℕ, ◌+◌, ◌-◌, ◌^◌, ◌≤◌, Bool, true, false, length, Option, None, Result, Ok, Err, Some, ◌<◌}
 use Rattle.cap_octet.specs.{Packet.Captured, declared.fault.Fault.Fault}
 use Rattle.cap_process.specs.Window.{WindowView}

@@ -1,10 +1,10 @@
 //! One block of a pcapng capture in memory, in the caller's table of interfaces.
 ghost use Rattle.std.specs.Prelude.{◌≡◌, ◌+◌, ◌<◌, ◌≤◌, ◌++◌, ◌∷◌, [], IfOk, IfErr, OnErr, is_some};
-ghost use Rattle.std.specs.{List.slice_get, Option.option_map, Prelude.length, Prelude.true};
+ghost use Rattle.std.specs.{List.slice_get, Prelude.length, Prelude.true};
 ghost use Rattle.cap_pcapng.specs.Interface.{description_of};
 ghost use Rattle.capkit_c.specs.inside.Blocks.{BlockIs, EntersTable, IsNoBlock, IsOf, IsRefusal};
 ghost use Rattle.capkit_c.specs.inside.Blocks.{spans_of};
-ghost use Rattle.capkit_c.specs.Layout.{described_of, first_interfaces};
+ghost use Rattle.capkit_c.specs.Layout.{first_interfaces};
 
 use crate::memory::layout::Interface;
 use cap_octet::{Fault, Order};
@@ -48,19 +48,6 @@ pub(crate) struct BlockEffect {
     pub(crate) packet: Option<UnitPacket>,
 }
 
-/// The interface with this number, from 0, among the first `count` of a table; `None` if there
-/// is none. It is the table's own entry; `KnownInterfaces::get` gives it as `cap_pcapng` has it.
-fn interface_by_number(table: &[Interface], count: usize, number: u32) -> Option<&Interface>
-    requires { count ≤ length table.now }
-    ensures { option_map (λ i. described_of i.now) result
-        ≡ slice_get (first_interfaces count table.now) number }
-{
-    if number as usize >= count {
-        return None;
-    }
-    table.get(number as usize)
-}
-
 /// Puts an interface after the first `count` of a table, instead of the entry there.
 pub(crate) fn append_interface(
     table: &mut [Interface],
@@ -100,22 +87,21 @@ impl Interfaces for KnownInterfaces<'_> {
 }
 
 /// The packet that a block has at these places, with the link type and the snap length of its
-/// interface, which is among the first `count` of a table.
-fn unit_packet(table: &[Interface], count: usize, spans: &PacketSpans) -> UnitPacket
-    requires known { count ≤ length table.now }
-    requires there { is_some (slice_get (first_interfaces count table.now) spans.now.interface)
-        ≡ true }
+/// interface, which is known.
+fn unit_packet(known: &KnownInterfaces<'_>, spans: &PacketSpans) -> UnitPacket
+    requires { is_some (slice_get (first_interfaces known.now.count known.now.entries.now)
+        spans.now.interface) ≡ true }
     ensures spans { spans_of spans.now.size result ≡ spans.now }
-    ensures interface { IsOf (first_interfaces count table.now) result }
+    ensures interface { IsOf (first_interfaces known.now.count known.now.entries.now) result }
 {
-    let interface = interface_by_number(table, count, spans.interface).unwrap();
+    let interface = known.get(spans.interface).unwrap();
     UnitPacket {
         start: spans.bytes.start,
         length: spans.bytes.length,
         options_start: spans.options.start,
         options_length: spans.options.length,
         interface: spans.interface,
-        link_type: interface.link_type,
+        link_type: interface.link,
         snap: interface.snap,
         time: spans.time,
         orig: spans.orig,
@@ -164,7 +150,7 @@ fn apply_block(
         }
         Ok(Effect::Packet(spans)) => Ok(BlockEffect {
             interfaces: count,
-            packet: Some(unit_packet(table, count, &spans)),
+            packet: Some(unit_packet(&known, &spans)),
         }),
         Ok(Effect::Nothing) => Ok(BlockEffect {
             interfaces: count,

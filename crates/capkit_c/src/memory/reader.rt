@@ -164,6 +164,7 @@ fn read_block_unit(
 /// Reads the unit that a text begins with, a file header, a record or a block, by what is declared
 /// of the file. The text isn't empty if a unit was read before. A refusal leaves the table
 /// unchanged; and none is added to a table of `count`.
+#[inline(always)]
 pub(crate) fn read_unit(
     form: FileState,
     table: &mut [Interface],

@@ -1,4 +1,4 @@
--- What the reader of listings computes of a line, and what it finds on the lines after the first.
+-- What the reader of listings computes from a line, and what it finds on the lines after the first.
 use Rattle.std.specs.{Borrow.Bor, List.slice_split, List.AllZip}
 use Rattle.std.specs.Prelude.{◌≡◌, ℕ, ◌+◌, ◌^◌, ◌<◌, ◌≤◌, ◌⊎◌, nat_lt, ◌==◌, ◌&&◌, if◌then◌else◌, List, [], ◌∷◌, length, slice_get, Option, Some, None, IsSomeAnd}
 use Rattle.cap_octet.specs.Digits.{decimal_value}

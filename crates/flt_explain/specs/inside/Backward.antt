@@ -1,6 +1,5 @@
--- The tokens of what an expression means, written over its nodes, from the last node to the first:
--- a node comes before its operands, and what stands before or between them waits until they are
--- written.
+-- The tokens of a meaning, written from the last node to the first: a node comes before its
+-- operands, so what is written before or between them is pending until they are written.
 use Rattle.std.specs.Prelude.{Bool, true, false, List, [], ◌∷◌}
 use Rattle.flt_words.specs.declared.token.Operator.TheVariants.{Subtract}
 use Rattle.flt_words.specs.declared.token.TokenKind.{TokenKind}

@@ -4,7 +4,8 @@ use Rattle.std.specs.List.{list_all, insert}
 use Rattle.std.specs.Prelude.{ℕ, zero, suc, ◌+◌, ◌-◌, ◌/◌, ◌^◌, ◌==◌, ◌&&◌, nat_lt, nat_le, min, Bool, true, false, if◌then◌else◌, List, [], ◌∷◌, length, take, drop, slice_get, count_by, is_none, Option, Some, None}
 use Rattle.flt_words.specs.declared.token.{Comparison.TheVariants.AtLeast, Protocol.Protocol}
 use Rattle.flt_words.specs.declared.token.ValueType.{ValueType}
-use Rattle.flt_words.specs.declared.token.Side.TheVariants.{Source}
+use Rattle.flt_words.specs.declared.token.Join.TheVariants.{And, Or}
+use Rattle.flt_words.specs.declared.token.Side.{Side, TheVariants.Source, TheVariants.Destination}
 use Rattle.flt_words.specs.declared.token.ValueType.TheVariants.{Host, Net, Proto}
 use Rattle.flt_ast.specs.declared.{qualifiers.Direction.Direction, value.Value.Value}
 use Rattle.cap_octet.specs.{Link.network_offset, declared.link.Link.Link}
@@ -20,24 +21,32 @@ use Rattle.flt_gen.specs.declared.elementary.Elementary.{Elementary}
 use Rattle.flt_gen.specs.declared.elementary.Elementary.TheVariants.{Outcome, Field}
 use Rattle.flt_gen.specs.declared.elementary.FrameKind.{FrameKind}
 
--- a value as a case, or none: an address of one side, or a protocol of IPv4 or of IPv6
+-- a value as a case, or none: an address of one side or of either, a network of one side, or a
+-- protocol of IPv4 or of IPv6
 abbrev pub case_of : ValueType → Option Protocol → Direction → Value → Option Case
-case_of Host p (Direction.One s) (Value.Mac a) = Some (Mac a)
-case_of Host p (Direction.One s) (Value.Ip6 a n) = Some (Ip6 None a)
+case_of Host p (Direction.Both And) v = None
+case_of Host p d (Value.Mac a) = Some (Mac a)
+case_of Host p d (Value.Ip6 a n) = Some (Ip6 None a)
 case_of Net p (Direction.One s) (Value.Ip6 a n) = Some (Ip6 n a)
 case_of Proto (Some Protocol.Ip) d (Value.Number n m) = Some (IpProto n)
 case_of Proto (Some Protocol.Ip6) d (Value.Number n m) = Some (Ip6Proto n)
 case_of _ _ _ _ = None
 
--- both are compared in the same words
-abbrev pub same_words : Case → Case → Bool
-same_words (Mac a) (Mac b) = true
-same_words (Ip6 m a) (Ip6 n b) = true
-same_words (IpProto a) (IpProto b) = true
-same_words (Ip6Proto a) (Ip6Proto b) = true
-same_words (Case.Relation a) (Case.Relation b) =
+-- the words that two addresses have to share are the same: on one side there are none
+abbrev pub shares : Direction → Bool → Bool
+shares (Direction.Both Or) same = same
+shares _ same = true
+
+-- both are compared in the same words, of which on either side all but the last are the same
+abbrev pub same_words : Direction → Case → Case → Bool
+same_words d (Mac a) (Mac b) = shares d (a / 2 ^ 16 == b / 2 ^ 16)
+same_words d (Ip6 m a) (Ip6 n b) =
+    shares d ((is_none m && is_none n) && a / 2 ^ 32 == b / 2 ^ 32)
+same_words d (IpProto a) (IpProto b) = true
+same_words d (Ip6Proto a) (Ip6Proto b) = true
+same_words d (Case.Relation a) (Case.Relation b) =
     equals a.protocol b.protocol && (a.size == b.size && a.index == b.index)
-same_words _ _ = false
+same_words _ _ _ = false
 
 -- the number by which cases ascend
 abbrev pub key_of : Case → ℕ
@@ -190,9 +199,41 @@ decision few (suc k) tests word cs = decided few (decision few k tests) tests wo
 abbrev pub MOST_DECISIONS : ℕ
 MOST_DECISIONS = 64
 
--- cases with the same words, after the tests in front of them
-abbrev pub cases_formula : Link → Direction → List Case → Formula
-cases_formula link d [] = Single (Outcome false)
-cases_formula link d (c ∷ cs) =
+-- either side
+abbrev pub is_either : Direction → Bool
+is_either (Direction.Both Or) = true
+is_either _ = false
+
+-- an address, which is on a side
+abbrev pub is_address : Case → Bool
+is_address (Mac a) = true
+is_address (Ip6 m a) = true
+is_address _ = false
+
+-- cases with this direction, as this one, are looked for on either side
+abbrev pub are_either : Direction → Case → Bool
+are_either d c = is_address c && is_either d
+
+-- the tests of a case on a side, without those that decide nothing
+abbrev pub on_side : Link → Side → Case → Formula
+on_side link s c = all_of (needed_tests (case_tests link (Direction.One s) c))
+
+-- cases on a side
+abbrev pub all_on_side : Link → ℕ → Side → List Case → Formula
+all_on_side link few s cs = decision few MOST_DECISIONS (case_tests link (Direction.One s)) 0 cs
+
+-- cases on either side, of which one stands first in the expression: if the source is one of them,
+-- but not that one, as much of the destination as a test of that one reads has to be captured
+abbrev pub either_formula : Link → ℕ → Case → List Case → Formula
+either_formula link few c cs =
+    Either (Both (all_on_side link few Source cs)
+    (Either (on_side link Source c) (Either (on_side link Destination c) (Single (Outcome true)))))
+    (all_on_side link few Destination cs)
+
+-- cases with the words of one, which stands first in the expression, after the tests in front of
+-- them
+abbrev pub cases_formula : Link → Direction → Case → List Case → Formula
+cases_formula link d c cs =
     guarded_formula (case_front link c)
-    (decision (few_of c (length (c ∷ cs))) MOST_DECISIONS (case_tests link d) 0 (c ∷ cs))
+    (if are_either d c then either_formula link (few_of c (length cs)) c cs
+    else decision (few_of c (length cs)) MOST_DECISIONS (case_tests link d) 0 cs)

@@ -1,6 +1,6 @@
 -- Addresses, ports, protocols or relations that are looked for together, since they stand one after
 -- the other with `or` between them.
-use Rattle.std.specs.Prelude.{ℕ, ◌+◌, ◌-◌, ◌^◌, ◌==◌, nat_lt, nat_le, min, max, bit_and, not, Bool, true, false, ◌&&◌, if◌then◌else◌, List, [], ◌∷◌, length, Option, Some, None}
+use Rattle.std.specs.Prelude.{ℕ, ◌+◌, ◌-◌, ◌^◌, ◌==◌, nat_lt, nat_le, min, max, bit_and, not, Bool, true, false, ◌&&◌, if◌then◌else◌, List, [], ◌∷◌, length, is_none, Option, Some, None}
 use Rattle.flt_words.specs.declared.token.Join.TheVariants.{And, Or}
 use Rattle.flt_words.specs.declared.token.Protocol.{Protocol}
 use Rattle.flt_words.specs.declared.token.Protocol.TheVariants.{Ip, Arp, Rarp, Tcp, Udp}
@@ -8,10 +8,11 @@ use Rattle.flt_words.specs.declared.token.Side.TheVariants.{Source, Destination}
 use Rattle.flt_words.specs.declared.token.ValueType.{ValueType}
 use Rattle.flt_words.specs.declared.token.ValueType.TheVariants.{Host, Net, Port, PortRange}
 use Rattle.flt_ast.specs.Nets.{ip4_net}
+use Rattle.std.specs.Prelude.{count_ones}
 use Rattle.flt_ast.specs.Tree.{TruthTree, qualified, compared, denied, joined}
 use Rattle.flt_ast.specs.declared.qualifiers.CompleteQualifiers.{CompleteQualifiers}
 use Rattle.flt_ast.specs.declared.qualifiers.Direction.{Direction}
-use Rattle.flt_ast.specs.declared.value.{Ip4Net.Ip4Net, NetMask.NetMask, Value.Value}
+use Rattle.flt_ast.specs.declared.value.{Ip4Net.Ip4Net, Value.Value}
 use Rattle.cap_octet.specs.declared.link.Link.{Link}
 use Rattle.flt_gen.specs.Elementary.{with}
 use Rattle.flt_gen.specs.Formula.{Formula, Single, Both, Either, Except, Numbers, no_interval, guarded_formula}
@@ -19,19 +20,20 @@ use Rattle.flt_gen.specs.Primitives.{hosts_formula, port_test, port_formula}
 use Rattle.flt_gen.specs.{Numbers.accessor_tests, Reading.formula, declared.address.Hosts.Hosts, declared.cases.Case.Case}
 use Rattle.flt_gen.specs.declared.elementary.{Elementary.TheVariants.Outcome, Interval.Interval}
 use Rattle.flt_gen.specs.declared.{group.Entry.Entry, port.Ports.TheVariants.Several}
-use Rattle.flt_gen.specs.inside.Cases.{case_of, same_words, insert_case, cases_formula}
+use Rattle.flt_gen.specs.inside.Cases.{case_of, same_words, insert_case, are_either, cases_formula}
 use Rattle.flt_gen.specs.inside.Emitted.{relation_formula, qualified_needed}
 use Rattle.flt_gen.specs.inside.Intervals.{insert_ascending, sought}
 use Rattle.flt_gen.specs.inside.Relations.{relation_of, relation_test}
 
 -- the qualifiers of the member that stands first, whether each member is one number, the numbers of
--- the first and of all, which ascend, or the members as cases, and the members, in the order of the
--- expression
+-- the first and of all, which ascend, or the first and all members as cases, and the members, in the
+-- order of the expression
 pub record Group : Type 0 where
   pub qualifiers : CompleteQualifiers
   pub is_plain : Bool
   pub first : Interval
   pub all : List Interval
+  pub case : Option Case
   pub cases : List Case
   pub entries : List Entry
 
@@ -42,6 +44,7 @@ no_group = record {
   is_plain = true;
   first = no_interval;
   all = [];
+  case = None;
   cases = [];
   entries = [];
 }
@@ -73,6 +76,7 @@ with_member q v i group = record group {
 abbrev pub with_case : CompleteQualifiers → Entry → Case → Group → Group
 with_case q e c group = record group {
   qualifiers = q;
+  case = Some c;
   cases = insert_case c group.cases;
   entries = e ∷ group.entries;
 }
@@ -110,50 +114,43 @@ same_direction _ _ = false
 abbrev pub MOST_TOGETHER : ℕ
 MOST_TOGETHER = 4096
 
--- no members are cases
-abbrev pub has_none : List Case → Bool
-has_none [] = true
-has_none (c ∷ cs) = false
-
 -- a value with these qualifiers may join the members: any may if there are none; else one with the
 -- type, the protocol and the direction of the group, if there is room
 abbrev pub goes_with : CompleteQualifiers → Group → List Entry → Bool
 goes_with q group [] = true
 goes_with q group (e ∷ es) =
-    has_none group.cases && (same_type q.value_type group.qualifiers.value_type
+    is_none group.case && (same_type q.value_type group.qualifiers.value_type
     && (same_protocol q.protocol group.qualifiers.protocol
     && (same_direction q.direction group.qualifiers.direction
     && nat_lt (length (e ∷ es)) MOST_TOGETHER)))
 
--- a case has the words of others
-abbrev pub shares_words : Case → List Case → Bool
-shares_words c [] = false
-shares_words c (d ∷ ds) = same_words d c
+-- a case with this direction has the words of one, if there is one
+abbrev pub shares_words : Direction → Case → Option Case → Bool
+shares_words d c None = false
+shares_words d c (Some first) = same_words d first c
 
 -- a case with this direction may join the members: it may if there are none; else with their words
 -- and direction, if there is room
 abbrev pub case_goes_with : Case → Direction → Group → List Entry → Bool
 case_goes_with c d group [] = true
 case_goes_with c d group (e ∷ es) =
-    shares_words c group.cases && (same_direction d group.qualifiers.direction
+    shares_words d c group.case && (same_direction d group.qualifiers.direction
     && nat_lt (length (e ∷ es)) MOST_TOGETHER)
 
--- a network has `mask`, whose bits need be no prefix
-abbrev pub is_masked : Value → Bool
-is_masked (Value.Number n (NetMask.Mask bits)) = true
-is_masked (Value.Dotted d (NetMask.Mask bits)) = true
-is_masked _ = false
+-- a mask is that of a prefix: its bits are the first ones
+abbrev pub is_prefix : ℕ → Bool
+is_prefix mask = mask + 2 ^ (32 - count_ones mask) == 2 ^ 32
 
 -- the addresses of a network whose address has no other bits than its mask, which is a prefix
 abbrev pub net_numbers : Ip4Net → Option Interval
 net_numbers net =
-    if bit_and net.address net.mask == net.address
+    if is_prefix net.mask && bit_and net.address net.mask == net.address
     then Some (interval net.address (net.address + (2 ^ 32 - 1 - net.mask)))
     else None
 
 -- a network as a member, if it has a prefix
 abbrev pub net_member : Value → Option Interval
-net_member v = if is_masked v then None else with (ip4_net v) net_numbers
+net_member v = with (ip4_net v) net_numbers
 
 -- what a value looks for as a member: an address, whatever its parts and its mask, a network, a
 -- port or ports; none of other types and values
@@ -199,15 +196,27 @@ FEWEST_CASES = 8
 abbrev pub FEWEST_ADDRESSES : ℕ
 FEWEST_ADDRESSES = 20
 
--- how many members are looked for together at least: as cases, or as numbers, which may be one each
-abbrev pub fewest : List Case → Bool → ℕ
-fewest [] is_plain = if is_plain then 2 else FEWEST_RANGES
-fewest (Case.Ip6 n a ∷ cs) is_plain = FEWEST_ADDRESSES
-fewest (c ∷ cs) is_plain = FEWEST_CASES
+-- how many addresses with the words of one on either side are: the code of fewer might be longer
+-- than their bound allows
+abbrev pub fewest_either : Case → ℕ
+fewest_either (Case.Mac a) = 4
+fewest_either c = 3
+
+-- how many cases as one are, on one side or without one
+abbrev pub fewest_as : Case → ℕ
+fewest_as (Case.Ip6 n a) = FEWEST_ADDRESSES
+fewest_as c = FEWEST_CASES
+
+-- how many members with a direction are looked for together at least: as cases, or as numbers, which
+-- may be one each
+abbrev pub fewest : Option Case → Direction → Bool → ℕ
+fewest None d is_plain = if is_plain then 2 else FEWEST_RANGES
+fewest (Some c) d is_plain = if are_either d c then fewest_either c else fewest_as c
 
 -- the members are looked for together
 abbrev pub is_searched : Group → Bool
-is_searched group = nat_le (fewest group.cases group.is_plain) (length group.entries)
+is_searched group =
+    nat_le (fewest group.case group.qualifiers.direction group.is_plain) (length group.entries)
 
 -- addresses of IPv4 are looked for
 abbrev pub is_address : ValueType → Bool
@@ -248,16 +257,16 @@ rows_formula link (e ∷ []) = entry_formula link e
 rows_formula link (e ∷ f ∷ es) = Either (entry_formula link e) (rows_formula link (f ∷ es))
 
 -- one of the members, by their numbers or as cases
-abbrev pub together_formula : Link → Group → List Case → Formula
-together_formula link group [] =
+abbrev pub together_formula : Link → Group → Option Case → Formula
+together_formula link group None =
     several_formula link group.qualifiers group.qualifiers.value_type (numbers_of group)
-together_formula link group (c ∷ cs) =
-    cases_formula link group.qualifiers.direction (c ∷ cs)
+together_formula link group (Some c) =
+    cases_formula link group.qualifiers.direction c group.cases
 
 -- a packet has one of the members
 abbrev pub group_formula : Link → Group → Formula
 group_formula link group =
-    if is_searched group then together_formula link group group.cases
+    if is_searched group then together_formula link group group.case
     else rows_formula link group.entries
 
 -- either of two formulas, or only the first if there are no members

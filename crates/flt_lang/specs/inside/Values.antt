@@ -1,4 +1,4 @@
--- How qualifiers and values are read off the tokens.
+-- How qualifiers and values are read from the tokens.
 use Rattle.std.specs.Prelude.{◌≡◌, ◌≤◌, length, ℕ, List, ◌∷◌, drop, Option, Some, None, Bool, true}
 use Rattle.std.specs.Prelude.{false, if◌then◌else◌}
 use Rattle.flt_words.specs.declared.token.{Join.Join, Operator.TheVariants.Divide}

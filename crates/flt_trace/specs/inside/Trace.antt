@@ -1,4 +1,4 @@
--- The step that is written of a place and a state.
+-- The step that is written for a place and a state.
 use Rattle.std.specs.Prelude.{ℕ}
 use Rattle.flt_bpf.specs.declared.machine.State.{State}
 use Rattle.flt_trace.specs.declared.walk.Step.{Step}

@@ -1,4 +1,4 @@
--- Characters, as words are cut.
+-- The characters at which words are cut.
 use Rattle.std.specs.{List.list_any, Prelude.ℕ, Prelude.List, Prelude.Bool, Prelude.◌==◌}
 
 -- the text has the byte

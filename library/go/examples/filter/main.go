@@ -23,9 +23,8 @@ func count(expression *capkit.Expression, name string) error {
 	for {
 		packet, end := reader.Next()
 		if end != nil {
-			fmt.Printf("%d of %d packets match\n", matching, seen)
-			if end == io.EOF {
-				return nil
+			if _, err := fmt.Printf("%d of %d packets match\n", matching, seen); err != nil || end == io.EOF {
+				return err
 			}
 			return fmt.Errorf("%s: %w", name, end)
 		}

@@ -36,6 +36,11 @@ PacketInfo = _struct("PacketInfo", [
     *_of(_32, "captured original options_length interface snap"), ("link_type", _16),
 ])  # fmt: skip
 BatchPacket = _struct("BatchPacket", [("packet", PacketInfo), ("end", _size)])
+BatchReader = _struct("BatchReader", [
+    ("reader", Reader), ("base", _64), ("capture", c.c_void_p), ("size", _size),
+    ("insns", c.c_void_p), *_of(_size, "count number"), *_of(_16, "link_type is_plain"),
+    ("packets", BatchPacket * 128), ("table", Interface * MOST_INTERFACES),
+])  # fmt: skip
 WriterState = _struct("WriterState", _of(_32, "interfaces has_section"))
 PutPacket = _struct("PutPacket", [
     ("time", _64), *_of(_size, "captured name_length comment_length end"),
@@ -76,9 +81,10 @@ write_listing = declare("capkit_write_listing", _32, _at, _size, *_buffer)
 insn_text = declare("capkit_insn_text", _size, _at, _32, _at, _size)
 line = declare("capkit_line", _size, _16, _64, _32, _at, _size, _32, _at, _size)
 portability = declare("capkit_portability", _32, _at, _size)
-batch_next = declare("batch_next", _32, _at, _at, _at, _size, _at, _size, _16, _at, _size, _number)
+batch_read = declare("batch_read", _32, _at)
+batch_move = declare("batch_move", None, _at)
 skip = declare("capkit_skip", _32, _at, _at, _size, _at, _size)
-comment = declare("capkit_comment", _size, _at, _at, _size, _at, _at, _size)
+batch_comment = declare("batch_comment", _size, _at, _size, _32, _at, _size)
 batch_put = declare("batch_put", _32, _at, _text, _text, _text)
 batch_header = declare("batch_header", _size, _at)
 number_text = declare("capkit_text", _size, _32, _at, _size)

@@ -6,8 +6,8 @@ import itertools
 import mmap
 import os
 import struct
-import threading
-from typing import Any, Dict, Generator, Iterator, NamedTuple, Optional, Tuple, Union
+from typing import Any, Callable, Dict, Generator, Iterator, List, NamedTuple, Optional, Tuple
+from typing import Union
 
 from . import native
 from .errors import CaptureError, Check, CompileError, Status
@@ -25,8 +25,10 @@ _OF_ODD_UNITS = {
 }  # fmt: skip
 # What is read at once: what fits into a processor's cache is filtered twice as fast.
 _PIECE = 1 << 18
-# How many packets a call reads at most, and the fields of native.BatchPacket, except its end.
-_BATCH, _FIELDS = 128, struct.Struct("@QNNIIIIIH2x8x")
+# The longest comment, and a NUL.
+_COMMENT_ROOM = 65536
+# The fields of native.BatchPacket, except its end, and those that differ between plain packets.
+_FIELDS, _PLAIN = struct.Struct("@QNNIIIIIH2x8x"), struct.Struct("@QN8xII24x")
 
 
 class _Fields(NamedTuple):
@@ -226,6 +228,17 @@ class Capture:
                 file.end(has_failed)
 
 
+class _Names(Dict[int, bytes]):
+    """The names of interfaces by their numbers, each read once."""
+
+    def __init__(self, read: Callable[[int], bytes]) -> None:
+        self._read = read
+
+    def __missing__(self, number: int) -> bytes:
+        name = self[number] = self._read(number)
+        return name
+
+
 class _Loop:
     """The packets that are read from a buffer, many by one call, and what fills it."""
 
@@ -236,43 +249,47 @@ class _Loop:
         """Counts packets that aren't filtered in a tally, or ends at the first one if there is none."""
         self._file, self._limit, self._expression, self._tally = file, limit, expression, tally
         self._buffer: Any = memory
-        # How many bytes it has, where in the capture they begin, and whether they are the last ones.
-        self._size, self._base, self._is_whole = len(memory), 0, file is None
-        if file is not None:
+        # Whether its bytes are the last ones.
+        self._is_whole = file is None
+        # What a stream gave, until its bytes are counted.
+        self._given: List[Any] = []
+        self._batch: Any = native.BatchReader()
+        if file is None:
+            self._batch.size = len(memory) if limit is None else limit
+        else:
             # Its pages are made when they are used; ctypes would fill all of them for the smallest file.
             pages = mmap.mmap(-1, native.MOST_UNIT + _PIECE, mmap.MAP_PRIVATE | mmap.MAP_ANONYMOUS)
             self._buffer = (c.c_char * len(pages)).from_buffer(pages)
             self._view = memoryview(pages)
-        elif limit is not None:
-            self._size = limit
         # What ends the loop after the packets that were found last.
         self.ending: _Ending = None
         # The link type of the last packet, and that of the program which was run.
         self._link_type, self._judged = 1, -1
         self._programs: Dict[int, Union[Filter, CompileError]] = {}
-        self._reader, self._table = native.Reader(), (native.Interface * native.MOST_INTERFACES)()
-        self._batch, self._count = (native.BatchPacket * _BATCH)(), c.c_size_t()
-        self._turn = threading.Lock()
+        self._batch.capture = c.cast(self._buffer, c.c_void_p)
+        self._address, self._reader = c.addressof(self._batch), self._batch.reader
+        self._table, self._rows = self._batch.table, memoryview(self._batch.packets).cast("B")
+        self._text: Any = None
+        self._is_busy = False
 
     @property
     def offset(self) -> int:
         """That of the next unit in the capture."""
-        return self._base + int(self._reader.offset)
+        return int(self._batch.base + self._reader.offset)
 
     def read(self) -> int:
         """What the call for the next packets returns."""
-        insns, count, self._judged = None, 0, -1
+        it, self._judged = self._batch, -1
         if self._expression is not None:
             program = self._program(self._link_type)
             # Without one all packets are read; none of this link type may come.
+            it.count = 0
             if isinstance(program, Filter):
-                insns, count, self._judged = program._insns, program._count, self._link_type
-        found: int = native.batch_next(
-            c.byref(self._reader), self._table, self._buffer, self._size, insns, count,
-            self._link_type, self._batch, _BATCH, c.byref(self._count),
-        )  # fmt: skip
+                it.insns, it.count = c.addressof(program._insns), program._count
+                it.link_type = self._judged = self._link_type
+        found: int = native.batch_read(self._address)
         if found == _PACKETS and self._expression is not None:
-            last = self._batch[self._count.value - 1].packet.link_type
+            last = it.packets[it.number - 1].packet.link_type
             if last != self._link_type and isinstance(self._program(last), Filter):
                 self._link_type = last
         return found
@@ -281,51 +298,70 @@ class _Loop:
         """What the call that goes past the next unit returns."""
         most = native.MOST_INTERFACES
         reader, table = c.byref(self._reader), self._table
-        skipped: int = native.skip(reader, table, most, self._buffer, self._size)
+        skipped: int = native.skip(reader, table, most, self._buffer, self._batch.size)
         return skipped
 
     def needs_more(self, found: int) -> bool:
         """Whether a result may be another one if more bytes come, as they may."""
         if self._is_whole:
             return False
-        rest = self._size - self._reader.offset
+        rest = self._batch.size - self._reader.offset
         return found in (_END, Check.TRUNCATED) or (found == Check.NOT_A_CAPTURE_FILE and rest < 4)
 
     def fill(self) -> None:
         """Reads on once. If the source raises an error, nothing is changed but the buffer's begin."""
-        if not self._turn.acquire(blocking=False):
+        # No lock: a signal's handler may raise an error between its call and what frees it.
+        if self._is_busy:
             raise ValueError("another thread reads on")
         try:
+            self._is_busy = True
             self._fill()
         finally:
-            self._turn.release()
+            self._is_busy = False
 
     def _fill(self) -> None:
-        file, done, limit = self._file, self._reader.offset, self._limit
+        file, limit, it = self._file, self._limit, self._batch
         assert file is not None
-        rest = self._size - done
-        if done:
-            c.memmove(self._buffer, c.byref(self._buffer, done), rest)
-        self._base, self._size, self._reader.offset = self._base + done, rest, 0
-        position = self._base + rest
+        # Calls that do all or nothing, since a signal's handler may raise an error after each.
+        native.batch_move(self._address)
+        position = it.base + it.size
         room = _PIECE if limit is None else min(_PIECE, limit - position)
-        count = file.read(self._view[rest : rest + room], position) if room else 0
-        self._size, self._is_whole = rest + count, not count
+        view = self._view[it.size : it.size + room]
+        count = file.read(view, position, self._given) if room else 0
+        it.size, self._is_whole, self._given = it.size + count, not count, []
         if self._is_whole and isinstance(file, File):
             if room and limit is not None:
                 raise file.changed()
             if file.is_shorter(position):
-                self.ending = Check.TRUNCATED, self._base
+                self.ending = Check.TRUNCATED, it.base
 
     def packets(self) -> Iterator[Packet]:
-        """The packets of the last call."""
-        expression, judged, buffer = self._expression, self._judged, self._buffer
-        names, make = {0: self._name(0)}, tuple.__new__
-        batch = memoryview(self._batch).cast("B")[: self._count.value * _FIELDS.size]
-        fields = _FIELDS.iter_unpack(batch)
-        for time, at, start, length, original, options, number, snap, link in fields:
-            data = buffer[at : at + length]
-            if expression is not None and link != judged:
+        """The packets of the last call. They are made at once, so what interrupts the caller loses none."""
+        it, buffer, make = self._batch, self._buffer, tuple.__new__
+        first, rows = it.packets[0].packet, self._rows[: it.number * _FIELDS.size]
+        judged = first.link_type if self._expression is None else self._judged
+        if it.is_plain and first.link_type == judged:
+            link, name, snap = first.link_type, self._name(first.interface), first.snap
+            return iter([
+                make(Packet, (time, link, buffer[at : at + length], original, b"", name, snap))
+                for time, at, length, original in _PLAIN.iter_unpack(rows)
+            ])  # fmt: skip
+        found, names = _FIELDS.iter_unpack(rows), _Names(self._name)
+        return iter([
+            make(Packet, (
+                time, link, buffer[at : at + length], original,
+                self._comment(start, options) if options else b"", names[number], snap,
+            ))
+            for time, at, start, length, original, options, number, snap, link
+            in (found if self._expression is None else self._wanted(found))
+        ])  # fmt: skip
+
+    def _wanted(self, rows: Iterator[Tuple[int, ...]]) -> Iterator[Tuple[int, ...]]:
+        """Those of packets that match, up to one that ends the loop. The program was run on most of them."""
+        judged = self._judged
+        for row in rows:
+            if row[8] != judged:
+                _, at, _, length, original, _, _, _, link = row
                 program = self._program(link)
                 if isinstance(program, CompileError):
                     if self._tally is None or program.status != Status.LINK_TYPE:
@@ -333,12 +369,10 @@ class _Loop:
                         return
                     self._tally.skipped += 1
                     continue
-                if not program.matches(data, original):
+                data, insns = self._buffer[at : at + length], program._insns
+                if not native.matches(insns, program._count, data, length, original):
                     continue
-            if number not in names:
-                names[number] = self._name(number)
-            comment = self._comment(start, options) if options else b""
-            yield make(Packet, (time, link, data, original, comment, names[number], snap))
+            yield row
 
     def _program(self, link_type: int) -> Union[Filter, CompileError]:
         """The program for packets of a link type, or why there is none."""
@@ -359,10 +393,11 @@ class _Loop:
         return bytes(interface.name[: interface.name_length])
 
     def _comment(self, start: int, length: int) -> bytes:
-        info = c.byref(native.PacketInfo(options_at=start, options_length=length))
-        text, reader = c.create_string_buffer(length), c.byref(self._reader)
-        count = native.comment(reader, self._buffer, self._size, info, text, length)
-        return text.raw[:count]
+        if self._text is None:
+            self._text = c.create_string_buffer(_COMMENT_ROOM)
+        count = native.batch_comment(self._address, start, length, self._text, _COMMENT_ROOM)
+        text: bytes = self._text[:count]
+        return text
 
 
 def _again(

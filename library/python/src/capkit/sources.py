@@ -9,7 +9,7 @@ import socket
 import stat
 import threading
 import weakref
-from typing import Any, NamedTuple, Optional, Protocol, Tuple, Union
+from typing import Any, List, NamedTuple, Optional, Protocol, Tuple, Union
 
 from .filters import Bytes
 
@@ -29,6 +29,23 @@ class Readable(Protocol):
 
 # Those that were opened, each by its id.
 _sources: weakref.WeakValueDictionary[int, Any] = weakref.WeakValueDictionary()
+# All that have a lock.
+_locked: weakref.WeakSet[Any] = weakref.WeakSet()
+
+
+def add_lock(owner: Any) -> None:
+    """Gives an object a lock, which is free after a fork, though threads that don't go on held it."""
+    # A signal's handler may call in the middle of a call.
+    owner._lock = threading.RLock()
+    _locked.add(owner)
+
+
+def _free_locks() -> None:
+    for owner in list(_locked):
+        owner._lock = threading.RLock()
+
+
+os.register_at_fork(after_in_child=_free_locks)
 
 
 def is_being_read(descriptor: int) -> bool:
@@ -99,8 +116,8 @@ class File:
         self.path, self._file, self._seen = path, file, seen
         self._loops, self._is_closed = 0, False
         self._is_for_loops = self._is_released = file is None
-        # A signal's handler may close it in the middle of a call.
-        self._lock = threading.RLock()
+        self._lock: Any
+        add_lock(self)
         if file is not None:
             _sources[id(self)] = self
 
@@ -135,7 +152,7 @@ class File:
             self._look()
             return self._seen
 
-    def read(self, view: memoryview, position: int) -> int:
+    def read(self, view: memoryview, position: int, given: List[Any]) -> int:
         with self._lock:
             descriptor = self._descriptor()
             try:
@@ -218,40 +235,52 @@ class Stream:
     def is_shorter(self, position: int) -> bool:
         return False
 
-    def read(self, view: memoryview, position: int) -> int:
-        """Reads once, as much as there is; BlockingIOError if nothing has come yet."""
+    def read(self, view: memoryview, position: int, given: List[Any]) -> int:
+        """Reads once, as much as there is; BlockingIOError if nothing has come yet.
+
+        What the file gave is in a list, too; if the list has something, the file isn't read.
+        """
         if self._is_closed:
             raise ValueError("the capture is closed")
-        file, kind = self._file, type(self._file)
-        if hasattr(kind, "readinto"):
+        file, is_by_count = self._file, not hasattr(type(self._file), "readinto")
+        if not given:
             # The one of a buffered file that doesn't wait for more than there is.
-            count = _in_time(file, getattr(file, "readinto1", file.readinto), view)
-        else:
-            data = _in_time(file, file.read, len(view))
-            if isinstance(data, str):
-                raise TypeError("a source that is an open file is a binary one")
-            count = None if data is None else len(data)
-            if count and count <= len(view):
-                view[:count] = data
-        if count is None:
-            raise BlockingIOError(errno.EAGAIN, "no bytes have come yet")
-        if not 0 <= count <= len(view):
-            raise ValueError(f"a source gave {count} bytes where {len(view)} were asked for")
+            read = file.read if is_by_count else getattr(file, "readinto1", file.readinto)
+            _put_in_time(given, file, read, len(view) if is_by_count else view)
+        try:
+            count = _put_into(view, given[0]) if is_by_count else given[0]
+            if count is None:
+                raise BlockingIOError(errno.EAGAIN, "no bytes have come yet")
+            if not 0 <= count <= len(view):
+                raise ValueError(f"a source gave {count} bytes where {len(view)} were asked for")
+        except (BlockingIOError, TypeError, ValueError):
+            given.clear()
+            raise
         return int(count)
 
 
-def _in_time(file: Any, read: Any, argument: Any) -> Any:
-    """What a file gives. One of a socket can be read again after its timeout."""
+def _put_into(view: memoryview, data: Any) -> Optional[int]:
+    """Puts bytes into a buffer if they fit, and returns how many there are; None if there are none yet."""
+    if isinstance(data, str):
+        raise TypeError("a source that is an open file is a binary one")
+    if data and len(data) <= len(view):
+        view[: len(data)] = data
+    return None if data is None else len(data)
+
+
+def _put_in_time(given: List[Any], file: Any, read: Any, argument: Any) -> None:
+    """Puts what a file gives into a list. One of a socket can be read again after its timeout."""
     try:
-        return read(argument)
+        # By one call, after which a signal's handler may raise an error.
+        given.extend(map(read, (argument,)))
     except (TimeoutError, socket.timeout):
         # It refuses that, since a reader that joins pieces has lost those before. Nothing was read here.
         raw = getattr(file, "raw", file)
         if isinstance(raw, socket.SocketIO) and hasattr(raw, "_timeout_occurred"):
             raw._timeout_occurred = False
         raise
-    except StopIteration as stop:
-        raise RuntimeError("a source raised StopIteration") from stop
+    if not given:
+        raise RuntimeError("a source raised StopIteration")
 
 
 def opened(path: Path) -> Union[File, Stream]:

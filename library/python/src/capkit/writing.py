@@ -8,13 +8,12 @@ import io
 import os
 import stat
 import struct
-import threading
-from typing import Any, Literal, Optional, Protocol, Union, get_args
+from typing import Any, List, Literal, Optional, Protocol, Union, get_args
 
 from . import native
 from .errors import Check, WriteError
 from .reading import Packet
-from .sources import Path, descriptor_of, is_being_read
+from .sources import Path, add_lock, descriptor_of, is_being_read
 
 Format = Literal["pcapng", "pcap", "nsecpcap"]
 
@@ -64,9 +63,13 @@ class Writer:
         self._widen_table(1)
         # What is left of units of which the output took a part: it goes first.
         self._rest = memoryview(b"")
+        # What the output said it took, until that is counted.
+        self._taken: List[Any] = []
+        # Whether the state counts the units in the buffer, of which the output took nothing yet.
+        self._is_put = False
         self._is_begun = self._is_closed = self._is_busy = False
-        # The handler of a signal, and the output, may call in the middle of a call.
-        self._turn = threading.RLock()
+        self._lock: Any
+        add_lock(self)
 
     def __repr__(self) -> str:
         return f"<Writer of {self._format} to {self._target!r}>"
@@ -78,7 +81,7 @@ class Writer:
         open file. BlockingIOError if an output takes no bytes now: write the packet again. A pcap file
         keeps neither comments nor names of interfaces.
         """
-        with self._turn:
+        with self._lock:
             if self._is_busy:
                 raise _is_in_a_call()
             self._is_busy = True
@@ -87,16 +90,20 @@ class Writer:
                     raise ValueError("write to a closed writer")
                 if self._rest:
                     self._send_rest()
-                length = self._made(packet)
+                if self._is_put:
+                    # A signal's handler raised an error before this was done.
+                    self._unput(None)
                 try:
+                    length = self._made(packet)
                     # Its own file takes all; another may keep what it is given, and the buffer changes.
                     if self._is_own and self._is_begun:
                         self._file.write(self._view[:length])
+                        self._is_put = False
                     else:
                         self._send(self._view[:length].tobytes())
                 except BaseException as error:
                     # Units of which it took a part stay put.
-                    if not self._rest:
+                    if self._is_put:
                         self._unput(error)
                     raise
             finally:
@@ -116,7 +123,7 @@ class Writer:
         self._close(kind is None)
 
     def _close(self, with_header: bool) -> None:
-        with self._turn:
+        with self._lock:
             if self._is_busy:
                 raise _is_in_a_call()
             self._is_busy = True
@@ -142,8 +149,11 @@ class Writer:
         except struct.error:
             _checked(packet)
             raise
+        # Before the call, after which a signal's handler may raise an error.
+        self._is_put = True
         written = _batch_put(self._address, data, comment, name)
         if written:
+            self._is_put = False
             self._mend(written, packet)
             return self._made(packet)
         length: int = it.end
@@ -176,9 +186,9 @@ class Writer:
         """What a capture without packets is."""
         return self._view[: native.batch_header(self._address)].tobytes()
 
-    def _unput(self, error: BaseException) -> None:
+    def _unput(self, error: Optional[BaseException]) -> None:
         """Goes back to before the units in the buffer, which the output didn't take."""
-        self._put.state = self._put.before
+        self._put.state, self._is_put = self._put.before, False
         if self._format == "pcapng" and not isinstance(error, (BlockingIOError, WriteError)):
             # How much of them it took isn't known, so the next packet begins a new section.
             self._put.state.pcapng = native.WriterState()
@@ -187,35 +197,53 @@ class Writer:
         """Gives the output units, whole or not at all: what it doesn't take is kept."""
         if self._file is None:
             self._file = self._opened()
-        taken = self._taken(units)
-        if not taken:
-            raise _blocked()
-        self._is_begun = True
-        if taken != len(units):
-            self._rest = memoryview(units)[taken:]
-            # What fails now fails again in the next call, which writes nothing else before.
-            with contextlib.suppress(OSError):
-                self._send_rest()
+        self._is_put, self._rest = True, memoryview(units)
+        try:
+            self._give(units)
+            if self._is_put:
+                raise _blocked()
+        except BaseException:
+            self._count()
+            if self._is_put:
+                self._rest = memoryview(b"")
+            raise
+        # What fails now fails again in the next call, which writes nothing else before.
+        with contextlib.suppress(OSError):
+            self._send_rest()
 
     def _send_rest(self) -> None:
+        self._count()
         while self._rest:
-            taken = self._taken(bytes(self._rest[:_PIECE]))
-            if not taken:
+            left = len(self._rest)
+            self._give(bytes(self._rest[:_PIECE]))
+            if len(self._rest) == left:
                 raise _blocked()
-            self._rest = self._rest[taken:]
 
-    def _taken(self, units: bytes) -> int:
-        """How many bytes the output takes of some."""
+    def _give(self, units: bytes) -> None:
+        """Gives the output the first units of the rest, which is then what it didn't take."""
         try:
-            taken = self._file.write(units)
+            # By one call, after which a signal's handler may raise an error.
+            self._taken.extend(map(self._file.write, (units,)))
         except BlockingIOError as error:
-            taken = getattr(error, "characters_written", 0)
+            self._taken = [getattr(error, "characters_written", 0)]
+        self._count()
+
+    def _count(self) -> None:
+        """Counts what the output took, if it isn't counted yet."""
+        if not self._taken:
+            return
+        # The first time it is given all.
+        most = len(self._rest) if self._is_put else min(len(self._rest), _PIECE)
+        taken = self._taken[0]
         if taken is None:
             # What a raw file says if it is full, and what some other outputs always say.
-            taken = 0 if isinstance(self._file, io.RawIOBase) else len(units)
-        if not 0 <= taken <= len(units):
-            raise ValueError(f"the output took {taken} of {len(units)} bytes")
-        return int(taken)
+            taken = 0 if isinstance(self._file, io.RawIOBase) else most
+        if not 0 <= taken <= most:
+            self._taken = []
+            raise ValueError(f"the output took {taken} of {most} bytes")
+        # Without a call, so all of it or nothing.
+        self._rest, self._taken = self._rest[taken:], []
+        self._is_put, self._is_begun = self._is_put and not taken, self._is_begun or taken > 0
 
     def _opened(self) -> Any:
         """The file, if no capture reads it; one at a path is empty now."""
@@ -253,11 +281,14 @@ def _opened(target: Path) -> Any:
     """A file that is empty now; WriteError if a capture reads it."""
     descriptor = os.open(target, os.O_WRONLY | os.O_CREAT | os.O_CLOEXEC, 0o666)
     file = open(descriptor, "wb")
-    if is_being_read(descriptor):
+    try:
+        if is_being_read(descriptor):
+            raise _is_read(target)
+        if stat.S_ISREG(os.fstat(descriptor).st_mode):
+            file.truncate(0)
+    except BaseException:
         file.close()
-        raise _is_read(target)
-    if stat.S_ISREG(os.fstat(descriptor).st_mode):
-        file.truncate(0)
+        raise
     return file
 
 

@@ -1,3 +1,4 @@
+-- The programs so far and the next one are right, and haven't run.
 use Rattle.cap_filter.proofs.Common.{◌≡◌, ◌++◌, ◌∷◌, [], All, List, sym, subst, take_more, Content, Link, Ether, AreMade}
 use Rattle.cap_filter.proofs.Filters.{fresh-put, made-put}
 use Rattle.cap_filter.proofs.compiled.make_programs.Goals as goal

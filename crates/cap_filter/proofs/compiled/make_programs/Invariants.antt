@@ -1,3 +1,4 @@
+-- Each link type so far has a right program, which hasn't run.
 use Rattle.cap_filter.proofs.Common.{◌≡◌, All, take, Content, AreMade}
 use Rattle.cap_filter.proofs.compiled.make_programs.Given as goal
 

@@ -1,3 +1,4 @@
+-- The program at a place runs as the machine does, and the others don't change.
 use Rattle.cap_filter.proofs.Common.{◌≡◌, subst, get_or_default, captured, Content, Answered, met_on}
 use Rattle.cap_filter.proofs.Filters.{set-ran}
 use Rattle.cap_filter.proofs.compiled.run_at.Goals as goal

@@ -1,3 +1,5 @@
+-- A text is an expression if it has a tree and the tree passes the checks; otherwise one of the two
+-- refuses it.
 use Rattle.cap_filter.proofs.Expressions.{expression-ok, expression-refused}
 use Rattle.cap_filter.proofs.expression.read_expression.Goals as goal
 

@@ -1,3 +1,4 @@
+-- If every input was read, the earliest waiting packet is next, or the end.
 use Rattle.std.proofs.Common.{inl, inr}
 use Rattle.cap_inputs.proofs.Leasts.{first-least, empty-none}
 use Rattle.cap_inputs.proofs.inputs.next_by_time.Goals as goal

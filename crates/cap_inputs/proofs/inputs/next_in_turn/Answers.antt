@@ -1,3 +1,4 @@
+-- The current input is decided if a packet waits, else read.
 use Rattle.std.proofs.{Common.refl, Common.sym, Common.ap, Common.◌∙◌, lemmas.Option.slice_get_read}
 use Rattle.std.specs.Option.{option_map}
 use Rattle.cap_inputs.proofs.Common.{InputView, length, Some}

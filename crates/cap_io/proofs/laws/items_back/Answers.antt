@@ -1,3 +1,4 @@
+-- The law is a lemma on reading back what is written.
 use Rattle.cap_octet.specs.declared.format.Format.TheVariants.{Pcap, NsecPcap, Pcapng}
 use Rattle.cap_io.specs.RoundTrip.{ItemsBack}
 use Rattle.cap_io.proofs.{PcapBack.pcap-back, PcapBack.nanoseconds-back, PcapngBack.pcapng-back}

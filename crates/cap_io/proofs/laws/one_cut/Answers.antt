@@ -1,3 +1,4 @@
+-- The law is a lemma on dividing a file into units.
 use Rattle.cap_io.proofs.Cuts.{has_cut, one_cut, cut_tells}
 use Rattle.cap_io.proofs.laws.one_cut.Goals as goal
 

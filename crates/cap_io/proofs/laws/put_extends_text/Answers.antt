@@ -1,3 +1,4 @@
+-- The law is a lemma on written texts.
 use Rattle.cap_io.proofs.Texts.{by-packets, HasPackets-put}
 use Rattle.cap_io.proofs.laws.put_extends_text.Goals as goal
 

@@ -1,3 +1,4 @@
+-- The header that is read is that of the file, or the first check that fails is reported.
 use Rattle.std.proofs.Common.{rules, refl, sym, ap, ◌∙◌, is_some, not}
 use Rattle.std.proofs.lemmas.Result.{err_from_is_err_and}
 use Rattle.cap_io.proofs.Came.{first_of, no_magic, none_if_not, rest_of_header, joined_front, header-has_memory, header_came, header_refused, section_of_bytes}

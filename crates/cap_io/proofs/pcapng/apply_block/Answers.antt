@@ -1,3 +1,4 @@
+-- A block changes the section as its type says, or is refused.
 use Rattle.cap_io.proofs.Common.{inl, refl, err_from_is_err_and}
 use Rattle.cap_io.proofs.OwnFaults.{adds-one}
 use Rattle.cap_io.proofs.pcapng.apply_block.Goals as goal

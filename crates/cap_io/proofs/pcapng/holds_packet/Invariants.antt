@@ -1,3 +1,4 @@
+-- The blocks so far are complete and have no packet.
 use Rattle.std.proofs.Common.{◌≤◌, length}
 use Rattle.cap_io.proofs.pcapng.holds_packet.Given as goal
 

@@ -1,3 +1,4 @@
+-- The bytes that are read follow those at hand, which don't change.
 use Rattle.std.proofs.Common.{rules, ◌≡◌, ◌-◌, ◌≤◌, ◌∙◌, ℕ, List, ◌++◌, length, take, drop, ap, sym, arith, length-append, length-drop, take-append-drop}
 use Rattle.std.proofs.lemmas.List.{append-nil, drop_all, drop_at, length-take-le, take-append-le}
 use Rattle.std.proofs.lemmas.Slice.{overwrites, take-put_mid}

@@ -1,3 +1,4 @@
+-- A pcap file begins with its header.
 use Rattle.cap_io.proofs.Common.{rules, ◌≡◌, ℕ, List, [], ◌++◌, ◌∙◌, append-nil, file_start}
 use Rattle.cap_io.proofs.Parts.{appends-as, is-pcap, pcap-file_header}
 use Rattle.cap_io.proofs.writing.begin_file.Goals as goal

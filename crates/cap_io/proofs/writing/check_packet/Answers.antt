@@ -1,3 +1,4 @@
+-- A packet is refused for the first check that it fails.
 use Rattle.std.proofs.{Common.arith, lemmas.Grind.common_steps}
 use Rattle.cap_io.proofs.writing.check_packet.Goals as goal
 

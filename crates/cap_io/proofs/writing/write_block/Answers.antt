@@ -1,3 +1,4 @@
+-- File start, interface and packet are written in this order, or a prefix of them.
 use Rattle.cap_io.proofs.Common.{Ok, Err, err_from_is_err_and, captured, Appends, description_text}
 use Rattle.cap_io.proofs.Parts.{appends-exactly, appends-nothing, appends-stopped, appends-then}
 use Rattle.cap_io.proofs.writing.write_block.Goals.{then-interface+in_ok-map_err, else-interface}

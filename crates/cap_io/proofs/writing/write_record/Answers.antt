@@ -1,3 +1,4 @@
+-- File start and record are written in this order, or a prefix of them.
 use Rattle.cap_io.proofs.Common.{◌≡◌, ℕ, List, [], ◌++◌, ap, ◌∙◌, append-nil, err_from_is_err_and, captured, record_text}
 use Rattle.cap_io.proofs.Parts.{appends-as, appends-stopped, appends-then}
 use Rattle.cap_pcap.specs.Encoding.{resolution_of}

@@ -1,3 +1,4 @@
+-- jiff's date for a day number is the date that counting the days gives.
 use Rattle.cap_octet.proofs.Common.{arith, rules, refl, ◌≡◌, ◌∙◌, pos, FitsSigned, w16, w64, of_z, to_z, to_z-of_z, epoch_day, signed_arith}
 use Rattle.cap_octet.proofs.Days.{counted_date}
 use Rattle.cap_octet.proofs.calendar.calendar_day.Goals as goal

@@ -1,3 +1,4 @@
+-- The copied parts, in their order, are the date's text.
 use Rattle.std.proofs.Common.{refl}
 use Rattle.cap_octet.specs.Date.{second_text}
 use Rattle.cap_octet.proofs.Dates.{date_text_split}

@@ -1,3 +1,4 @@
+-- The table's pair of bytes is the number in two digits.
 use Rattle.std.proofs.Common.{◌≡◌, ◌/◌, ◌%◌, refl, arith}
 use Rattle.cap_octet.proofs.Dates.{pair_at}
 use Rattle.cap_octet.proofs.date.two_digits.Goals as goal

@@ -1,3 +1,4 @@
+-- The bytes so far and those of one more read are the bytes of one longer read.
 use Rattle.std.proofs.Common.{rules, ◌∙◌, arith}
 use Rattle.cap_octet.proofs.Reading.{Takes-following, Takes-nothing, told-again}
 use Rattle.cap_octet.proofs.device.read_full.Goals as goal

@@ -1,3 +1,4 @@
+-- The first `count` bytes of the buffer are read, as if by one read.
 use Rattle.std.proofs.Common.{length, ◌-◌, ◌≡◌, ◌+◌, ◌^◌, ◌<◌, ◌≤◌, IsTrue}
 use Rattle.cap_octet.specs.Device.{Takes}
 use Rattle.cap_octet.proofs.device.read_full.Given as goal

@@ -1,3 +1,5 @@
+-- If a part fails, all parts before it and a prefix of it are written, and the count says how many
+-- bytes.
 use Rattle.std.proofs.{Common.[], Common.ℕ, Common.List, Common.arith, lemmas.List.Folds.length-flat_map-take}
 use Rattle.std.specs.Borrow.{Bor}
 use Rattle.cap_octet.proofs.Writing.{parts-stop-at}

@@ -1,3 +1,4 @@
+-- The parts so far are written, and `before` is their length.
 use Rattle.std.proofs.Common.{◌≡◌, ◌++◌, length, take, IsTrue}
 use Rattle.std.specs.List.{flat_map}
 use Rattle.cap_octet.proofs.device.write_all_parts.Given as goal

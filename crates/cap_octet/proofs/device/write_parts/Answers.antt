@@ -1,3 +1,4 @@
+-- If a part fails, all parts before it and a prefix of it are written.
 use Rattle.std.proofs.Common.{[], ℕ, List}
 use Rattle.std.specs.Borrow.{Bor}
 use Rattle.cap_octet.proofs.Writing.{parts-stop}

@@ -1,3 +1,4 @@
+-- The parts so far are written.
 use Rattle.std.proofs.Common.{◌≡◌, ◌++◌, take, IsTrue}
 use Rattle.std.specs.List.{flat_map}
 use Rattle.cap_octet.proofs.device.write_parts.Given as goal

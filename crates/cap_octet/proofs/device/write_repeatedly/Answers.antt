@@ -1,3 +1,4 @@
+-- The bytes so far and those of one more write are a prefix of all bytes.
 use Rattle.std.proofs.{Common.rules, Common.ℕ, Common.◌∙◌, Common.arith, lemmas.List.length-take}
 use Rattle.cap_octet.proofs.Reading.{written-again}
 use Rattle.cap_octet.proofs.device.write_repeatedly.Goals as goal

@@ -1,3 +1,4 @@
+-- The first `written` bytes are written.
 use Rattle.std.proofs.Common.{length, ◌-◌, ◌≡◌, ◌≤◌, ◌++◌, take, IsTrue}
 use Rattle.cap_octet.proofs.device.write_repeatedly.Given as goal
 

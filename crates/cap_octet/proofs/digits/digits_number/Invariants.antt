@@ -1,4 +1,4 @@
--- The number so far, followed by the digits that are left, is the whole.
+-- The number so far, followed by the remaining digits, is the whole number.
 use Rattle.std.proofs.Common.{◌≡◌, drop}
 use Rattle.std.specs.Str.Parse.{digits_value, digits_value_after}
 use Rattle.cap_octet.proofs.digits.digits_number.Given as goal

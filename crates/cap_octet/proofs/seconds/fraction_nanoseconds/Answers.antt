@@ -1,3 +1,4 @@
+-- Up to nine digits of a fraction, filled with zeros, are its nanoseconds.
 use Rattle.std.proofs.Common.{◌≡◌, ◌∙◌, sym, arith, Some, None}
 use Rattle.cap_octet.specs.Digits.{decimal_value}
 use Rattle.cap_octet.proofs.{Numerals.few_in_u64, Spans.part_below, Spans.part_none}

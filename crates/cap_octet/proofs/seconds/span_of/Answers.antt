@@ -1,3 +1,4 @@
+-- The parts before and after the point make up the duration, and without a point the fraction is 0.
 use Rattle.cap_octet.proofs.Common.{◌≡◌, ◌∙◌, sym, Some, None, ◌==◌, ◌+◌, take, drop, position, take_rest, decimal_value, fraction_nanoseconds}
 use Rattle.cap_octet.proofs.Spans.{duration_of_parts_in_u64}
 use Rattle.cap_octet.specs.Seconds.{duration_value}

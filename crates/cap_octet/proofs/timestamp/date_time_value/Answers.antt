@@ -1,3 +1,4 @@
+-- The value of a date with a time is made of the numbers at their fixed places.
 use Rattle.std.proofs.Common.{◌≡◌, ◌-◌, length, arith, refl}
 use Rattle.cap_octet.specs.Timestamp.{date_time_value}
 use Rattle.cap_octet.proofs.timestamp.date_time_value.Goals as goal

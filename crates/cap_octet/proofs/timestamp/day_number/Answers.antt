@@ -1,3 +1,4 @@
+-- A date from 1970 on has a day number, by the lemma on jiff's numbers.
 use Rattle.cap_octet.proofs.Common.{◌≡◌, ◌≤◌, ◌∙◌, sym, ap, arith, pos, to_z, w16, ℕ, Some, to_z_pos, IsCivilDate, days_in_month, signed_arith}
 use Rattle.cap_octet.proofs.Days.{days_since, day_there}
 use Rattle.cap_octet.proofs.timestamp.day_number.Goals as goal

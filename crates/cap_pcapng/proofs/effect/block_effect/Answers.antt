@@ -1,3 +1,4 @@
+-- A block has the effect of its type, or fails the first of its checks.
 use Rattle.cap_pcapng.proofs.Common.{◌∙◌, sym, ap, subst, Fault, Parts, parts_of, IsBlockFault, LieAsSaid}
 use Rattle.cap_pcapng.proofs.Entered.{enhanced_enters, enhanced_room, refused_by_itself, simple_enters}
 use Rattle.cap_pcapng.proofs.effect.block_effect.Goals as goal

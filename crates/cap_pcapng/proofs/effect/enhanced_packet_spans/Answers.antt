@@ -1,3 +1,4 @@
+-- The packet lies within its block, and is that of the definitions.
 use Rattle.std.proofs.Common.{◌∙◌, ℕ, length, refl, sym, ap, arith, length-drop}
 use Rattle.cap_pcapng.specs.Interface.{description_of}
 use Rattle.cap_pcapng.proofs.Entered.{enhanced_found, known_interface}

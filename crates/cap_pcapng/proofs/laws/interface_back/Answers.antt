@@ -1,3 +1,4 @@
+-- The law is a lemma on written blocks.
 use Rattle.cap_pcapng.proofs.WrittenBack.{interface_back}
 use Rattle.cap_pcapng.proofs.laws.interface_back.Goals as goal
 

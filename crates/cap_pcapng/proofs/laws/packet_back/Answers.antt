@@ -1,3 +1,4 @@
+-- The law is a lemma on written blocks.
 use Rattle.cap_pcapng.proofs.WrittenBack.{packet_back}
 use Rattle.cap_pcapng.proofs.laws.packet_back.Goals as goal
 

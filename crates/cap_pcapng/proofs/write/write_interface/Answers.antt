@@ -1,3 +1,4 @@
+-- The parts, joined, are the interface block.
 use Rattle.cap_pcapng.proofs.Common.{◌≡◌, ◌++◌, ◌-◌, List, ℕ, take, drop, replicate, subst, sym, ◌∙◌, WritesExactly, name_text}
 use Rattle.cap_pcapng.proofs.WrittenBlocks.{interface_joined, named, unnamed}
 use Rattle.cap_pcapng.proofs.write.write_interface.Goals.{then-is_empty, else-is_empty}

@@ -1,3 +1,4 @@
+-- The parts, joined, are the packet's block, with a comment or without.
 use Rattle.cap_pcapng.proofs.Common.{◌+◌, List, ℕ, sym, subst, ◌∙◌, arith, WritesExactly, Captured, captured}
 use Rattle.cap_pcapng.proofs.WrittenBlocks.{packet_joined, plain_joined, comment_after}
 use Rattle.cap_pcapng.proofs.write.write_packet.Goals as goal

@@ -1,3 +1,4 @@
+-- Four numbers with points between them are the address.
 use Rattle.std.proofs.Common.{append_assoc}
 use Rattle.cap_print.specs.Addresses.{ipv4_text}
 use Rattle.cap_print.proofs.address.push_ipv4.Goals as goal

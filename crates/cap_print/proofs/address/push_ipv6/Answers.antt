@@ -1,3 +1,4 @@
+-- Each turn appends a colon and a group; after seven of them the address is complete.
 use Rattle.std.proofs.Common.{◌≡◌, [], ◌∷◌, length, ap, refl, add-one, append_assoc, length-append, arith}
 use Rattle.cap_print.specs.Addresses.{ipv6_text}
 use Rattle.cap_print.proofs.address.push_ipv6.Goals as goal

@@ -1,4 +1,4 @@
--- What is appended so far.
+-- The text has the groups so far.
 use Rattle.std.proofs.Common.{◌≡◌, ◌+◌, ◌*◌, ◌≤◌, ◌++◌, length}
 use Rattle.cap_print.specs.Addresses.{groups}
 use Rattle.cap_print.proofs.address.push_ipv6.Given as goal

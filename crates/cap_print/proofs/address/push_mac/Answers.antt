@@ -1,3 +1,4 @@
+-- Each turn appends a colon and a byte; after five of them the address is complete.
 use Rattle.std.proofs.Common.{◌≡◌, [], ◌∷◌, length, ap, refl, add-one, append_assoc, length-append, arith}
 use Rattle.cap_print.specs.Addresses.{mac_text}
 use Rattle.cap_print.proofs.address.push_mac.Goals as goal

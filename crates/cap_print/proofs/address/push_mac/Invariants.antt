@@ -1,4 +1,4 @@
--- What is appended so far.
+-- The text has the bytes so far.
 use Rattle.std.proofs.Common.{◌≡◌, ◌+◌, ◌*◌, ◌++◌, length}
 use Rattle.cap_print.specs.Addresses.{bytes_with_colons}
 use Rattle.cap_print.proofs.address.push_mac.Given as goal

@@ -1,4 +1,4 @@
--- What is appended so far, and what the bytes that are left will append.
+-- What is appended so far, followed by the pairs of the remaining bytes, is the whole row.
 use Rattle.std.proofs.Common.{◌≡◌, ◌+◌, ◌-◌, ◌*◌, ◌≤◌, ◌++◌, length, drop}
 use Rattle.cap_print.specs.Dump.{pairs}
 use Rattle.cap_print.proofs.dump.push_pairs.Given as goal

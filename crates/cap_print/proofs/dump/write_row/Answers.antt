@@ -1,3 +1,4 @@
+-- Place, colon and pairs of at most 16 bytes make up the row, which fits the text.
 use Rattle.std.proofs.Common.{◌≡◌, ◌*◌, ℕ, List, [], ◌∷◌, ◌++◌, length, take, drop, min, ap, arith, append_assoc, length-append}
 use Rattle.std.proofs.lemmas.{Grind.common_steps, List.length-take, List.take_rest}
 use Rattle.cap_print.specs.{Dump.pairs, Dump.row, Hexadecimal.hex_place}

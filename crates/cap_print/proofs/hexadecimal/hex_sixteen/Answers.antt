@@ -1,3 +1,4 @@
+-- Sixteen digits are twice eight.
 use Rattle.std.proofs.Common.{refl}
 use Rattle.cap_print.specs.Hexadecimal.{hex_four, hex_eight, hex_sixteen}
 use Rattle.cap_print.proofs.hexadecimal.hex_sixteen.Goals as goal

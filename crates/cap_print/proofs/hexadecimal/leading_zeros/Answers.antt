@@ -1,3 +1,4 @@
+-- The search stops at the first digit that isn't zero, or at `most`.
 use Rattle.std.proofs.Common.{◌∙◌, arith}
 use Rattle.cap_print.proofs.Digits.{zeros-more, zeros-end}
 use Rattle.cap_print.proofs.hexadecimal.leading_zeros.Goals as goal

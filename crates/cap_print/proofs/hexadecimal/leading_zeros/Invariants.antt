@@ -1,4 +1,4 @@
--- What is left after the zeros so far.
+-- All digits so far are zeros.
 use Rattle.std.proofs.Common.{◌≡◌, ◌-◌, drop}
 use Rattle.cap_print.specs.Hexadecimal.{without_zeros}
 use Rattle.cap_print.proofs.hexadecimal.leading_zeros.Given as goal

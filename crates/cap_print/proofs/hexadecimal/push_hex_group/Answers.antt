@@ -1,3 +1,4 @@
+-- Each range of numbers has its count of digits.
 use Rattle.std.proofs.Common.{refl, arith}
 use Rattle.cap_print.specs.Hexadecimal.{hex_four}
 use Rattle.cap_print.proofs.Digits.{group_of_one, group_of_two, group_of_three, group_of_four}

@@ -1,3 +1,5 @@
+-- The line and, if they are asked for, the rows are written, or a prefix of them if the device
+-- fails.
 use Rattle.std.proofs.Common.{◌∙◌}
 use Rattle.cap_print.proofs.Printing.{appends-following, printed-alone, printed-with_rows, stops-in_line}
 use Rattle.cap_print.proofs.print.print_packet.Goals as goal

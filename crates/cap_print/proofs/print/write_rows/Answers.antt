@@ -1,3 +1,4 @@
+-- If a row fails, the rows before it and a prefix of it are written.
 use Rattle.std.proofs.Common.{◌∙◌}
 use Rattle.cap_octet.proofs.Writing.{stops-part}
 use Rattle.cap_print.proofs.Printing.{rows-among}

@@ -1,3 +1,4 @@
+-- A packet is kept if the window doesn't have its mark.
 use Rattle.cap_process.proofs.Common.{Option, None, not, Ok, subst, sym, Captured, captured, WindowView, unique, marks_in, state_of, IsWindowFor}
 use Rattle.cap_process.proofs.Common.{ReturnsVerdict}
 use Rattle.cap_process.proofs.Selectors.{unique-keeps}

@@ -1,3 +1,4 @@
+-- The law follows from reading back what is written.
 use Rattle.cap_process.proofs.Wholes.{copy_ends, edit_keeps}
 use Rattle.cap_process.proofs.law.edit_keeps_what_is_carried.Goals as goal
 

@@ -1,3 +1,4 @@
+-- The law's two parts are lemmas of Wholes.
 use Rattle.cap_process.proofs.Wholes.{edit_ends, edit_writes}
 use Rattle.cap_process.proofs.law.edit_writes_unique.Goals as goal
 

@@ -1,3 +1,4 @@
+-- The law is a lemma of Wholes.
 use Rattle.cap_process.proofs.Wholes.{print_lines}
 use Rattle.cap_process.proofs.law.print_has_their_lines.Goals as goal
 

@@ -1,3 +1,4 @@
+-- The newest mark goes on top of its tree, and each mark that it displaces moves one level down.
 use Rattle.cap_process.proofs.Common.{◌≡◌, ◌==◌, ◌∙◌, ℕ, zero, suc, true, false, ◌-◌, ◌<◌, sym, ap, refl, arith, length, not, length-set, get_or_from_slice_get}
 use Rattle.cap_process.proofs.Common.{option_copied, mark_bit, links_at, mark_at}
 use Rattle.cap_process.proofs.Trees.{after_links, placing_end, placing_equal, placing_next, step_at}

@@ -1,4 +1,4 @@
--- The mark at `place` takes the place of one `step` places before it.
+-- The mark at `place` is about to displace the one `step` places before it.
 use Rattle.cap_process.proofs.Common.{◌≡◌, ℕ, ◌+◌, ◌-◌, ◌<◌, length, IsHung}
 use Rattle.cap_process.proofs.Trees.{IsPlacing}
 use Rattle.cap_process.proofs.links.place_newest.Given as goal

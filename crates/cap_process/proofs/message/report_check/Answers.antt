@@ -1,3 +1,4 @@
+-- The message on a refused program has the rule, and the instruction's number if it has one.
 use Rattle.cap_process.proofs.Common.{List, ℕ, sym, ◌∙◌, subst}
 use Rattle.cap_process.proofs.Lines.{check-indexed, check-whole}
 use Rattle.cap_octet.specs.Device.{AppendsOrStops}

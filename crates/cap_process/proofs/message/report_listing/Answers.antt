@@ -1,3 +1,4 @@
+-- The message on a refused listing has the reason, and the line's number if it has one.
 use Rattle.cap_process.proofs.Common.{List, ℕ, sym, ◌∙◌, subst}
 use Rattle.cap_process.proofs.Lines.{listing-lined, listing-whole}
 use Rattle.cap_octet.specs.Device.{AppendsOrStops}

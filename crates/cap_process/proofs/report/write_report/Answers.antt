@@ -1,3 +1,5 @@
+-- Name, sizes and times, one after the other, are the report, or a prefix of it if the device
+-- fails.
 use Rattle.cap_process.proofs.{Common.appends-following, Lines.report-joined, Lines.stops-following}
 use Rattle.std.proofs.lemmas.Result.{err_from_is_err_and}
 use Rattle.cap_io.proofs.Parts.{stops-front}

@@ -1,3 +1,4 @@
+-- The parts that are written are the report's lines of sizes.
 use Rattle.cap_process.proofs.Common.{refl, appends-as}
 use Rattle.cap_process.proofs.report.write_sizes.Goals as goal
 

@@ -1,3 +1,4 @@
+-- The parts that are written are the report's lines of times.
 use Rattle.cap_process.proofs.Common.{refl, append_assoc, appends-as}
 use Rattle.cap_process.proofs.report.write_times.Goals as goal
 

@@ -1,3 +1,4 @@
+-- The numbers so far are lowered, and the others unchanged.
 use Rattle.std.proofs.Common.{◌≡◌, ℕ, ◌-◌, ◌<◌, ◌≤◌, get_or}
 use Rattle.cap_process.proofs.window.subtract_from_all.Given as goal
 

@@ -1,3 +1,4 @@
+-- The name is the one at the index, or empty.
 use Rattle.cap_tools.proofs.Common.{◌≡◌, ◌∙◌, ℕ, List, [], map, Option, None, Some, String, string_bytes, refl, sym, ap, slice_get-map, slice_get_past}
 use Rattle.cap_tools.proofs.Common.{slice_get_read, slice_get, option_map, unwrap_or, name_at}
 use Rattle.cap_tools.proofs.messages.name_of.Goals as goal

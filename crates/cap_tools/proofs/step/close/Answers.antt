@@ -1,3 +1,4 @@
+-- Closing an input reports on it if the job counts, and changes nothing else.
 use Rattle.cap_tools.proofs.Coming.{get-input}
 use Rattle.cap_tools.proofs.Common.{◌≡◌, ℕ, List, Option, true, sym, ◌∙◌, ap₂, subst, is_in_turn, Reports, Tally, file_report, is_count, TakesTally}
 use Rattle.cap_tools.proofs.Common.{policy_state}

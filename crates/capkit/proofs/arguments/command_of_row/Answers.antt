@@ -1,3 +1,4 @@
+-- The rows of a table, added one by one, give the subcommand with all its arguments.
 use Rattle.capkit.proofs.Common.{◌≡◌, ◌∙◌, ap, map, app_of_fields, App, app_of, new_app, rules, with_rule, with_rules, rule_by}
 use Rattle.capkit.proofs.Folds.{no_more, one_more, stays}
 use Rattle.capkit.proofs.arguments.command_of_row.Goals as goal

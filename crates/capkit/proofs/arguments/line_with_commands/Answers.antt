@@ -1,3 +1,4 @@
+-- The subcommands, added one by one, give the whole command line.
 use Rattle.capkit.proofs.Common.{◌∙◌, ap, map, App, with_subcommand, with_shapes, shape_by}
 use Rattle.capkit.proofs.Folds.{no_more, one_more}
 use Rattle.capkit.proofs.arguments.line_with_commands.Goals as goal

@@ -1,7 +1,7 @@
+-- Adding the remaining subcommands gives the same line as adding all of them.
 use Rattle.capkit.proofs.Common.{◌≡◌, drop, map, app_of, line_without_commands, with_shapes, shape_by}
 use Rattle.capkit.proofs.arguments.line_with_commands.Given as goal
 
--- with the subcommands that are left, the command is what all of them make of the bare line
 abbrev pub invariant-loop-row : goal.invariant-loop-row
 invariant-loop-row l =
     with_shapes (app_of l.command) (map (shape_by l.choices) (drop l.row-index l.rows))

@@ -1,3 +1,4 @@
+-- The calls of clap's builder, one after the other, give the line without subcommands.
 use Rattle.capkit.proofs.Common.{◌≡◌, ◌∙◌, ap, codes, true, IfOk-weaker, app_of_fields, App, app_of, new_app, line_without_commands}
 use Rattle.capkit.proofs.arguments.line_without_commands.Goals as goal
 

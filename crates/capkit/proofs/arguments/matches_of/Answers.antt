@@ -1,3 +1,4 @@
+-- The words are accepted or refused as the rules of the command line say.
 use Rattle.capkit.proofs.Parses.{no_memory, refuses_words, takes_words}
 use Rattle.capkit.proofs.arguments.matches_of.Goals as goal
 

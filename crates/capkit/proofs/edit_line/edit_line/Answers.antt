@@ -1,3 +1,4 @@
+-- The line of an edit has the options, ranges and names of the words, and may be run.
 use Rattle.capkit.proofs.Common.{◌∙◌, ◌∷◌, [], ap, refl, map, Some, and_from, eq-eqb, range_of}
 use Rattle.capkit.proofs.edit_line.edit_line.Goals as goal
 

@@ -1,3 +1,4 @@
+-- Each option of the edit is the value of its word, within its bounds.
 use Rattle.capkit.proofs.Common.{◌∙◌, ap, unwrap_or, and_from, most_32}
 use Rattle.capkit.proofs.OptionValues.{one_or_more, proper_window}
 use Rattle.capkit.proofs.edit_line.edit_of.Goals as goal

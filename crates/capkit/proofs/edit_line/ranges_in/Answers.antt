@@ -1,3 +1,4 @@
+-- The ranges are those of the words; too many words, or a word that isn't a range, are refused.
 use Rattle.capkit.proofs.Common.{arith, ◌∙◌, ap, sym, inl, inr, map, refl, common_steps, take_all, err_from_is_err_and, range_of}
 use Rattle.capkit.proofs.RangeWords.{bad_range, no_range_fault, proper_ranges, too_many}
 use Rattle.capkit.proofs.edit_line.ranges_in.Goals as goal

@@ -1,3 +1,4 @@
+-- The words so far are ranges, which are read.
 use Rattle.std.proofs.Common.{◌≡◌, Some, map, take}
 use Rattle.capkit.specs.Range.{range_of}
 use Rattle.capkit.proofs.edit_line.ranges_in.Given as goal

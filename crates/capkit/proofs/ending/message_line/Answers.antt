@@ -1,3 +1,4 @@
+-- A message in UTF-8 is converted without an error.
 use Rattle.capkit.proofs.ending.message_line.Goals as goal
 
 pub returns-in-Err-clause-whole : goal.returns-in-Err-clause-whole

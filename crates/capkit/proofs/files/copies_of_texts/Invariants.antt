@@ -1,3 +1,4 @@
+-- The names so far are copied.
 use Rattle.std.proofs.Common.{◌≡◌, ◌∷◌, map, string_bytes, take}
 use Rattle.capkit.proofs.files.copies_of_texts.Given as goal
 

@@ -1,3 +1,4 @@
+-- The words ask for the subcommand that clap found, and the line or fault is that subcommand's.
 use Rattle.capkit.proofs.Common.{◌≡◌, sym, map, string_bytes, subst, List, String, Global, found_of, rows_of, subcommand_rows_of, ArgMatches, TakesWords, Asks}
 use Rattle.capkit.proofs.{Enters.always_enters, Enters.asks_of, Saying.says_fault, Saying.says_line}
 use Rattle.capkit.proofs.line.command_of.Goals as goal

@@ -1,3 +1,4 @@
+-- A line of `compile` has no fault but lack of memory.
 use Rattle.clap.specs.Words.{found_of, rows_of}
 use Rattle.capkit.proofs.Saying.{compile_faultless, memory_alone}
 use Rattle.capkit.proofs.line.line_of_matches.Goals as goal

@@ -1,3 +1,4 @@
+-- The line of a report has the names of the words, and may be run.
 use Rattle.std.proofs.{Common.refl, lemmas.Bool.and_from}
 use Rattle.capkit.proofs.merge_line.infos_line.Goals as goal
 

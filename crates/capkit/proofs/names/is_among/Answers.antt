@@ -1,3 +1,4 @@
+-- A name is among others if one of them has the same bytes.
 use Rattle.capkit.proofs.Common.{◌∙◌, bytes_eq, list_any-map}
 use Rattle.capkit.proofs.names.is_among.Goals as goal
 

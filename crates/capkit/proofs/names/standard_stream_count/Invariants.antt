@@ -1,3 +1,4 @@
+-- The standard streams among the names so far are counted.
 use Rattle.std.proofs.Common.{◌≡◌, ◌≤◌, take}
 use Rattle.std.specs.Prelude.{count_by}
 use Rattle.capkit.specs.Names.{is_standard}

@@ -1,3 +1,4 @@
+-- The inputs so far are open.
 use Rattle.std.proofs.Common.{◌≡◌, vec_len}
 use Rattle.capkit.proofs.opening.open_inputs.Given as goal
 

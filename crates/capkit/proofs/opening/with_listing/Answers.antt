@@ -1,3 +1,4 @@
+-- With its listing the command may be run.
 use Rattle.capkit.proofs.Listings.{listed}
 use Rattle.capkit.proofs.opening.with_listing.Goals as goal
 

@@ -1,3 +1,4 @@
+-- The expression is the words joined by blanks.
 use Rattle.std.proofs.{Common.◌∙◌, Common.ap, Common.codes, Common.List, Common.ℕ, lemmas.Result.IfOk-weaker}
 use Rattle.std.specs.List.{join_by}
 use Rattle.capkit.proofs.PrintReady.{joined}

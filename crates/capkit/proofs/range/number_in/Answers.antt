@@ -1,3 +1,4 @@
+-- A number is read if and only if the word is one and fits 64 bits.
 use Rattle.capkit.proofs.Numbers.{is_read}
 use Rattle.capkit.proofs.range.number_in.Goals as goal
 

@@ -1,3 +1,4 @@
+-- A range is read if and only if the word writes one.
 use Rattle.std.proofs.Common.{◌≡◌, rules, Some, None}
 use Rattle.capkit.specs.Range.{range_of}
 use Rattle.capkit.proofs.WrittenRanges.{none_in, none_written, read_is_written}

@@ -1,3 +1,4 @@
+-- A flag is set if clap found the text `true`.
 use Rattle.capkit.proofs.Common.{◌∙◌, ap, false, codes, option_map_or, bytes_eq, found_of, one_text, one_text-rows}
 use Rattle.capkit.proofs.Getters.{flag_read}
 use Rattle.capkit.proofs.values.flag.Goals as goal

@@ -1,3 +1,4 @@
+-- A number is the text that clap found, if it is within its bounds.
 use Rattle.capkit.proofs.Common.{◌∙◌, ap, option_and_then, ExplainsUnsignedError, HasUnsignedDigitsIfOk, ParsesUnsigned, found_of, one_text, one_text-rows}
 use Rattle.capkit.proofs.Common.{number_between}
 use Rattle.capkit.proofs.OptionValues.{number_read}

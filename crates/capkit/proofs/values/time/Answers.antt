@@ -1,3 +1,4 @@
+-- A time fits the times.
 use Rattle.capkit.proofs.Common.{◌∙◌, ap, true, option_map_or, is_time}
 use Rattle.capkit.proofs.OptionValues.{proper_time}
 use Rattle.capkit.proofs.values.time.Goals as goal

@@ -1,3 +1,4 @@
+-- The line is that of the words, and may be run.
 use Rattle.std.proofs.Common.{subst}
 use Rattle.capkit.specs.Line.{SaysLine}
 use Rattle.capkit.proofs.words.line_of_words.Goals as goal

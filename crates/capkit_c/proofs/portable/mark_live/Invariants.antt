@@ -1,3 +1,4 @@
+-- The marks from `place` on are those of the code from there on.
 use Rattle.std.proofs.Common.{◌≡◌, ◌≤◌, drop, length}
 use Rattle.capkit_c.specs.Portable.{live_places}
 use Rattle.capkit_c.proofs.portable.mark_live.Given as goal

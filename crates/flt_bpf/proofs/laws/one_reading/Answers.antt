@@ -1,4 +1,4 @@
--- A listing is refused nowhere.
+-- A listing isn't refused.
 use Rattle.flt_bpf.proofs.Wrong.{listing_not_refused}
 use Rattle.flt_bpf.proofs.laws.one_reading.Goals as goal
 

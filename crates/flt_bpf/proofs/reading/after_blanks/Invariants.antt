@@ -1,4 +1,4 @@
--- Only blanks so far, which are passed over.
+-- All bytes so far are blanks.
 use Rattle.flt_bpf.proofs.Common.{◌≡◌, drop, ◌==◌, slice_split, later_numbers}
 use Rattle.flt_bpf.proofs.reading.after_blanks.Given as goal
 

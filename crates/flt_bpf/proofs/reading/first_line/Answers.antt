@@ -1,4 +1,4 @@
--- The piece up to the first line feed is the first line.
+-- The piece before the first line feed is the first line.
 use Rattle.flt_bpf.proofs.Common.{◌∙◌, ap, ◌∷◌, pieces_after, LINE_FEED}
 use Rattle.flt_bpf.proofs.LineByLine.{line_more}
 use Rattle.flt_bpf.proofs.reading.first_line.Goals as goal

@@ -1,4 +1,4 @@
--- The piece up to the first blank is the first number.
+-- The piece before the first blank is the first number.
 use Rattle.flt_bpf.proofs.Common.{◌∙◌, ap, sym, ◌∷◌, pieces_after, BLANK}
 use Rattle.flt_bpf.proofs.Lines.{number_first}
 use Rattle.flt_bpf.proofs.reading.first_number.Goals as goal

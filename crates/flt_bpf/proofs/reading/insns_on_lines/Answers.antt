@@ -1,4 +1,4 @@
--- The instructions so far, and then those of the other lines, are those of all.
+-- The instructions so far, followed by those of the other lines, are all instructions.
 use Rattle.flt_bpf.proofs.Common.{◌∙◌, sym, arith, rules, subst}
 use Rattle.flt_bpf.proofs.LineByLine.{ReadTo, read_all, read_beyond, read_missing, read_more, read_none, read_wrong}
 use Rattle.flt_bpf.proofs.reading.insns_on_lines.Goals as goal

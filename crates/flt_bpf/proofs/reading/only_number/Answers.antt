@@ -1,4 +1,4 @@
--- A line with a blank is not one number.
+-- A line with a blank isn't a single number.
 use Rattle.flt_bpf.proofs.Common.{◌∙◌, ap, sym, ◌∷◌, pieces_after, BLANK}
 use Rattle.flt_bpf.proofs.Lines.{blank_not_only}
 use Rattle.flt_bpf.proofs.reading.only_number.Goals as goal

@@ -1,4 +1,4 @@
--- What is read of a text is what its lines say.
+-- The instructions that are read are those that the lines write.
 use Rattle.flt_bpf.proofs.Common.{◌≡◌, ◌∙◌, sym, arith}
 use Rattle.flt_bpf.proofs.{Readings.insns_listing, Readings.only_number_is, Wrong.fault_reason, Wrong.no_count}
 use Rattle.flt_bpf.proofs.reading.read_listing.Goals.{in_default-via-in-Some+else-count, in_default-via-in_default}

@@ -1,4 +1,4 @@
--- The byte was not met so far.
+-- No byte so far is the one that is searched for.
 use Rattle.std.proofs.Common.{◌≡◌, ℕ, ◌<◌, get_or}
 use Rattle.flt_bpf.proofs.reading.split_at_first.Given as goal
 

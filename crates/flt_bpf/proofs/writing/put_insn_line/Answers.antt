@@ -1,4 +1,4 @@
--- The numbers of a line have room, and stand one before the other.
+-- The four numbers fit the line, one after the other.
 use Rattle.flt_bpf.proofs.Common.{arith, append_assoc, drop_all}
 use Rattle.flt_bpf.proofs.writing.put_insn_line.Goals as goal
 

@@ -1,4 +1,4 @@
--- Line by line the listing is written, and where the output fails a front of it was.
+-- The lines so far are written, and if the output fails, a prefix of the listing.
 use Rattle.flt_bpf.proofs.Assembling.{line_bytes, stopped_front, stopped_told, more_told, more_size}
 use Rattle.flt_bpf.proofs.Checking.{parts}
 use Rattle.flt_bpf.proofs.Common.{length, ◌∙◌, arith, rules, length-decimal-le, common_steps}

@@ -1,4 +1,4 @@
--- Before each instruction the front of the listing up to it is written.
+-- Before each instruction, the listing of those before it is written.
 use Rattle.std.proofs.Common.{◌≡◌, ◌+◌, ◌*◌, ◌≤◌, ◌++◌, length, IsTrue}
 use Rattle.flt_bpf.proofs.Assembling.{front_of}
 use Rattle.flt_bpf.proofs.writing.write_listing.Given as goal

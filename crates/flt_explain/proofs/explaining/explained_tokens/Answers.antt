@@ -1,4 +1,4 @@
--- A node before those that are written.
+-- Each turn writes the node before those that are written.
 use Rattle.std.proofs.Common.{arith}
 use Rattle.flt_explain.proofs.Writing.{writes_on, all_written}
 use Rattle.flt_explain.proofs.explaining.explained_tokens.Goals as goal

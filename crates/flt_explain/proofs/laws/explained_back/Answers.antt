@@ -1,4 +1,4 @@
--- By the tokens of the text.
+-- The text of the tokens is read as these tokens, and they as the tree.
 use Rattle.flt_explain.proofs.ReadBack as proved
 use Rattle.flt_explain.proofs.laws.explained_back.Goals as goal
 

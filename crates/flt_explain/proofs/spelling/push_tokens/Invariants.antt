@@ -1,4 +1,4 @@
--- The text so far, and what the tokens left give.
+-- The text so far, followed by the text of the remaining tokens, is the whole text.
 use Rattle.flt_explain.proofs.Common.{◌≡◌, ◌++◌, drop, Other, tokens_text}
 use Rattle.std.specs.String.{string_bytes}
 use Rattle.flt_explain.proofs.spelling.push_tokens.Given as goal

@@ -1,4 +1,4 @@
--- What is left decides.
+-- The remaining nodes decide.
 use Rattle.flt_lang.proofs.Common.{◌≡◌, drop, false, some_zero_divisor}
 use Rattle.flt_lang.proofs.counts.has_zero_divisor.Given as goal
 

@@ -1,4 +1,4 @@
--- The greatest height is one more than the words.
+-- The greatest height is one more than the words of memory.
 use Rattle.flt_lang.proofs.Common.{◌≡◌, ◌+◌, ap, ◌∙◌, arith, fold, words_of, climb}
 use Rattle.flt_lang.proofs.{Counting.climb_whole, counts.words_in.Goals.After-most_waiting}
 use Rattle.flt_lang.proofs.counts.words_in.Given as given

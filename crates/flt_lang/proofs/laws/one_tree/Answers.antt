@@ -1,4 +1,4 @@
--- The machine gives one list of nodes.
+-- The parser returns one list of nodes, so tokens have one tree.
 use Rattle.flt_lang.proofs.Common.{sym, ◌∙◌, same_nodes}
 use Rattle.flt_lang.proofs.Complete.{complete}
 use Rattle.flt_lang.proofs.laws.one_tree.Goals as goal

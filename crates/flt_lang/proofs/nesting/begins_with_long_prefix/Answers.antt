@@ -1,4 +1,4 @@
--- The tokens are long enough, and the first of them pass.
+-- There are enough tokens, and the first of them are prefix operators.
 use Rattle.std.proofs.Common.{arith, sym, ◌∙◌}
 use Rattle.flt_lang.proofs.nesting.begins_with_long_prefix.Goals as goal
 

@@ -1,3 +1,4 @@
+-- The parentheses and brackets so far are counted, and no prefix so far nests too deep.
 use Rattle.flt_lang.proofs.Common.{◌≡◌, ℕ, ◌+◌, ◌≤◌, take, count_by, is_opening, is_closing}
 use Rattle.flt_lang.proofs.nesting.has_deep_front.Given as goal
 

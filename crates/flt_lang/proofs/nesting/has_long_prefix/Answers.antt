@@ -1,4 +1,4 @@
--- A long prefix begins at some token, or at none.
+-- Too many prefix operators in a row begin at some token, or at none.
 use Rattle.flt_lang.proofs.Common.{arith, refl, below_more, drop, sym, ◌∙◌, false≢true, length-drop, take_rest, BeginsWithLongPrefix}
 use Rattle.flt_lang.proofs.nesting.has_long_prefix.Goals as goal
 

@@ -1,4 +1,4 @@
--- No long prefix begins below.
+-- Too many prefix operators in a row begin at no token so far.
 use Rattle.flt_lang.proofs.Common.{◌<◌, ℕ, drop, BeginsWithLongPrefix}
 use Rattle.flt_lang.proofs.nesting.has_long_prefix.Given as goal
 

@@ -1,4 +1,4 @@
--- The nesting is refused first, and then the reader's faults are the others.
+-- Deep nesting is refused first, and then come the parser's other faults.
 use Rattle.flt_lang.proofs.Common.{refl, sym, ◌∙◌, inl, false≢true}
 use Rattle.flt_lang.proofs.Stepping.{parse_fault, not_too_deep}
 use Rattle.flt_lang.proofs.parser.parse.Goals as goal

@@ -1,4 +1,4 @@
--- The machine's nodes are those of the tree.
+-- The parser's nodes are those of the tree.
 use Rattle.std.proofs.{Common.arith, Common.sym, Common.subst, lemmas.Grind.common_steps}
 use Rattle.flt_lang.specs.Grammar.{IsReadAs, kinds_of}
 use Rattle.flt_lang.proofs.Sound.{found_is_tree, found_reads, no_tree}

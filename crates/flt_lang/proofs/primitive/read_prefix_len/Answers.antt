@@ -1,4 +1,4 @@
--- The two tokens of a mask are read.
+-- The two tokens of a prefix length are read.
 use Rattle.flt_lang.proofs.Stepping.{prefix_at}
 use Rattle.flt_lang.proofs.primitive.read_prefix_len.Goals as goal
 

@@ -1,4 +1,4 @@
--- The first token and those after it are all.
+-- The first token and those after it make up the value.
 use Rattle.flt_lang.proofs.Stepping.{found_value, no_value}
 use Rattle.flt_lang.proofs.primitive.read_value.Goals as goal
 

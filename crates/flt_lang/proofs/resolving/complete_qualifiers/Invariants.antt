@@ -1,4 +1,4 @@
--- The front is complete.
+-- The nodes so far have complete qualifiers.
 use Rattle.flt_lang.proofs.Common.{◌≡◌, ◌++◌, length, take, drop, map, completed_node}
 use Rattle.flt_lang.proofs.resolving.complete_qualifiers.Given as goal
 

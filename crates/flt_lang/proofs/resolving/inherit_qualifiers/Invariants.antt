@@ -1,4 +1,4 @@
--- The front has its qualifiers, and the rest gets those that follow from the latest.
+-- The nodes so far have their qualifiers, and the others inherit from the latest.
 use Rattle.flt_lang.proofs.Common.{◌≡◌, ◌++◌, length, take, drop, only_host, inherited_nodes}
 use Rattle.flt_lang.proofs.resolving.inherit_qualifiers.Given as goal
 

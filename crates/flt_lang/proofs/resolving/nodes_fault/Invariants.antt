@@ -1,4 +1,4 @@
--- No misfit so far, and whether the other faults are there.
+-- No node so far has qualifiers that don't fit, and its other faults are noted.
 use Rattle.flt_lang.proofs.Common.{◌≡◌, false, list_any, take, is_misfit_node, is_out_of_range_node, has_bits_past_mask_node}
 use Rattle.flt_lang.proofs.resolving.nodes_fault.Given as goal
 

@@ -1,4 +1,4 @@
--- The nodes that are left are those of the filled tree.
+-- The completed nodes are those of the completed tree.
 use Rattle.flt_lang.proofs.Common.{◌≡◌, ◌∙◌, sym, ap, subst, None, tree_of, fill_expression, fill_fault, IsResolved, nodes_fault}
 use Rattle.flt_lang.proofs.Filling.{filled_resolved, filled_whole, found_fault, nodes_are_tree, tree_is}
 use Rattle.flt_lang.proofs.resolving.resolve.Goals.{After-complete_qualifiers}

@@ -1,4 +1,4 @@
--- Each round puts the last digit of what is left before the others.
+-- Each turn puts the last remaining digit before the others.
 use Rattle.std.proofs.Common.{◌+◌, ◌-◌, ◌≡◌, ◌∙◌, false, ap, arith, rules, length-set}
 use Rattle.std.proofs.lemmas.List.{drop_all}
 use Rattle.std.specs.Fmt.{digits, digits_onto}

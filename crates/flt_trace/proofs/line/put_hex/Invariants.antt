@@ -1,4 +1,4 @@
--- The last digits are written, and those of what is left come before them.
+-- The last digits are written, and the remaining ones come before them.
 use Rattle.std.proofs.Common.{◌+◌, ◌≡◌, ◌≤◌, ◌<◌, ◌^◌, drop, false, length}
 use Rattle.std.specs.Fmt.{digits, digits_onto}
 use Rattle.flt_trace.proofs.line.put_hex.Given as goal

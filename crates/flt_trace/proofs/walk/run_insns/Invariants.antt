@@ -1,4 +1,4 @@
--- Before each turn the run stands as the machine does.
+-- Before each instruction the run is in the machine's state.
 use Rattle.std.proofs.Common.{length}
 use Rattle.flt_bpf.specs.inside.Position.{RunStands}
 use Rattle.flt_trace.proofs.walk.run_insns.Given as goal

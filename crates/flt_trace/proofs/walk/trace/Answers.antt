@@ -1,4 +1,4 @@
--- Each round writes the step that the run is before, and goes on to the next one.
+-- Each turn writes the next step, and goes on to the one after it.
 use Rattle.flt_trace.proofs.Common.{◌+◌, ◌<◌, length, ◌∙◌, ap, rules, subst, sym, slice_get-get_or, reach_next, parts, goes_inside, sound_at}
 use Rattle.flt_trace.proofs.Tracing.{Standing, standing_first, standing_last, standing_next, written_more, written_none}
 use Rattle.flt_trace.proofs.walk.trace.Goals.{In-Further}

@@ -1,4 +1,4 @@
--- The run is before the instruction at the place, and the steps before are written.
+-- The run is at the instruction of the next step, and the steps before it are written.
 use Rattle.std.proofs.Common.{◌-◌, length}
 use Rattle.flt_trace.proofs.Tracing.{Standing, Written}
 use Rattle.flt_trace.proofs.walk.trace.Given as goal

@@ -1,4 +1,4 @@
--- No two colons stand below.
+-- No two colons are before the place.
 use Rattle.flt_words.proofs.Common.{◌+◌, ◌<◌, ℕ, IsDoubleColon}
 use Rattle.flt_words.proofs.address.find_double_colon.Given as goal
 

@@ -1,4 +1,4 @@
--- Four hexadecimal digits write a number that fits.
+-- Four hexadecimal digits are a number that fits 16 bits.
 use Rattle.std.proofs.Common.{arith}
 use Rattle.flt_words.proofs.AddressValues.{small_answer}
 use Rattle.flt_words.proofs.address.parse_hexadecimal.Goals as goal

@@ -1,4 +1,4 @@
--- A text is one list of groups.
+-- A text is at most one list of groups.
 use Rattle.std.proofs.Common.{arith, length, ap}
 use Rattle.flt_words.proofs.AddressValues.{same_groups}
 use Rattle.flt_words.proofs.address.parse_whole.Goals as goal

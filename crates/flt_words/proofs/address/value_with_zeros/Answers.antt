@@ -1,4 +1,4 @@
--- Eight groups fit.
+-- Eight groups fit 128 bits.
 use Rattle.flt_words.proofs.Common.{arith, base_of}
 use Rattle.flt_words.proofs.AddressValues.{zero_fits, zero_value}
 use Rattle.flt_words.proofs.address.value_with_zeros.Goals as goal

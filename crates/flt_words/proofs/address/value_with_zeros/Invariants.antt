@@ -1,4 +1,4 @@
--- The number with the zeros so far.
+-- The number has the zeros so far.
 use Rattle.flt_words.proofs.Common.{◌≡◌, ◌*◌, ◌^◌, base_of}
 use Rattle.flt_words.proofs.address.value_with_zeros.Given as goal
 

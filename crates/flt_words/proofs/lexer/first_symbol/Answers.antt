@@ -1,4 +1,4 @@
--- Two bytes before one.
+-- A symbol of two bytes is tried before one of one byte.
 use Rattle.flt_words.proofs.Pieces.{longest_one, longest_two, no_piece_at}
 use Rattle.flt_words.proofs.lexer.first_symbol.Goals as goal
 

@@ -1,4 +1,4 @@
--- A word where one begins, and else a symbol.
+-- The first token is a word if one begins here, otherwise a symbol.
 use Rattle.flt_words.proofs.Common.{sym, ◌∙◌, err_from_is_err_and, bad_piece, no_piece, symbol_meaning, word_meaning}
 use Rattle.flt_words.proofs.Pieces.{longest_is_word}
 use Rattle.flt_words.proofs.lexer.first_token.Goals as goal

@@ -1,4 +1,4 @@
--- The loop's steps.
+-- Each turn looks at one more byte, up to the first that can't be in the word.
 use Rattle.std.proofs.Common.{◌+◌, arith, sym, ◌∙◌, subst}
 use Rattle.flt_words.proofs.Pieces.{IsScanned, begins_some, longest_word, scanned_between, scanned_end, scanned_first}
 use Rattle.flt_words.proofs.lexer.first_word_len.Goals.{then-starts_word, else-starts_word}

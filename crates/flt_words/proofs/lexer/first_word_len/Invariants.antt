@@ -1,4 +1,4 @@
--- The bytes so far belong to a word, and the last that may end one is just below `len`.
+-- The bytes so far may be in the word, and the last one that can end it is just before `len`.
 use Rattle.flt_words.proofs.Pieces.{IsScanned}
 use Rattle.flt_words.proofs.lexer.first_word_len.Given as goal
 

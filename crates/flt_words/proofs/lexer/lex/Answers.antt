@@ -1,4 +1,4 @@
--- The loop's steps.
+-- Each turn cuts off a blank or a token, or finds why none begins here.
 use Rattle.flt_words.proofs.Common.{◌≡◌, ◌+◌, ◌==◌, arith, refl, sym, ◌∙◌, subst, length-drop, Err, err_from_is_err_and, IsRefused, IsToken, Tokens, short}
 use Rattle.flt_words.proofs.Common.{too_long}
 use Rattle.flt_words.proofs.Lexing.{blank_keeps, counted_few, counted_step, cut_blank, cut_end, cut_refused, cut_token, inside_at}

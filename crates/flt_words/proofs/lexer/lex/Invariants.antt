@@ -1,4 +1,4 @@
--- The text is cut up to `at`, and its brackets are counted.
+-- The text is cut into tokens up to `at`, and its brackets are counted.
 use Rattle.std.proofs.Common.{◌≡◌, ◌≤◌, ◌-◌, ◌==◌, count_by, length, take}
 use Rattle.flt_words.proofs.Lexing.{IsCut}
 use Rattle.flt_words.proofs.lexer.lex.Given as goal

@@ -1,4 +1,4 @@
--- What the tests told, as the digits' number.
+-- The tests on the digits find their number, or that it doesn't fit.
 use Rattle.flt_words.proofs.Common.{◌≡◌, length, arith, sym, ◌∙◌, ◌==◌, false, true, digits_value, are_digits}
 use Rattle.flt_words.proofs.Numbers.{does_not_fit, fits, some_from_test, writes_from_tests, writes_pass}
 use Rattle.flt_words.proofs.number.parse_digits.Goals.{then-is_empty-via-then-is_empty, then-is_empty-via-else-is_empty+then-not-are_digits}

@@ -1,4 +1,4 @@
--- The tests on the word's front.
+-- The first bytes of a word decide its base.
 use Rattle.flt_words.proofs.Answering.{answers_along}
 use Rattle.flt_words.proofs.Common.{◌≡◌, ◌≢◌, ◌⊎◌, ◌<◌, ◌≤◌, inl, inr, length, get_or, arith, nat_tests, take_rest, is_word_sized, decimal}
 use Rattle.flt_words.proofs.Numbers.{hexadecimal_by_front, octal_by_front, only_decimal}

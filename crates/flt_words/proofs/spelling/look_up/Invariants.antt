@@ -1,4 +1,4 @@
--- What the rest of the table has for the piece is what the whole has.
+-- Looking the piece up in the remaining rows gives the same as in the whole table.
 use Rattle.flt_words.proofs.Common.{◌≡◌, drop, map, look_up}
 use Rattle.flt_words.proofs.spelling.look_up.Given as goal
 

@@ -1,4 +1,4 @@
--- A word that no reader takes means nothing.
+-- A word that no reader accepts means nothing.
 use Rattle.flt_words.proofs.Common.{◌≡◌, ℕ, List, None, sym, ◌∙◌, TokenKind, IsDotted, IsIp6, IsMac, IsNumber, IsRange, Spells, keyword, number, dotted, range}
 use Rattle.flt_words.proofs.Common.{mac, ip6, keyword_of, known, too_large, unknown}
 use Rattle.flt_words.proofs.Tables.{keyword_is_plain}

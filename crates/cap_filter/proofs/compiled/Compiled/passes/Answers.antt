@@ -1,3 +1,5 @@
+-- A packet passes if the program of its link type accepts it, and only that program's count of
+-- instructions grows.
 use Rattle.cap_filter.proofs.Common.{None, Some, sym, ◌∙◌, captured}
 use Rattle.cap_filter.proofs.Filters.{bounded-ran, answers-at, answers-none, place-within, put-back, reading-spends, sound-ran}
 use Rattle.cap_filter.proofs.compiled.Compiled.passes.Goals as goal

@@ -1,4 +1,5 @@
--- `allocate` hands out the memory as room for the type that was asked, and the way back as the token. Assumes `Logic`.
+-- `allocate` returns the memory as room for the requested type, and keeps the way back in the
+-- token. Assumes `Logic`.
 use Rattle.std.proofs.Common.{◌≡◌, ℕ, true, false, List, [], ◌∷◌, ◌++◌, refl, subst, lit<, w64, Ok, Err}
 use mir.Syntax.{Ty, Fn}
 use mir.Val.{Val, vint, vptr}

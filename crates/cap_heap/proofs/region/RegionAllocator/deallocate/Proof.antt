@@ -1,4 +1,4 @@
--- `deallocate` makes the memory again of the room and the token, and keeps it. Assumes `Logic`.
+-- `deallocate` makes memory of the room and the token again, and keeps it. Assumes `Logic`.
 use Rattle.std.proofs.Common.{◌≡◌, ℕ, ◌<◌, ◌^◌, List, [], ◌∷◌, ◌++◌, refl, sym, ap, subst, ◌∙◌, w64}
 use mir.Syntax.{Ty, Fn}
 use mir.Val.{Val, vint, vptr, vunit}

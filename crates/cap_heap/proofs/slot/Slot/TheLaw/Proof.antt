@@ -1,4 +1,4 @@
--- A `&` to a slot is a borrow of the whole, which the thread's token opens. Assumes `Logic`.
+-- A `&` to a slot borrows all of it, and the thread's token opens the borrow. Assumes `Logic`.
 use Rattle.std.proofs.Common.{[], ◌∷◌}
 use base.Fraction.{full_share}
 use base.Fml.{fbor}

@@ -1,3 +1,4 @@
+-- The cursor at an index is the one that contracts see there.
 use Rattle.cap_inputs.proofs.Cursors.{get-among}
 use Rattle.cap_inputs.proofs.inputs.Inputs.cursor.Goals as goal
 

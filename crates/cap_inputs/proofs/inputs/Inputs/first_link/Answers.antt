@@ -1,3 +1,4 @@
+-- At the first cursor, the link type found is that of all cursors.
 use Rattle.std.proofs.{Common.◌≡◌, Common.arith, lemmas.Grind.common_steps}
 use Rattle.cap_inputs.proofs.inputs.Inputs.first_link.Goals as goal
 

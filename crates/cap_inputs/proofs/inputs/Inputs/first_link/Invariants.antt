@@ -1,3 +1,4 @@
+-- The link type is the first one that the cursors from `i` on declare.
 use Rattle.std.proofs.Common.{◌≡◌, ◌≤◌, length, drop}
 use Rattle.cap_inputs.specs.inside.Inputs.{first_declared_link}
 use Rattle.cap_inputs.proofs.inputs.Inputs.first_link.Given as goal

@@ -1,3 +1,4 @@
+-- Marking the packet as decided changes only its cursor and the order, and keeps both sound.
 use Rattle.cap_inputs.proofs.Common.{◌∙◌, refl, ap, slice_set, ordering_of, PacketOrder, InputsView, with_cursor}
 use Rattle.cap_inputs.proofs.Cursors.{following-order, get-among}
 use Rattle.cap_inputs.proofs.{Leasts.queue-decided, Placed.decided-waits, Placed.placed-decided}

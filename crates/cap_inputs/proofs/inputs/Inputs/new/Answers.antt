@@ -1,3 +1,4 @@
+-- New inputs have fresh cursors and the first order, and are sound.
 use Rattle.cap_inputs.proofs.Common.{List, length, ap, ◌∙◌, refl, arith, InputView, first_schedule, fresh_view, order_of, fresh_input}
 use Rattle.cap_inputs.proofs.{Cursors.first-inputs, Cursors.first-ordering, Leasts.queued-first, Placed.placed-first}
 use Rattle.std.specs.Prelude.{if◌then◌else◌}

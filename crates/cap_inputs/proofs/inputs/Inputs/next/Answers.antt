@@ -1,3 +1,4 @@
+-- The next action is that of the order, by turn or by time.
 use Rattle.cap_inputs.proofs.Placed.{next-is}
 use Rattle.cap_inputs.proofs.inputs.Inputs.next.Goals as goal
 

@@ -1,3 +1,4 @@
+-- A read advances only its cursor, and keeps the order sound.
 use Rattle.cap_inputs.proofs.Common.{ap, ◌∙◌, ordering_of, InputView}
 use Rattle.cap_inputs.proofs.Cursors.{get-among, fetches-by, read_input-steps-by, schedule-order}
 use Rattle.cap_inputs.proofs.{Leasts.room-for, Placed.goes-on, Placed.read-idle}

@@ -1,3 +1,4 @@
+-- An added entry is once in the queue, which stays a heap.
 use Rattle.cap_inputs.proofs.Common.{heap_items, Reverse, IsPermutation-map, Waiting}
 use Rattle.cap_inputs.proofs.Queues.{once_added, bare}
 use Rattle.cap_inputs.proofs.queue.Queue.add.Goals as goal

@@ -1,3 +1,4 @@
+-- An empty queue is a heap.
 use Rattle.std.specs.List.{IsDistinct}
 use Rattle.cap_inputs.proofs.queue.Queue.new.Goals as goal
 

@@ -1,3 +1,4 @@
+-- The top of the heap is the least entry.
 use Rattle.std.proofs.Common.{refl}
 use Rattle.std.specs.BinaryHeap.{heap_items}
 use Rattle.cap_inputs.proofs.Queues.{top_first}

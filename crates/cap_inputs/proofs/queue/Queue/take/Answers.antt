@@ -1,3 +1,4 @@
+-- The entry that is taken is the least one, and the others remain a heap.
 use Rattle.cap_inputs.proofs.Common.{refl, heap_items, Reverse, IsPermutation-map, Waiting}
 use Rattle.cap_inputs.proofs.Queues.{taken_first}
 use Rattle.cap_inputs.proofs.queue.Queue.take.Goals as goal

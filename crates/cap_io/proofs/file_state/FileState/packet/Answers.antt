@@ -1,3 +1,4 @@
+-- The packet of a unit has the fields of its record or block, and those of its interface.
 use Rattle.cap_io.proofs.Common.{common_steps, ◌∙◌, refl, take, arith, description_of}
 use Rattle.cap_io.proofs.Passing.{part-lent, pcap-lent, pcapng-lent}
 use Rattle.cap_pcapng.proofs.Entered.{known_interface}

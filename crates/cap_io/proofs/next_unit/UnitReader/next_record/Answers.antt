@@ -1,3 +1,4 @@
+-- The next record is the file's next unit, or fails as that unit does.
 use Rattle.cap_io.proofs.Came.{fields_came, fields_refused, fields-has_memory, no_room, data_missing, record_came, record-takes}
 use Rattle.cap_io.proofs.CapturesCame.{moves-ended, moves-failed, moves-then, no-error, reads-no_unit}
 use Rattle.cap_io.proofs.OwnFaults.{own-fields, own-unfailed}

@@ -1,3 +1,4 @@
+-- The block that is read is the file's next unit, or fails as that unit does.
 use Rattle.cap_io.proofs.BlocksCame.{adds-describes, block-exceeds, block_came, entry_refused, frame-has_memory, frame_refused, front_says, no_room_for_block}
 use Rattle.cap_io.proofs.BlocksCame.{rest_of_block, whole_came}
 use Rattle.cap_io.proofs.CapturesCame.{block-takes, first-again, has-section, interface-takes, interfaces-held, interfaces-kept, order-held, packet-block}

@@ -1,3 +1,4 @@
+-- The first unit is a file header or a section header, or the file is refused.
 use Rattle.std.proofs.Common.{rules, [], refl, sym, ◌∙◌, arith}
 use Rattle.std.proofs.lemmas.Result.{err_from_is_err_and}
 use Rattle.cap_io.proofs.Came.{NoUnitCame-following, first_of, joined_front, section_of_bytes}

@@ -1,3 +1,4 @@
+-- A known interface keeps its number, and a new one gets the next.
 use Rattle.cap_io.proofs.Common.{◌≡◌, map, not, refl, sym, ap, ◌∙◌, rules, Some, option_map, slice_get-map, captured, interface_in, HasNumber, interface_of}
 use Rattle.cap_io.proofs.Common.{InterfaceNumber}
 use Rattle.cap_io.proofs.Interfaces.{same_interface, among-keys, number-keys, insert-keys, few-following, first-following, place-of-last}

@@ -1,3 +1,4 @@
+-- There is room if the interface is known or fewer than the most are.
 use Rattle.cap_io.proofs.Common.{◌≡◌, ◌<◌, List, ◌++◌, length, map, nat_lt, nat_le, sym, ap, subst, ◌∙◌, arith, length-map, captured, Interface, interface_of}
 use Rattle.cap_io.proofs.Common.{most_output_interfaces, new_among, is_among, interface_in}
 use Rattle.cap_io.proofs.Interfaces.{among-keys, room-full, room-below}

@@ -1,3 +1,4 @@
+-- A packet is written, or refused for the first reason; after an error nothing more is written.
 use Rattle.cap_io.proofs.Common.{ℕ, List, Ok, Err, refl, sym, ap, subst, ◌∙◌, captured, Broken, FitFile, SinkView, WritesPacket, refusal_in, added_in}
 use Rattle.cap_io.proofs.Texts.{adds-broken, puts-tell, put-writes-tell}
 use Rattle.cap_io.proofs.sink.Sink.put.Goals as goal

@@ -1,3 +1,4 @@
+-- After an error the packets are at their end.
 use Rattle.std.proofs.Common.{rules, ◌≡◌, Err, refl, sym, ap, subst}
 use Rattle.cap_io.specs.Source.{SourceView, Phase, Reading, Advances, view_of}
 use Rattle.cap_io.specs.declared.source.Stage.{Stage}

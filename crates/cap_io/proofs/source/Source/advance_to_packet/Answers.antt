@@ -1,3 +1,4 @@
+-- The source is at the next packet, by its buffer or by reading units.
 use Rattle.cap_io.proofs.Common.{arith, Ok, ap, refl, ◌∙◌, SourceView}
 use Rattle.cap_io.proofs.Passing.{bounds-then, past-between, past-bounds, past-continues}
 use Rattle.cap_io.specs.declared.file_state.NextUnit.{NextUnit}

@@ -1,3 +1,4 @@
+-- The packet that is lent is the current one.
 use Rattle.cap_io.proofs.Common.{◌∙◌, ℕ, List, ap, take, declared_by, packet_in_unit, SourceView}
 use Rattle.cap_io.proofs.source.Source.head.Goals.{in_default+in-Current, in-Lent}
 use Rattle.std.specs.Borrow.{Bor}

@@ -1,3 +1,4 @@
+-- Reading a unit takes it from those that the file has left.
 use Rattle.cap_io.proofs.Common.{take, ◌+◌, ◌∙◌, Err, arith, length, length-take-le, refl, ap, ap₂, err_from_is_err_and, length-take, declared_by, SourceView}
 use Rattle.cap_io.proofs.Common.{block_at, packet_at, unit_at, view_of}
 use Rattle.cap_io.proofs.Hands.{packet-there}

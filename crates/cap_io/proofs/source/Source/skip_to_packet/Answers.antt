@@ -1,3 +1,4 @@
+-- Units without packets are skipped up to the next packet, the end or a fault.
 use Rattle.std.proofs.{Common.◌∙◌, Common.ap, Common.arith, Common.Err, Common.Ok, Common.refl, lemmas.Result.err_from_is_err_and}
 use Rattle.cap_io.proofs.Passing.{FindsEnd-then, FindsPacket-then, IsBroken-then, SkipsUnits-then, bounds-then, no-unit-end, stays}
 use Rattle.cap_io.specs.declared.file_state.NextUnit.{NextUnit}

@@ -1,3 +1,4 @@
+-- What is found in the buffer is the file's next unit.
 use Rattle.cap_io.proofs.Common.{rules, true, ◌≡◌, ◌+◌, ℕ, List, length, take, drop, refl, ap, ◌∙◌, subst, arith, PacketCame, Declared, declared_by}
 use Rattle.cap_io.proofs.Common.{packet_in_unit, Reading, SourceView, end_offset}
 use Rattle.cap_io.proofs.Hands.{takes-next}

@@ -1,3 +1,4 @@
+-- The time is that of the current packet.
 use Rattle.cap_io.proofs.Common.{ap, take, ◌∙◌, inl, inr, option_map, declared_by, SourceView}
 use Rattle.cap_io.proofs.Passing.{time-held}
 use Rattle.cap_io.proofs.source.Source.time.Goals as goal

@@ -1,3 +1,4 @@
+-- A read that the reader's buffer can satisfy takes its first bytes.
 use Rattle.cap_octet.proofs.Common.{rules, ◌==◌, ◌≡◌, ◌∙◌, Ok, length, take, arith, ap, sym, inr, ℕ, take-take, reader_buffer, reader_capacity, reader_inner}
 use Rattle.cap_octet.proofs.Reading.{held-consumed}
 use Rattle.cap_octet.proofs.stream.StdInputInput.read.Goals as goal

@@ -1,3 +1,4 @@
+-- One more option is read, and the first refused one ends the list.
 use Rattle.std.proofs.{Common.◌≡◌, Common.◌∷◌, Common.◌∙◌, Common.ap, Common.Ok, lemmas.Result.err_from_is_err_and}
 use Rattle.cap_pcapng.specs.OptionList.{coded_value, item_of, options_left}
 use Rattle.cap_pcapng.proofs.InterfaceLists.{HasRead-more, HasRead-refused}

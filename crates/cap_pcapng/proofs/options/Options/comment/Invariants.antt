@@ -1,3 +1,4 @@
+-- The first comment is among the remaining options.
 use Rattle.cap_pcapng.proofs.Common.{◌≡◌, length, first_value, fitting_options, comment_code, options_left}
 use Rattle.cap_pcapng.proofs.options.Options.comment.Given as goal
 

@@ -1,3 +1,4 @@
+-- A number below 100 has one digit or two.
 use Rattle.std.proofs.{Common.refl, Common.arith, lemmas.Fmt.decimal_digit}
 use Rattle.cap_print.proofs.Digits.{decimal_two}
 use Rattle.cap_print.proofs.text.Text.push_below_100.Goals as goal

@@ -1,3 +1,4 @@
+-- Second and nanoseconds, one after the other, are the date's text.
 use Rattle.std.proofs.Common.{refl, append_assoc}
 use Rattle.cap_octet.proofs.Dates.{date_text_split}
 use Rattle.cap_print.proofs.text.Text.push_date.Goals as goal

@@ -1,3 +1,4 @@
+-- Pairs of digits, the highest first, are the decimal number.
 use Rattle.std.proofs.Common.{refl, arith, append_assoc}
 use Rattle.cap_print.proofs.Digits.{decimal_pair, decimal_two_pairs}
 use Rattle.cap_print.proofs.text.Text.push_decimal.Goals as goal

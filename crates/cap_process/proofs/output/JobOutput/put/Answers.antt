@@ -1,3 +1,4 @@
+-- A packet goes to the capture or to the lines; a text output ignores it.
 use Rattle.cap_process.proofs.Common.{ℕ, List, refl, Lines}
 use Rattle.cap_process.proofs.output.JobOutput.put.Goals.{in-Capture, in-Text, in-Lines}
 use Rattle.std.proofs.Common.{ap₂, rules}

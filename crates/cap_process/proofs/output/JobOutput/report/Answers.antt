@@ -1,3 +1,4 @@
+-- A report goes to the text output; the other outputs ignore it.
 use Rattle.cap_process.proofs.Common.{ℕ, List, refl, Text}
 use Rattle.cap_process.proofs.output.JobOutput.report.Goals.{in-Capture, in-Text, in-Lines}
 use Rattle.std.proofs.Common.{ap₂}

@@ -1,3 +1,4 @@
+-- The policy of an edit returns the edit's verdict.
 use Rattle.cap_process.proofs.selector.Policy.keeps.Goals as goal
 
 pub returns-in-Edit-clause-exact : goal.returns-in-Edit-clause-exact

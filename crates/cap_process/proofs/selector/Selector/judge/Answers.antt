@@ -1,3 +1,4 @@
+-- The verdict, the counts and the executed instructions are those of the policy in each case.
 use Rattle.cap_process.proofs.Common.{◌≡◌, ℕ, Bool, true, false, Option, Ok, refl, ap, sym, ◌∙◌, subst, arith, Captured, captured, TooManyPackets, Judgement}
 use Rattle.cap_process.proofs.Common.{SelectorState, is_last, judge_by, refuses, judge, SelectorView, policy_of, programs_in, spent_by_verdict, window_of}
 use Rattle.cap_process.proofs.Common.{is_count, marks_in, state_of, GrowsByOne, HasFewMarks, ReturnsVerdict, IsVerdict, count_limit, verdict_if, verdict_of}

@@ -1,3 +1,4 @@
+-- A search of the tree finds the mark if and only if the window has it.
 use Rattle.cap_process.proofs.Common.{[], arith, refl, ◌≡◌, ◌∙◌, ap, sym, get_or, ◌-◌, ◌<◌, ◌≤◌, length, get_or_default, get_or_from_slice_get}
 use Rattle.cap_process.proofs.Common.{slice_get-get_or, option_copied, links_at, mark_at}
 use Rattle.cap_process.proofs.{Marks.is_there, Trees.ended, Trees.least, Trees.past_top, Trees.top_of}

@@ -1,4 +1,4 @@
--- What is left to search: the mark is nowhere from `limit` on.
+-- The mark isn't in the window from place `limit` on.
 use Rattle.cap_process.proofs.Common.{◌+◌, ◌≤◌, length, IsWay, Lacks}
 use Rattle.cap_process.proofs.window.Window.contains.Given as goal
 

@@ -1,3 +1,4 @@
+-- The index stays sound when a mark is added and, in a full window, the oldest is dropped.
 use Rattle.cap_process.proofs.Common.{arith, refl, ◌≡◌, ◌∙◌, get_or, set, ◌+◌, ◌-◌, ◌<◌, ◌≤◌, length, take, drop, ◌++◌, List, ℕ, ap, get_or_default}
 use Rattle.cap_process.proofs.Common.{take-append-le, take_all, hash_of, Links}
 use Rattle.cap_process.proofs.Indexes.{IsLowered, sound_hung, sound_push}

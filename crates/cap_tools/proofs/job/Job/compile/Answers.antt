@@ -1,3 +1,4 @@
+-- A compilation writes the listing, or refuses the expression, in its only step.
 use Rattle.cap_tools.proofs.CommandStarts.{first-step, lists-some, refused-step}
 use Rattle.cap_tools.proofs.Common.{ℕ, List, inr, ap, subst, string_bytes, spent_in, Compiles, IsCompiled}
 use Rattle.cap_filter.specs.{Expressions.IsTextFault, declared.filter.Refusal.TheVariants.Expression}

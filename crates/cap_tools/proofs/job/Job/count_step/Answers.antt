@@ -1,3 +1,4 @@
+-- The step is counted, and the job goes on or ends.
 use Rattle.cap_tools.proofs.Common.{◌+◌, sym, subst, Option, JobEnd, JobView, Turn, MakesStep}
 use Rattle.cap_tools.proofs.Turns.{counted-more, counted-end}
 use Rattle.cap_tools.specs.inside.Jobs.{IsUncounted}

@@ -1,3 +1,4 @@
+-- A packet is decided if that is the next action; otherwise the job goes on or finishes.
 use Rattle.cap_tools.proofs.Common.{◌≡◌, ◌∙◌, true, refl, ap, subst, IsSound, JobView, next_of, is_read, makes, rests}
 use Rattle.cap_tools.proofs.Turns.{may-count, told-read}
 use Rattle.cap_tools.proofs.job.Job.decide_if_next.Goals as goal

@@ -1,3 +1,4 @@
+-- Deciding a packet is a step of the job, and keeps it sound.
 use Rattle.cap_tools.proofs.CommandStarts.{ready-none}
 use Rattle.cap_tools.proofs.Common.{◌+◌, subst, sym, ◌∙◌, ap, arith, JobView, IsNext, Next}
 use Rattle.cap_tools.proofs.{Lefts.to-decide, Programs.have-decided}

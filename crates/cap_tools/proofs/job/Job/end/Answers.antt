@@ -1,3 +1,4 @@
+-- The job ends with its status and message.
 use Rattle.cap_tools.proofs.Common.{◌≡◌, ℕ, ◌+◌, List, Some, ap, ap₂, subst, Option, IsTold, MessagesView, Preparing, preparing_of, option_map, JobView}
 use Rattle.cap_tools.proofs.Common.{end_message, ending}
 use Rattle.cap_tools.proofs.job.Job.end.Goals as goal

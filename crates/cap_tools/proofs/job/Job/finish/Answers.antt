@@ -1,3 +1,4 @@
+-- Finishing the output is the last step.
 use Rattle.cap_tools.proofs.Common.{refl, subst, sym, ℕ, Option, Some, EndsOutput, JobEnd, JobView, EndLeaves, IsNext, reads_nothing, state_at, Next}
 use Rattle.cap_tools.proofs.{Finishes.finish-leaves, Steps.step-of}
 use Rattle.cap_tools.proofs.job.Job.finish.Goals as goal

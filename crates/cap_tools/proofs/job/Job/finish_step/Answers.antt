@@ -1,3 +1,4 @@
+-- The finishing step is counted.
 use Rattle.cap_tools.proofs.{Common.◌∙◌, Turns.may-count}
 use Rattle.cap_tools.proofs.job.Job.finish_step.Goals as goal
 

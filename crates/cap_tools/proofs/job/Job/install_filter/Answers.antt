@@ -1,3 +1,4 @@
+-- The filter replaces the policy, and the rest of the job stays light.
 use Rattle.cap_tools.proofs.Common.{arith, subst, sym, common_steps, SelectorView, HasFewMarks}
 use Rattle.cap_tools.proofs.Weights.{is-light}
 use Rattle.cap_tools.proofs.job.Job.install_filter.Goals as goal

@@ -1,3 +1,4 @@
+-- A turn is one step or two.
 use Rattle.cap_tools.proofs.CommandStarts.{none-before, some-before}
 use Rattle.cap_tools.proofs.{Common.◌∙◌, Common.sym, Common.ap, Common.JobView, Turns.after-end}
 use Rattle.cap_tools.specs.inside.Jobs.{one_step}

@@ -1,3 +1,4 @@
+-- A new job is sound, and has decided nothing.
 use Rattle.cap_tools.proofs.CommandStarts.{few-inputs, first-decided, first-made, first-ready, first-few, first-left}
 use Rattle.cap_tools.proofs.Common.{length-map, most_inputs, ◌≡◌, ◌≤◌, List, map, length, string_bytes, sym, ap, subst, ◌∙◌, arith, All, option_map, Content}
 use Rattle.cap_tools.proofs.Common.{IsSmall, most_turns, steps_owed_in_all, HasFewOutputInterfaces, Target, InputsView, steps_left, HavePrograms, SelectorView}

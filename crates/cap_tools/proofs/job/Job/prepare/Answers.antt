@@ -1,3 +1,4 @@
+-- The first step reads the filter, or compiles.
 use Rattle.cap_tools.proofs.CommandStarts.{made-no-step, taken-fresh, untaken}
 use Rattle.cap_tools.proofs.Common.{Some, string_bytes, sym, ◌∙◌, ap, subst, option_map, Compiles, ReadsFilter, asked_by, preparing_of, JobView, MakesStep}
 use Rattle.cap_tools.proofs.job.Job.prepare.Goals as goal

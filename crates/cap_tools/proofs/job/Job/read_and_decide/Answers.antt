@@ -1,3 +1,4 @@
+-- Reading and deciding are two steps, or one if the job ends.
 use Rattle.cap_tools.proofs.Turns.{steps-made, step-ended, undone-on}
 use Rattle.cap_tools.proofs.job.Job.read_and_decide.Goals as goal
 

@@ -1,3 +1,4 @@
+-- An input is read if that is the next action.
 use Rattle.cap_tools.proofs.Common.{◌≡◌, ◌∙◌, false, refl, subst, IsSound, JobView, next_of, is_read, makes, rests}
 use Rattle.cap_tools.proofs.Turns.{may-count, told-no-read}
 use Rattle.cap_tools.proofs.job.Job.read_if_next.Goals as goal

@@ -1,3 +1,4 @@
+-- Reading an input is a step of the job, and keeps it sound.
 use Rattle.cap_tools.proofs.CommandStarts.{ready-none}
 use Rattle.cap_tools.proofs.Common.{◌≡◌, ◌∙◌, true, false, Ok, Err, refl, sym, ap, arith, subst, None, Some, InputsView, asks_report, JobView, IsNext, Next}
 use Rattle.cap_tools.proofs.Common.{JobEnd}

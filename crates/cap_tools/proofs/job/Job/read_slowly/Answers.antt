@@ -1,3 +1,4 @@
+-- If the output can't be released before a read, the job ends.
 use Rattle.cap_tools.proofs.Common.{◌∙◌, Some, refl, subst, sym, reads_nothing, JobView, IsStep, JobEnd}
 use Rattle.cap_tools.proofs.Steps.{same-kept, step-of}
 use Rattle.cap_tools.proofs.job.Job.read_slowly.Goals as goal

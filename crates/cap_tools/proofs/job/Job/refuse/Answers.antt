@@ -1,3 +1,4 @@
+-- A refusal writes its message, and ends the job.
 use Rattle.cap_tools.proofs.Common.{◌≡◌, ◌∙◌, ℕ, ◌+◌, List, Option, None, Some, refl, ap, ap₂, arith, subst, common_steps, option_map, refusal_status}
 use Rattle.cap_tools.proofs.Common.{Preparing, preparing_of, JobView, state_at, RefusesStart}
 use Rattle.cap_tools.proofs.Weights.{is-light}

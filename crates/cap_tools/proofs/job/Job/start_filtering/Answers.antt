@@ -1,3 +1,4 @@
+-- The filter is installed, or refused.
 use Rattle.cap_tools.proofs.CommandStarts.{first-step, refused-step, new-unspent}
 use Rattle.cap_tools.proofs.Common.{refl, sym, ap, subst, ◌∙◌, programs_of, rule_of, spent_in, ReadsFilter, asked_by, Turn, JobView, PreparesBy, PreparesOnly}
 use Rattle.cap_tools.proofs.Common.{Some, with_preparing}

@@ -1,3 +1,4 @@
+-- The first step prepares, and each later one does the next action.
 use Rattle.cap_tools.proofs.CommandStarts.{none-before, some-before}
 use Rattle.cap_tools.proofs.Common.{◌∙◌, sym, ap, JobView}
 use Rattle.cap_tools.proofs.job.Job.step.Goals as goal

@@ -1,3 +1,4 @@
+-- A job that has ended repeats its status; otherwise the next action is a step.
 use Rattle.cap_tools.proofs.Common.{◌∙◌, sym, ap, subst, IsSound, JobView}
 use Rattle.cap_tools.proofs.Turns.{after-end, may-count}
 use Rattle.cap_tools.proofs.job.Job.step_prepared.Goals as goal

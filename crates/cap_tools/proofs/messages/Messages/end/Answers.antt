@@ -1,3 +1,4 @@
+-- The message is the one for how the job ended.
 use Rattle.cap_tools.proofs.Common.{subst, IsTold, output_view, MessagesView, end_message}
 use Rattle.cap_tools.proofs.messages.Messages.end.Goals as goal
 

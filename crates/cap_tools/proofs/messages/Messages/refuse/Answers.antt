@@ -1,3 +1,4 @@
+-- The message is the one for the refusal.
 use Rattle.cap_tools.proofs.Common.{subst, refusal_message, IsTold, output_view, MessagesView}
 use Rattle.cap_tools.proofs.messages.Messages.refuse.Goals as goal
 

@@ -1,4 +1,4 @@
--- Nothing waits any more.
+-- In the end nothing is pending.
 use Rattle.flt_explain.proofs.Writing.{settled_end}
 use Rattle.flt_explain.proofs.backward.Writer.write_pending.Goals as goal
 

@@ -1,4 +1,4 @@
--- What is left to be written is written as all was.
+-- Writing what is still pending gives the same as writing all of it.
 use Rattle.flt_explain.proofs.Common.{◌≡◌, length, write_pending}
 use Rattle.flt_explain.proofs.backward.Writer.write_pending.Given as goal
 

@@ -1,4 +1,4 @@
--- A step leaves fewer tokens, which are read as all were.
+-- A step consumes tokens, and the others are read as before.
 use Rattle.flt_lang.proofs.Common.{◌≤◌, length, drop, arith, length-drop, take_rest, zero-le}
 use Rattle.flt_lang.proofs.Stepping.{runs_on, run_whole, read_stops, run_ends, same_given}
 use Rattle.flt_lang.proofs.reader.Reader.read.Goals as goal

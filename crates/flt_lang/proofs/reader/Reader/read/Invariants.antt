@@ -1,4 +1,4 @@
--- What is left of the tokens is read as the whole of them is.
+-- Reading the remaining tokens gives the same as reading all of them.
 use Rattle.flt_lang.proofs.Common.{◌≡◌, ◌-◌, ◌≤◌, length, drop, kinds_of, run, nodes_of_tokens}
 use Rattle.flt_lang.proofs.reader.Reader.read.Given as goal
 

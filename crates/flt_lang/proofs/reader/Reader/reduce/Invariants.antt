@@ -1,3 +1,4 @@
+-- Reducing the remaining frames gives the same as reducing all of them.
 use Rattle.flt_lang.proofs.Common.{◌≡◌, length, reduce}
 use Rattle.flt_lang.proofs.reader.Reader.reduce.Given as goal
 

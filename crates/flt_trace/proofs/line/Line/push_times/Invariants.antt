@@ -1,3 +1,4 @@
+-- The byte is appended as often as the loop has turned.
 use Rattle.std.proofs.Common.{◌≡◌, ◌++◌, replicate}
 use Rattle.flt_trace.proofs.line.Line.push_times.Given as goal
 
