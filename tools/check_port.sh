@@ -4,9 +4,9 @@
 #
 # usage: tools/check_port.sh [--cases]
 #
-# With --cases it also proves and builds the cases for ARM64, and runs them all: 20 to 30 CPU minutes more from nothing, so prove
-# them for this machine first (`rt all check`), since the proof for ARM64 continues from that work. The last line counts the
-# comparisons that differ, which is the status if it isn't 0.
+# With --cases it also proves and builds the cases for ARM64, and runs them all: 6 CPU minutes more if they are proved for this machine
+# (`rt all check`), since the proof for ARM64 continues from that work, else 20 to 30. The last line counts the comparisons that
+# differ, which is the status if it isn't 0.
 
 set -eu
 
