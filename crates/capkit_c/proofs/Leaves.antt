@@ -1,9 +1,9 @@
 -- What reading the unit at a reader's place leaves.
 use Rattle.capkit_c.proofs.Common.{◌≡◌, ℕ, ◌+◌, ◌-◌, ◌<◌, ◌≤◌, List, [], length, take, drop, Option, Some, None, refl, sym, ap, ◌∙◌, subst, arith, min}
-use Rattle.capkit_c.proofs.Common.{drop-drop, length-drop, length-take-le, Captured, Fault, Declared, NoUnit, Whole, first_link_of, front_of, declared_by, Described, HasLink}
+use Rattle.capkit_c.proofs.Common.{drop-drop, length-drop, length-take-le, Captured, Fault, Declared, NoUnit, Whole, first_link_of, front_of, declared_by}
 use Rattle.capkit_c.proofs.Common.{declared_in, first_interfaces, reader_form, most_known, IsPastUnit, IsPacketFound, NextLeaves, Stays, comment_by, ends}
 use Rattle.capkit_c.proofs.Common.{fails, finds, is_full, passes, spans_of, ArePlaced, Counts, IsNoUnit, IsAtEnd, IsPlaced, BeginsWithUnit, placed_packet}
-use Rattle.capkit_c.proofs.Common.{UnitPacket, FileState, Interface, Packet, Reader}
+use Rattle.capkit_c.proofs.Common.{UnitPacket, FileState, Interface, Packet, Reader, Described, HasLink}
 use Rattle.capkit_c.specs.declared.memory.{block.Refusal.Refusal, reader.Found.Found, reader.ReadUnit.ReadUnit}
 use Rattle.capkit_c.specs.inside.Units.{IsBare, IsFull}
 use Rattle.std.proofs.lemmas.List.{length-map}
