@@ -11,6 +11,10 @@ use flt_trace::run_insns;
 /// The number of a packet of another link type than the program's.
 const ANOTHER_LINK_TYPE: u32 = 226;
 
+/// The most instructions that a search checks before their first run: that costs less than a few
+/// runs in which each is checked.
+const FEW: usize = 32;
+
 /// What a search knows of its instructions.
 #[derive(Clone, Copy)]
 enum Known {
@@ -127,7 +131,7 @@ pub extern "C" fn capkit_next_match(
     ensures { SearchLeaves insns.now link_type capture.now reader.old reader.new interfaces.old
         interfaces.new packet.old packet.new result }
 {
-    let mut known = Known::Executed(0);
+    let mut known = Known::Executed(0).after(insns, FEW);
     // The label names the loop in its proof.
     'search: loop {
         match search_step(reader, interfaces, capture, insns, known, link_type, packet) {
