@@ -57,17 +57,15 @@ impl Known {
 }
 
 /// Runs instructions on a packet of a capture: their result as `capkit_run` has it, and the number
-/// of executed ones. Those of a program that is known to be valid aren't checked again.
+/// of executed ones, each of which was checked. Those of a program that is known to be valid aren't
+/// checked again, nor counted.
 fn verdict(insns: &[Insn], known: Known, capture: &[u8], packet: &Packet) -> (u32, usize)
     requires { IsKnown insns.now known }
     ensures { Returns insns.now capture.now packet.now result.0 }
 {
     let bytes = bytes_at(capture, packet.at, packet.captured);
     match known {
-        Known::Valid => {
-            let (answer, count) = run_insns(insns, bytes, packet.original);
-            (answer, count as usize)
-        }
+        Known::Valid => (run_insns(insns, bytes, packet.original).0, 0),
         Known::Executed(_) | Known::Invalid => run(insns, bytes, packet.original),
     }
 }
