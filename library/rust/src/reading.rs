@@ -303,13 +303,17 @@ impl<R: Read> Iterator for Packets<R> {
         if self.is_over {
             return None;
         }
-        let next = self.read().transpose();
-        self.is_over = match &next {
-            Some(Ok(_)) => false,
-            Some(Err(error)) => !is_passing(error),
-            None => true,
-        };
-        next
+        match self.read() {
+            Ok(Some(packet)) => Some(Ok(packet)),
+            Ok(None) => {
+                self.is_over = true;
+                None
+            }
+            Err(error) => {
+                self.is_over = !is_passing(&error);
+                Some(Err(error))
+            }
+        }
     }
 }
 

@@ -5,8 +5,8 @@ import binascii
 import contextlib
 import errno
 import os
-import socket
 import stat
+import sys
 import threading
 import weakref
 from typing import Any, List, NamedTuple, Optional, Protocol, Tuple, Union
@@ -273,11 +273,13 @@ def _put_in_time(given: List[Any], file: Any, read: Any, argument: Any) -> None:
     try:
         # By one call, after which a signal's handler may raise an error.
         given.extend(map(read, (argument,)))
-    except (TimeoutError, socket.timeout):
+    except OSError as error:
         # It refuses that, since a reader that joins pieces has lost those before. Nothing was read here.
-        raw = getattr(file, "raw", file)
-        if isinstance(raw, socket.SocketIO) and hasattr(raw, "_timeout_occurred"):
-            raw._timeout_occurred = False
+        # Whoever has a socket has imported its module, which takes a tenth of a short program's time.
+        raw, socket = getattr(file, "raw", file), sys.modules.get("socket")
+        if socket and isinstance(error, (TimeoutError, socket.timeout)):
+            if isinstance(raw, socket.SocketIO) and hasattr(raw, "_timeout_occurred"):
+                raw._timeout_occurred = False
         raise
     if not given:
         raise RuntimeError("a source raised StopIteration")
