@@ -6,7 +6,7 @@
 #
 # FILE is - for standard input. A listing keeps the packets whose link header, which begins with the EtherType, says
 # IPv4 or IPv6: ARP, STP, LLDP, PPPoE and packets with a VLAN tag are left out. The 20 bytes of the link header are
-# removed; original lengths stay 20 bytes too long. Needs capkit in PATH. The status is 1 if FILE can't be read to its
+# removed; original lengths remain 20 bytes too long. Needs capkit in PATH. The status is 1 if FILE can't be read to its
 # end, or has another link type, 2 if the command line is wrong.
 set -euo pipefail
 [ $# = 1 ] || { echo 'usage: any.sh FILE > OUT' >&2 && exit 2; }

@@ -33,7 +33,7 @@ export SOURCE_DATE_EPOCH
 work=$(mktemp -d)
 trap 'rm -rf "$work"' EXIT
 
-# A link of a page to a file that isn't there becomes its text.
+# Replaces each link of a page to a missing file by the link's text.
 drop_dead_links() { # PAGE
     python3 - "$1" <<'END'
 import pathlib, re, sys
@@ -48,8 +48,8 @@ page.write_text(re.sub(r"\[([^][]*)\]\(([^)]*)\)", kept, page.read_text()))
 END
 }
 
-# Strips a program or a shared library, and prints what its package depends on. dpkg-shlibdeps knows only the machine's own
-# packages; for another one the newest version of glibc whose symbols the file takes says it.
+# Strips a program or a shared library, and prints what its package depends on. dpkg-shlibdeps knows only packages of this machine's
+# architecture; for another one the dependency is the newest version of glibc whose symbols the file uses.
 strip_for() { # FILE
     "${cross}strip" --strip-unneeded --remove-section=.comment --remove-section=.note "$1"
     if [ -n "$cross" ]; then
@@ -61,8 +61,8 @@ strip_for() { # FILE
     (cd "$work" && dpkg-shlibdeps -O "$1" | sed -n 's/^shlibs:Depends=//p')
 }
 
-# Makes a package of a tree with its name, with copyright and changelogs. Standard input has the fields of its control
-# file that these are not.
+# Makes a package of a tree, which has the package's name, and adds copyright and changelogs. Standard input has the remaining
+# fields of its control file.
 pack() { # TREE ARCHITECTURE
     documents=$1/usr/share/doc/${1##*/}
     install -D -m 644 -t "$documents" "$root/packaging/copyright"

@@ -36,7 +36,7 @@ STATED = {
 # What pages state more than once: all of them state the same.
 SAME = {
     "the first build, by the clock": r"(?:once: |\()(\d+ to \d+) minutes on\s+four cores|(\d+ to \d+) min by the clock, \d+ to \d+ CPU",
-    "the first build, in CPU minutes": r"(\d+ to \d+) CPU\s+min(?:utes \(|; the longest chain)",
+    "the first build, in CPU minutes": r"(\d+ to \d+)\s+CPU\s+min(?:utes\s+\(|; the longest chain)",
     "the first build's disk": r"([\d.]+) GB (?:of disk(?:\.| in )|in all)",
     "the gate, by the clock": r"(\d+ to \d+) min(?:utes on four cores\n| by the clock \|)",
     "a call of the launcher": r"launcher[^.|]*?(\d+\s+to \d+) ms",

@@ -27,7 +27,7 @@ FIELD_VALUE = re.compile(rf"(?<=[{{;])(\s*){WORD}(\s*=(?!=))")
 
 @dataclasses.dataclass
 class Piece:
-    """A part of an item that stands or falls by itself: a signature, one equation, one constructor."""
+    """A part of an item that is kept or dropped as a whole: a signature, one equation, one constructor."""
 
     text: str
     uses: set

@@ -34,7 +34,7 @@ class Rejected(Exception):
 
 
 class Unread(Exception):
-    """No expression."""
+    """The text isn't an expression."""
 
 
 def tokens(text):

@@ -30,14 +30,14 @@ ReturnsDecision Skip (Ok kept) = kept ≡ false
 ReturnsDecision Keep (Err fault) = ⊥
 ReturnsDecision Skip (Err fault) = ⊥
 
--- ---- which packets pass
+-- ---- which packets are kept
 
 -- by what a packet is judged: what an expression reads, or what a program returns
 pub data Rule : Type 0 where
   by_reading : (e : Expression) → Rule
   by_answer : (prog : List Insn) → Rule
 
--- a packet passes if an expression matches; one that is rejected doesn't
+-- a packet is kept if an expression matches; one that is rejected isn't
 abbrev pub decision_of : MatchResult → Decision
 decision_of Yes = Keep
 decision_of No = Skip
@@ -48,12 +48,12 @@ abbrev pub read_on : Expression → Option Link → Captured → Decision
 read_on e None p = Refuse LinkTypeNotFiltered
 read_on e (Some link) p = decision_of (holds e link p.bytes p.orig)
 
--- all packets pass the empty expression, even with link types that expressions aren't read on
+-- the empty expression keeps all packets, even of link types that expressions don't know
 abbrev pub expression_decides : Expression → Captured → Decision
 expression_decides empty p = Keep
 expression_decides (truth a) p = read_on (truth a) (link_of p.link) p
 
--- a packet passes if a program accepts it
+-- a packet is kept if a program accepts it
 abbrev pub answering : Progress → Decision
 answering (Answered answer count) = keep_if (not (answer == 0))
 answering _ = Skip

@@ -20,7 +20,7 @@ abbrev pub read_failures : {X : Type 0} → Result X Fault → ℕ
 read_failures (Err ReadFailed) = 1
 read_failures result = 0
 
--- the most bytes that are taken of a text that begins so: those of its unit, or if none begins,
+-- the most bytes that are taken of a file with this prefix: those of its unit, or if it has none,
 -- those of the longest unit
 abbrev pub most_taken : Front → ℕ
 most_taken (Whole size packets declared) = size

@@ -24,12 +24,12 @@ pub record Takes (unread buf : List ℕ) (n : ℕ) (unread' buf' : List ℕ) : T
   pub bytes : buf' ≡ take n unread ++ drop n buf
   pub rest : unread' ≡ drop n unread
 
--- one read that answered n: a buffer with room gets nothing only at the end
+-- one read that returned n: a buffer with room gets 0 bytes only at the end
 pub record TakesSome (unread buf : List ℕ) (n : ℕ) (unread' buf' : List ℕ) : Type 0 where
   pub taken : Takes unread buf n unread' buf'
   pub at_end : n ≡ 0 → 0 < length buf → unread ≡ []
 
--- one read; if it failed nothing moved
+-- one read; if it failed, nothing changed
 abbrev pub Reads : List ℕ → List ℕ → Result ℕ DeviceFault → List ℕ → List ℕ → Type 0
 Reads unread buf (Ok n) unread' buf' = TakesSome unread buf n unread' buf'
 Reads unread buf (Err fault) unread' buf' = (unread' ≡ unread) × (buf' ≡ buf)

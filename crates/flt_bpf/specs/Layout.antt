@@ -16,8 +16,8 @@ JUMP = 5
 abbrev pub MOST_OFFSET : ℕ
 MOST_OFFSET = 255
 
--- a conditional jump goes on at the jump at a place, and its target is too far from the
--- instruction after that one
+-- a conditional jump leads to the jump at a place, whose target is too far from the instruction
+-- after the conditional jump
 pub record IsNeeded (prog : List Insn) (place : ℕ) (jump : Insn) : Type 0 where
   pub from : ℕ
   pub branch : Insn

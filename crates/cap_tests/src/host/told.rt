@@ -37,8 +37,8 @@ const ENDINGS: [Ending; 6] = [
     ((None, FULL), None, TOLD),
 ];
 
-/// The message of a run is reported by one call, but if its reader went away, with the numbers of
-/// its control characters. No failed write is a success.
+/// The message of a run is written by one call, unless its reader went away, with control
+/// characters shown as numbers. A failed write is never a success.
 #[test]
 fn messages_of_runs_are_told(rt: HostRuntime) {
     for (causes, status, told) in ENDINGS {
@@ -117,7 +117,7 @@ fn refusal_of(alloc: Global, words: &str) -> Result<String, Fail> {
     Ok(text)
 }
 
-/// Advice that can be followed stays.
+/// Only advice that can be followed is shown.
 #[test]
 fn advice_that_fails_is_left_out(rt: HostRuntime) -> Result<(), Fail> {
     for (words, has_tip) in [
