@@ -34,8 +34,8 @@ pub record IsExpression (text : List ℕ) (e : Expression) : Type 0 where
   pub read : HasTree text tree
   pub settled : IsSettled tree e
 
--- the text is refused with the first of its faults: of its tokens (E1 to E4), their nesting (E6),
--- the grammar (E5), their tree
+-- the text is refused with the first of its faults: one of its tokens (E1 to E4), of their nesting
+-- (E6), of the grammar (E5) or of their tree
 pub data IsTextRefused (text : List ℕ) : ExprFault → Type 0 where
   by_tokens : {refusal : ExprFault} → Tokens text (Err refusal) → IsTextRefused text refusal
   too_deep : {tokens : List Token} → Tokens text (Ok tokens) → IsTooDeep tokens

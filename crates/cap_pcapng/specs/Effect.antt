@@ -101,7 +101,7 @@ abbrev pub HasEffect : Frame → List Described → List ℕ → BlockEffect →
 HasEffect frame interfaces block does =
     Enters frame interfaces block (packet_in_effect does) (interfaces_after does interfaces)
 
--- if the block has a packet, its spans are where the block has its data and options
+-- if the block has a packet, its spans are those of the data and options in the block
 abbrev pub LiesAsSaid : Parts → BlockEffect → Type 0
 LiesAsSaid parts (BlockEffect.Packet spans) = LieAsSaid parts spans
 LiesAsSaid parts other = Unit {0}
