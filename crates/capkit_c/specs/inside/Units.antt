@@ -25,7 +25,7 @@ pub record IsPlaced (declared : Declared) (text : List ℕ) (size : ℕ) (p : Un
   pub options : p.options_start + p.options_length ≤ size
   pub lies : UnitHas declared text (spans_of size p)
 
--- the packets of a unit: one, with its parts where they are, or none
+-- the packets of a unit: one whose parts lie there, or none
 abbrev pub ArePlaced : Declared → List ℕ → ℕ → Option UnitPacket → List Captured → Type 0
 ArePlaced declared text size None packets = packets ≡ []
 ArePlaced declared text size (Some p) packets =
