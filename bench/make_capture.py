@@ -1,6 +1,7 @@
 #!/usr/bin/env python3
-"""Writes a pcap file of made-up traffic, for measurements and tests: TCP, UDP, ICMP, ARP and IPv6 on Ethernet, in packets of 60
-to 200 bytes. The same number of packets gives the same bytes every time.
+"""Writes a pcap file of made-up traffic, for measurements and tests: TCP, UDP, ICMP, ARP and IPv6
+on Ethernet, in packets of 60 to 200 bytes. The same number of packets gives the same bytes every
+time.
 
 usage: make_capture.py FILE [PACKETS]        1,000,000 packets by default
 """
@@ -33,7 +34,7 @@ def address6():
 
 
 def ports():
-    """A server's port and a client's, in either order."""
+    """Returns a server's port and a client's, in either order."""
     server = rng.choice(COMMON_PORTS) if rng.random() < 0.4 else rng.randrange(1, 65536)
     both = [server, rng.randrange(1024, 65536)]
     rng.shuffle(both)
@@ -41,7 +42,7 @@ def ports():
 
 
 def transport(protocol, length):
-    """`length` bytes of a transport header and its payload."""
+    """Returns `length` bytes of a transport header and its payload."""
     source, destination = ports()
     if protocol == TCP:
         flags = rng.choice([0x10, 0x10, 0x10, 0x18, 0x02, 0x12, 0x11, 0x04])
@@ -61,6 +62,7 @@ def fragment_field():
 
 
 def ipv4(length):
+    """Returns an IPv4 packet of about this length."""
     protocol = rng.choices([TCP, UDP, ICMP, GRE], [62, 30, 5, 3])[0]
     # a third of the TCP packets have no payload
     is_empty = protocol == TCP and rng.random() < 0.35
@@ -84,7 +86,7 @@ def arp():
 
 
 def packet():
-    """A frame of Ethernet: IPv4 (78 %), IPv6 (16 %), ARP (4 %) or LLDP (2 %)."""
+    """Returns an Ethernet frame: IPv4 (78 %), IPv6 (16 %), ARP (4 %) or LLDP (2 %)."""
     length = rng.randrange(46, 187)
     kind = rng.random()
     if kind < 0.78:

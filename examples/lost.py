@@ -35,6 +35,7 @@ class Capture:
         self.lost, self.interfaces, self.used, self.seen = collections.Counter(), [], set(), set()
 
     def read(self, stream):
+        """Reads the blocks of a file up to its end or the first fault."""
         while (head := stream.read(12)) or not self.at:
             if head[:4] == b"\n\r\r\n":
                 self.order = ORDERS.get(head[8:])
@@ -50,6 +51,7 @@ class Capture:
             self.at += size
 
     def look(self, kind, body):
+        """Counts what `edit` would lose of a block."""
         if kind == SECTION:
             self.interfaces, self.used = [], set()
             self.options("section", body[16:])
@@ -83,6 +85,7 @@ class Capture:
         return held
 
     def packet(self, number, ticks):
+        """Counts what `edit` would lose of a packet of this interface."""
         need(number < len(self.interfaces), "unknown interface")
         link, snap, name, units = self.interfaces[number]
         self.lost["time digits"] += ticks * 10**9 % (units * 1000 ** (self.form == "pcap")) != 0

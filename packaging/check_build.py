@@ -13,7 +13,8 @@ import time
 
 ROOT = pathlib.Path(__file__).resolve().parent.parent
 CRATES = "low_a: byteorder|low_b:|middle: low_a|capkit_main: middle low_b clap|only_c: low_a|capkit_c staticlib: only_c"
-# rattle notes when it begins and ends, and wants the library of each crate below; as rattle-link does, it makes what -o names.
+# rattle notes when it begins and ends, and wants the library of each crate below; as rattle-link
+# does, it makes what -o names.
 KIT = """#!/bin/sh
 name=$3; [ "$1" != build ] || { echo "begin $name" >>"$NOTES"; sleep "${SLEEP-0.3}"; }
 for word; do case $word in *=*/out/rlib/*.rlib) [ -d "${word#*=}" ] || exit 9 ;; esac; done
@@ -55,15 +56,25 @@ def tries():
     yield "it is built once", end(begin()) == (runs, "", [])
     library = sys.executable, top / "packaging/build.py", "capkit_c", top / "library/out/it.a"
     done, _, noted = end(begin(*library))
-    yield "the library is built, of its own crates", done == (0, "") and noted[::2] == ["begin only_c", "begin capkit_c"]
+    yield (
+        "the library is built, of its own crates", done == (0, "") and noted[::2] == ["begin only_c", "begin capkit_c"]
+    )
     yield "it is built once too, and the program stays", end(begin(*library))[2] + end(begin())[2] == []
     module = *library[:3], top / "out/it.wasm", "wasm64-unknown-unknown"
     done, _, noted = end(begin(*module))
-    yield "a module is built of the same crates", done == (0, "") and noted[::2] == ["begin capkit_c"] and module[3].exists()
+    yield (
+        "a module is built of the same crates",
+        done == (0, "") and noted[::2] == ["begin capkit_c"] and module[3].exists(),
+    )
     copy = top / "out/wasm64-unknown-unknown/capkit_c/src"
-    yield "without the calls of malloc", [(it.name, it.read_text()) for it in copy.iterdir()] == [("lib.rt", "mod other;\n")]
+    yield (
+        "without the calls of malloc",
+        [(it.name, it.read_text()) for it in copy.iterdir()] == [("lib.rt", "mod other;\n")],
+    )
     first = changed("low_b", SLEEP="2")
-    is_free = [not subprocess.run(["flock", "-n", top / "crates" / it, "true"]).returncode for it in ("low_b", "only_c")]
+    is_free = [
+        not subprocess.run(["flock", "-n", top / "crates" / it, "true"]).returncode for it in ("low_b", "only_c")
+    ]
     yield "runs of rt wait for what is proved, and for nothing else", is_free == [False, True]
     done, messages, noted = end(begin())
     yield "a second call waits, says so and runs", done == runs and "this one waits" in messages

@@ -43,5 +43,5 @@ class Program:
         self.instructions = program.instructions
 
     def texts(self):
-        """Each instruction as `tcpdump -d` prints it."""
+        """Returns each instruction as `tcpdump -d` prints it."""
         return [self.filter.text(place) for place in range(len(self.instructions))]

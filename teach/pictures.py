@@ -15,7 +15,7 @@ def width_of(text):
 
 
 def svg(width, height, name, parts):
-    """A picture with a name, which a screen reader says."""
+    """Returns a picture with a name for screen readers."""
     return (
         f'<svg xmlns="http://www.w3.org/2000/svg" role="img"'
         f' aria-label="{html.escape(name)}" viewBox="0 0 {width} {height}"'
@@ -24,7 +24,7 @@ def svg(width, height, name, parts):
 
 
 def box(x, y, width, text, attributes):
-    """A box with a text, whose middle is at a height."""
+    """Returns a box with a text, whose middle is at this height."""
     return (
         f'<g {attributes}><rect x="{x}" y="{y - BOX / 2:g}" width="{width}"'
         f' height="{BOX}" rx="4"/><text x="{x + 6}" y="{y + 4.5:g}">{html.escape(text)}</text></g>'
@@ -35,7 +35,7 @@ def box(x, y, width, text, attributes):
 
 
 def ways_of(insn, place):
-    """The ways from an instruction: (the index there, "yes", "no" or "next")."""
+    """Returns the ways from an instruction: (the index there, "yes", "no" or "next")."""
     code, jt, jf, k = insn
     if code & CLASS == RETURN:
         return []
@@ -47,7 +47,7 @@ def ways_of(insn, place):
 
 
 def lanes_of(instructions):
-    """The jumps past the next instruction, gathered by their kind and their target, each in a lane.
+    """Returns the jumps past the next instruction, gathered by their kind and their target, each in a lane.
 
     A lane is next to others that it overlaps with: {(kind, target): (lane, first place, sources)}.
     """
@@ -84,7 +84,7 @@ def y_of(place):
 
 
 def short_text(text):
-    """An instruction's text without its targets, which the lines show."""
+    """Returns an instruction's text without its targets, which the lines show."""
     return " ".join(text.split("jt")[0].split())
 
 
@@ -101,7 +101,7 @@ class Flow:
         self.width = self.end + LANE * (right + 1) + 4 + MARGIN
 
     def parts(self):
-        """The lines, and a box for each instruction."""
+        """Yields the lines, and a box for each instruction."""
         parts = [self.jumps(*key, *lane) for key, lane in self.lanes.items()]
         for place, (insn, text) in enumerate(zip(self.instructions, self.texts)):
             parts.append(self.steps(place))
@@ -109,7 +109,7 @@ class Flow:
         return parts
 
     def steps(self, place):
-        """The short lines from an instruction to the one right below."""
+        """Yields the short lines from an instruction to the one right below."""
         x, y = self.x + self.box_width / 2, y_of(place) + BOX / 2
         return "".join(
             f'<path class="{kind}" d="M{x:g} {y:g}v{ROW - BOX}"/>'
@@ -118,7 +118,7 @@ class Flow:
         )
 
     def jumps(self, kind, target, lane, start, sources):
-        """The lines of jumps to one target: each to a rail, and the rail from the first on."""
+        """Returns the lines of jumps to one target: from each to a rail, and the rail from the first on."""
         is_left = side_of(kind) == "left"
         edge = self.x if is_left else self.end
         rail = self.x - LANE * (lane + 1) - 4 if is_left else self.end + LANE * (lane + 1) + 4
@@ -130,13 +130,13 @@ class Flow:
 
 
 def flow_picture(program, name):
-    """The picture of a program's ways."""
+    """Returns the picture of a program's ways."""
     flow, count = Flow(program), len(program.instructions)
     return svg(flow.width, 2 * MARGIN + ROW * count, name, flow.parts())
 
 
 def return_class(insn):
-    """A return that keeps, and one that doesn't, look different."""
+    """Returns the style of a return: one for keeping the packet, another for not."""
     if insn.code & CLASS != RETURN or insn.code & 0x18:
         return ""
     return " keeps" if insn.k else " drops"

@@ -1,5 +1,6 @@
 #!/usr/bin/env python3
-"""Prints the path of the program that the launcher built last. Scripts call it directly, since the launcher takes 40 to 80 ms.
+"""Prints the path of the program that the launcher built last. Scripts call it directly, since the
+launcher takes 40 to 80 ms.
 
 usage: built.py
 """

@@ -1,13 +1,15 @@
 #!/usr/bin/env python3
-"""Runs capkit in a shell over real files, devices, pipes and terminals, and compares the files afterwards with what they must be.
-For whoever changes how files are opened, written or removed: contracts can't see that.
+"""Runs capkit in a shell over real files, devices, pipes and terminals, and compares the files
+afterwards with what they must be. For whoever changes how files are opened, written or removed:
+contracts can't see that.
 
 usage: check_files.py [--capkit PROGRAM]
 
-Each case runs in its own folder with a copy of samples/. It has a shell line, its status, its standard error, and files with
-their contents: bytes, the name of a sample (unchanged), or None (no such file). A case on a terminal has a line over an input
-that takes three seconds, the terminal's name, and whether progress must be shown. Each mistake is tried with each kind of
-output, which must be unchanged.
+Each case runs in its own folder with a copy of samples/. It has a shell line, its status, its
+standard error, and files with their contents: bytes, the name of a sample (unchanged), or None (no
+such file). A case on a terminal has a line over an input that takes three seconds, the terminal's
+name, and whether progress must be shown. Each mistake is tried with each kind of output, which must
+be unchanged.
 """
 import argparse
 import fcntl
@@ -47,8 +49,10 @@ CASES = [
     # What others do meanwhile with the file that a run created isn't undone.
     *[(f"mkfifo in; {{ until test -e out; do sleep 0.01; done; {others}; echo text; }} > in & capkit edit in out; s=$?; wait; "
        "exit $s", 1, "capkit: in: offset 0: not a capture file\n", files)
-      for others, files in [("rm out; : > out", {"out": b""}), ("rm out", {"out": None}), ("printf more > out", {"out": b"more"}),
-                            ("mv out moved; ln -s moved out", {"moved": None}), ("mv out moved; mkfifo out", {"moved": b""})]],
+      for others, files in [("rm out; : > out", {"out": b""}), ("rm out", {"out": None}),
+                            ("printf more > out", {"out": b"more"}),
+                            ("mv out moved; ln -s moved out", {"moved": None}),
+                            ("mv out moved; mkfifo out", {"moved": b""})]],
     ("cat day.pcap day.pcap > out; capkit edit -F pcap day.pcap out", 0, "", {"out": "day.pcap"}),
     ("printf keep > kept; ln -s kept out; capkit edit -F pcap day.pcap out", 0, "", {"kept": "day.pcap"}),
     ("mkfifo pipe; cat pipe > out & capkit edit -F pcap day.pcap pipe; s=$?; wait; exit $s", 0, "", {"out": "day.pcap"}),
@@ -69,7 +73,8 @@ CASES = [
     ("capkit edit -F pcap day.pcap - > out", 0, "", {"out": "day.pcap", "day.pcap": "day.pcap"}),
     ("capkit edit -F pcap - - < day.pcap | cat > out", 0, "", {"out": "day.pcap"}),
     ("capkit print - < /dev/null > /dev/null", 1, "capkit: -: offset 0: not a capture file\n", {}),
-    # What is known of a pipe is written to a pipe before more is waited for: lines, packets, and reports of files before.
+    # What is known of a pipe is written to a pipe before more is waited for: lines, packets, and
+    # reports of files before.
     (f"{WAITING} | capkit print - | {FIRST} > out", 0, "", {"out": b"1\n"}),
     (f"{WAITING} | capkit edit -F pcap - - | capkit print - | {FIRST} > out", 0, "", {"out": b"1\n"}),
     (f"mkfifo in; {WAITING} > in & capkit merge -F pcap -w - in | capkit print - | {FIRST} > out", 0, "", {"out": b"1\n"}),
@@ -111,7 +116,8 @@ CASES = [
 
 NOT_A_CAPTURE = (1, "capkit: wrong: offset 0: not a capture file\n")
 TRUNCATED = (1, "capkit: wrong: offset 24: truncated\n")
-INPUT = ["edit wrong OUT", "merge -w OUT wrong day.pcap", "merge -w OUT day.pcap wrong", "merge -a -w OUT wrong day.pcap",
+INPUT = ["edit wrong OUT", "merge -w OUT wrong day.pcap", "merge -w OUT day.pcap wrong",
+         "merge -a -w OUT wrong day.pcap",
          "print -w OUT wrong", "print --code listing -w OUT wrong", "print -c 1 -w OUT wrong tcp port 80"]
 
 # What makes the mistake, the status and the message, and the commands that make it.
@@ -157,7 +163,7 @@ OUTPUTS = [
 
 
 def differences_after_mistake(program, make, status, message, command, output):
-    """What differs after a command that makes a mistake was run with an output."""
+    """Returns the differences after a command that makes a mistake was run with an output."""
     name, make_output, as_it_was, may_be_refused = output
     command = command.replace("OUT", name)
     line = f"capkit compile tcp > listing; {make_output}; {make}; capkit {command}; s=$?; {as_it_was} || exit 99; exit $s"
@@ -168,7 +174,7 @@ def differences_after_mistake(program, make, status, message, command, output):
 
 
 def differences_without_memory(program):
-    """What differs if memory runs out at any place of a run."""
+    """Yields the differences if memory runs out at any place of a run."""
     with tempfile.TemporaryDirectory() as folder:
         out = pathlib.Path(folder) / "out"
         ends = {}
@@ -199,7 +205,7 @@ TERMINAL_CASES = [
 
 
 def differences_on_terminal(program, line, name, is_shown):
-    """What differs on a terminal of that name, which is the line's standard error and its controlling terminal."""
+    """Returns the differences on a terminal of that name, which is standard error and the controlling terminal."""
     with tempfile.TemporaryDirectory() as folder:
         here = pathlib.Path(folder)
         variables = folder_with(here, program)
@@ -221,11 +227,12 @@ def differences_on_terminal(program, line, name, is_shown):
 
 
 def differences(program, line, status, message, files):
-    """What differs after the line was run."""
+    """Returns the differences between the files that a line wrote and those that it should write."""
     with tempfile.TemporaryDirectory() as folder:
         here = pathlib.Path(folder)
         variables = folder_with(here, program)
-        run = subprocess.run(["bash", "-c", line], cwd=here, env=variables, capture_output=True, stdin=subprocess.DEVNULL,
+        run = subprocess.run(["bash", "-c", line], cwd=here, env=variables, capture_output=True,
+                             stdin=subprocess.DEVNULL,
                              timeout=60)
         if run.returncode != status:
             yield f"status {run.returncode}, not {status}"

@@ -82,14 +82,16 @@ class Capture:
         return struct.pack(self.order + "II", kind, size) + body + struct.pack(self.order + "I", size)
 
     def packets(self, ranges=()):
-        """The packets, each with whether a byte of it, or of what is before all, is in a range."""
+        """Yields the packets, each with whether one of its bytes, or of the bytes before the first
+        packet, is in a range.
+        """
         is_all = any(begin < self.first for begin, end in ranges)
         return [(packet, is_all or any(low < end and begin < high for low, high in ranges))
                 for begin, end, packet in self.units]
 
 
 def packets_of(path):
-    """The packets of a pcap file with nanoseconds, lowest byte first."""
+    """Returns the packets of a little-endian pcap file in nanoseconds."""
     data = path.read_bytes() if path.exists() else b""
     packets, at = [], 24
     while at + 16 <= len(data):
@@ -112,7 +114,7 @@ def snapped(chance, pool):
 
 
 def jumping(chance, pool):
-    """A clock that is set: some times, each time, or once from 1970."""
+    """Changes times as if the clock had been set: some times, each time, or once from 1970."""
     packets, odds, found = plain(chance, pool), chance.choice((0.01, 0.3, 1)), []
     shift = -packets[0][0]
     for when, *rest in packets:
@@ -122,7 +124,7 @@ def jumping(chance, pool):
 
 
 def merged(chance, pool):
-    """Captures of other years, in turn."""
+    """Returns captures of several years, merged in turn."""
     packets, years = plain(chance, pool), [chance.randrange(10**9, 17 * 10**8) for _ in range(5)]
     return [(when % 10**15 + years[chance.randrange(5)] * 10**9, *rest) for when, *rest in packets]
 
@@ -135,7 +137,7 @@ def texts(chance, pool):
 
 
 def unset(chance, pool):
-    """A clock that wasn't set: all times are 0, or from 1970 on."""
+    """Changes times as if the clock had never been set: all are 0, or begin in 1970."""
     maker, begin = chance.choice((plain, snapped, numbers)), chance.choice((0, 0, chance.randrange(10**6)))
     packets, is_zero = maker(chance, pool), chance.random() < 0.5
     first = packets[0][0] - begin * 10**9
@@ -172,7 +174,7 @@ def whole(one):
 
 
 def place(chance, one):
-    """A place in a capture, for some in its packets' headers."""
+    """Returns a random offset in a capture, for some inside a packet's header."""
     if chance.random() < 0.3:
         return chance.choice(one.units)[0] + chance.randrange(16)
     return chance.randrange(len(one.data))
@@ -211,14 +213,14 @@ def zeros_at_end(chance):
 
 
 def page(chance, one):
-    """The start and the end of a page of a capture."""
+    """Returns the start and the end of a page of a capture."""
     size = chance.choice((512, 4096, 16384))
     begin = chance.randrange(len(one.data)) // size * size
     return begin, min(begin + size, len(one.data))
 
 
 def paged(chance, new):
-    """Other bytes in place of a page."""
+    """Replaces a page by other bytes."""
     one = capture(chance)
     begin, end = page(chance, one)
     return replaced(one, begin, end, new(end - begin))
@@ -241,7 +243,7 @@ def two_writers(chance):
 
 
 def changed(chance, most, mask):
-    """Some bytes with other bits."""
+    """Changes bits in some bytes."""
     one, ranges = capture(chance), []
     for _ in range(chance.randrange(1, most)):
         at = place(chance, one)
@@ -257,7 +259,7 @@ def truncated(chance):
 
 
 def length_broken(chance):
-    """One of the length fields of one to three packets."""
+    """Changes one of the length fields of one to three packets."""
     one, ranges = capture(chance), []
     for _ in range(chance.randrange(1, 4)):
         begin, end, _ = chance.choice(one.units)
@@ -293,12 +295,12 @@ def overwritten(chance, one=None):
 
 
 def cuts_at(one, *places):
-    """What a cut damages: a packet, if the place isn't between two."""
+    """Returns what a cut damages: a packet, unless the cut is between two."""
     return [(place - 1, place + 1) for place in places if place < one.first or place not in one.starts]
 
 
 def in_pieces(chance, change):
-    """One to four pieces of a capture changed: how returns the new bytes, and what is damaged."""
+    """Changes one to four pieces of a capture: `change` returns the new bytes, and what is damaged."""
     one, data, damaged, at = capture(chance), b"", [], 0
     places = sorted(place(chance, one) for _ in range(2 * chance.randrange(1, 5)))
     for begin, end in zip(places[::2], places[1::2]):
@@ -345,7 +347,7 @@ def exchanged(chance):
 
 
 def start_gone(chance):
-    """The first bytes overwritten, missing, or after others."""
+    """Overwrites or removes the first bytes, or puts others before them."""
     one, size = capture(chance), chance.randrange(1, 2000)
     size = min(size, len(one.data))
     new = chance.choice((b"", bytes(size), chance.randbytes(size), one.data[:size]))
@@ -354,15 +356,16 @@ def start_gone(chance):
 
 
 def beginning_gone(chance):
-    """The first bytes missing, with another file that begins in the same way."""
+    """Removes the first bytes, and returns another capture too, whose file header is the same."""
     one, size = capture(chance), chance.randrange(1, 3000)
     other = Capture(plain(chance, pool)[: chance.choice((0, 1, 50))], one.form)
     return one.data[size:], one.packets([(one.first, max(size, one.first))]), other.data
 
 
 def carried(chance):
-    """A capture that packets carry, of up to a day before them; damage stands right before one of those, for some
-    before that with the file header."""
+    """Makes a capture whose packets carry another capture, up to a day older; damage is right
+    before one of them, for some before one with the file header.
+    """
     form = chance.choice(FORMS)
     own = [chance.choice(pool)]
     later = 0 if own[0][0][0] > 10**17 else 15 * 10**17  # a clock that wasn't set
@@ -408,7 +411,7 @@ KINDS = {
 # ---- comparison
 
 def marks(packet, times):
-    """What a packet has that shows it, even if its bytes were damaged."""
+    """Returns bytes of a packet that identify it, even if others of its bytes were damaged."""
     when, original, data = packet
     size = len(data)
     yield "time", when, size if times[when] > 1 else None
@@ -423,7 +426,7 @@ def marks(packet, times):
 
 
 def counts(read, packets, is_timed):
-    """How many of the packets that were read are true, again, changed and false; how many are missed."""
+    """Returns how many of the packets read are true, repeated, changed and false, and how many are missed."""
     key = (lambda it: it) if is_timed else (lambda it: it[1:])
     left = collections.Counter(key(packet) for packet, _ in packets)
     known = set(left)
@@ -540,7 +543,7 @@ def keep(faults, given, name, data):
 
 
 def try_sample(name, given):
-    """A sample whole in each format, as capkit's edit writes it, and its first 0 to 200 bytes."""
+    """Runs a sample whole in each format, as capkit's edit writes it, and without up to 200 of its first bytes."""
     data, faults = (ROOT / "samples" / name).read_bytes(), []
     with tempfile.TemporaryDirectory() as temporary:
         source, own, edited = (pathlib.Path(temporary) / it for it in ("in", "own", "edited"))
@@ -566,7 +569,7 @@ def try_sample(name, given):
 
 
 def captures_in(folder, path):
-    """The packets of each capture in a folder that has eight or more, each of a length."""
+    """Yields the packets of each capture in a folder that has eight or more, of various lengths."""
     for name in sorted(pathlib.Path(folder).iterdir()):
         done = subprocess.run(["capkit", "edit", "-F", "nsecpcap", name, path], capture_output=True)
         packets = packets_of(path) if done.returncode == 0 else []

@@ -13,7 +13,7 @@ chance = random.Random(1)
 
 
 def address(start):
-    """One of the few addresses that expressions ask for."""
+    """Returns one of the few addresses that expressions ask for."""
     return start + bytes([chance.randrange(3)])
 
 
@@ -22,7 +22,7 @@ def ports():
 
 
 def frame(size):
-    """An Ethernet packet of some bytes, with what expressions ask for as far as it reaches."""
+    """Returns an Ethernet packet of some bytes, with fields that expressions ask for as far as it reaches."""
     packet = bytearray(chance.randbytes(size))
     kind = chance.choice((IPV4, IPV4, IPV6, ARP, RARP, VLAN))
     if size >= 14:

@@ -44,11 +44,12 @@ def is_one_in(count):
 
 
 def value(it):
-    """A value; a number in any of its forms."""
+    """Returns a value; a number in any of its forms."""
     return it if isinstance(it, str) else pick(["{}", "{}", "{}", "{:#x}", "0{:o}"]).format(it)
 
 
 def atom(depth):
+    """Returns an operand of arithmetic."""
     sign, kind = "-" * is_one_in(8), chance.randrange(8 if depth else 6)
     if kind == 0:
         return sign + value(chance.getrandbits(32) if is_one_in(8) else chance.randrange(70))
@@ -77,7 +78,7 @@ class Expression:
         self.values, self.is_after_group, self.inherits_over_group = KINDS[0][2], False, False
 
     def valued(self):
-        """A value after its qualifiers. A host needs no type if it has a direction."""
+        """Returns a value after its qualifiers. A host needs no type if it has a direction."""
         kind, protocols, self.values = pick(KINDS)
         self.is_after_group = False
         way = pick(WAYS) if kind != "proto" and is_one_in(2) else ""
@@ -85,6 +86,7 @@ class Expression:
         return pick(protocols) + way + type_word + value(pick(self.values))
 
     def primary(self):
+        """Returns a primitive."""
         kind = chance.randrange(8)
         if kind < 2:
             return pick((WORDS, CASTS)[kind])
@@ -98,6 +100,7 @@ class Expression:
         return self.valued()
 
     def operand(self, depth):
+        """Returns an operand of `and` and `or`."""
         sign = pick(["not ", "!", "not not "]) if is_one_in(4) else ""
         if not depth or not is_one_in(4):
             return sign + self.primary()

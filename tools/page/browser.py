@@ -4,8 +4,8 @@
         browser.open(path)
         browser.value("document.title")
 
-Chromium's commands go to chromedriver (chromium-driver). Firefox takes them itself, by its protocol Marionette. What a page saves is in
-the folder.
+Chromium's commands go to chromedriver (chromium-driver). Firefox takes them itself, by its protocol
+Marionette. What a page saves is in the folder.
 """
 import base64
 import json
@@ -24,8 +24,16 @@ SECONDS = 120
 # An address at which nothing listens, for pages that try to fetch something.
 NOWHERE = "http://127.0.0.1:8099/"
 # Of a machine without a display, and of root, whose processes Chromium doesn't put into a sandbox.
-OPTIONS = ["--headless=new", "--no-sandbox", "--disable-gpu", "--disable-background-networking", "--hide-scrollbars", "--force-color-profile=srgb"]
-KEYS = {"Tab": "\ue004", "Enter": "\ue007", "Space": " ", "PageUp": "\ue00e", "PageDown": "\ue00f", "End": "\ue010", "Home": "\ue011",
+OPTIONS = [
+    "--headless=new",
+    "--no-sandbox",
+    "--disable-gpu",
+    "--disable-background-networking",
+    "--hide-scrollbars",
+    "--force-color-profile=srgb",
+]
+KEYS = {"Tab": "\ue004", "Enter": "\ue007", "Space": " ", "PageUp": "\ue00e", "PageDown": "\ue00f", "End": "\ue010",
+        "Home": "\ue011",
         "ArrowUp": "\ue013", "ArrowDown": "\ue015"}
 
 
@@ -39,8 +47,12 @@ class Browser:
     """What both have. `send` passes on a command by its name in WebDriver and in Marionette, with its parameters."""
 
     def __init__(self, folder):
-        self.folder, self.port, self.profile = pathlib.Path(folder).resolve(), free_port(), tempfile.mkdtemp(prefix="page-")
-        self.process = subprocess.Popen(self.command(), stdout=subprocess.DEVNULL, stderr=subprocess.DEVNULL, start_new_session=True)
+        self.folder, self.port, self.profile = (
+            pathlib.Path(folder).resolve(), free_port(), tempfile.mkdtemp(prefix="page-")
+        )
+        self.process = subprocess.Popen(
+            self.command(), stdout=subprocess.DEVNULL, stderr=subprocess.DEVNULL, start_new_session=True
+        )
         try:
             self.begin()
         except BaseException:
@@ -51,6 +63,7 @@ class Browser:
         return self
 
     def __exit__(self, *_):
+        """Ends the browser, and removes its profile."""
         try:
             os.killpg(self.process.pid, signal.SIGKILL)
         except ProcessLookupError:
@@ -74,8 +87,10 @@ class Browser:
         self.send("url", "WebDriver:Navigate", url=pathlib.Path(path).resolve().as_uri() + address)
 
     def value(self, expression, *arguments):
-        """What an expression of JavaScript is in the page; a promise is waited for."""
-        return self.send("execute/sync", "WebDriver:ExecuteScript", script=f"return ({expression})", args=list(arguments))
+        """Returns the value of a JavaScript expression in the page, after its promise if it is one."""
+        return self.send(
+            "execute/sync", "WebDriver:ExecuteScript", script=f"return ({expression})", args=list(arguments)
+        )
 
     def wait(self, condition, *arguments):
         end = time.monotonic() + SECONDS
@@ -87,7 +102,9 @@ class Browser:
     def keys(self, *keys):
         """Presses keys and lets them go."""
         pressed = [{"type": kind, "value": KEYS.get(key, key)} for key in keys for kind in ("keyDown", "keyUp")]
-        self.send("actions", "WebDriver:PerformActions", actions=[{"type": "key", "id": "keyboard", "actions": pressed}])
+        self.send(
+            "actions", "WebDriver:PerformActions", actions=[{"type": "key", "id": "keyboard", "actions": pressed}]
+        )
 
     def click(self, selector):
         """Scrolls to an element and clicks into its middle, as a mouse does."""
@@ -102,12 +119,12 @@ class Browser:
         self.send(f"element/{found[ELEMENT]}/{name}", marionette, id=found[ELEMENT], **parameters)
 
     def names(self, selector):
-        """What a screen reader calls these elements."""
+        """Returns the names that a screen reader uses for these elements."""
         found = self.send("elements", "WebDriver:FindElements", using="css selector", value=selector)
         return [self.name(it[ELEMENT]) for it in found]
 
     def printed(self):
-        """The page on paper, as a PDF file."""
+        """Returns the page on paper, as a PDF file."""
         return base64.b64decode(self.send("print", "WebDriver:Print"))
 
 
@@ -116,7 +133,9 @@ class Chromium(Browser):
         return [shutil.which("chromedriver") or "chromedriver", f"--port={self.port}"]
 
     def begin(self):
-        options = {"args": [*OPTIONS, f"--user-data-dir={self.profile}"], "binary": shutil.which("chromium") or "chromium"}
+        options = {
+            "args": [*OPTIONS, f"--user-data-dir={self.profile}"], "binary": shutil.which("chromium") or "chromium"
+        }
         wanted = {"goog:chromeOptions": options, "goog:loggingPrefs": {"browser": "ALL", "performance": "ALL"}}
         self.at = f"http://127.0.0.1:{self.port}/session"
         begun = self.again(lambda: self.post("", capabilities={"alwaysMatch": wanted}))
@@ -129,6 +148,7 @@ class Chromium(Browser):
         return self.ask(path, json.dumps(parameters).encode())
 
     def ask(self, path, data=None):
+        """Sends a request to the driver, and returns the value of its response."""
         request = urllib.request.Request(self.at + path, data, {"Content-Type": "application/json"})
         try:
             with urllib.request.urlopen(request, timeout=2 * SECONDS) as answer:
@@ -148,7 +168,7 @@ class Chromium(Browser):
         self.call("Emulation.setDeviceMetricsOverride", width=width, height=height, deviceScaleFactor=1, mobile=False)
 
     def media(self, name="", scheme=""):
-        """For what the page is laid out, as "print"; and what its reader prefers, as "dark"."""
+        """Sets the medium of the page, such as "print", and the scheme that its reader prefers, such as "dark"."""
         features = [{"name": "prefers-color-scheme", "value": scheme}] if scheme else []
         self.call("Emulation.setEmulatedMedia", media=name, features=features)
 
@@ -156,15 +176,25 @@ class Chromium(Browser):
         return self.post("/se/log", type=kind)
 
     def faults(self):
-        """Errors and warnings of pages since this was asked last."""
+        """Returns the errors and warnings of pages since the last call."""
         return [it["message"] for it in self.log("browser") if it["level"] in ("SEVERE", "WARNING")]
 
     def fetched(self):
-        """The addresses that pages asked for since this was asked last, but files and what they made themselves."""
+        """Returns the addresses that pages fetched since the last call, except files and those that
+        they made themselves.
+        """
         events = [json.loads(it["message"])["message"] for it in self.log("performance")]
         blocked = {it["params"]["requestId"] for it in events if it["params"].get("blockedReason") == "csp"}
-        asked = [it["params"] for it in events if it["method"] == "Network.requestWillBeSent" and it["params"]["requestId"] not in blocked]
-        return [url for it in asked if not (url := it["request"]["url"]).startswith(("file:", "blob:", "about:", "data:", "chrome:"))]
+        asked = [
+            it["params"]
+            for it in events
+            if it["method"] == "Network.requestWillBeSent" and it["params"]["requestId"] not in blocked
+        ]
+        return [
+            url
+            for it in asked
+            if not (url := it["request"]["url"]).startswith(("file:", "blob:", "about:", "data:", "chrome:"))
+        ]
 
     def name(self, element):
         return self.ask(f"/element/{element}/computedlabel")
@@ -215,16 +245,21 @@ class Firefox(Browser):
     })(arguments[0])"""
 
     def command(self):
-        wanted = {"marionette.port": self.port, "browser.download.dir": str(self.folder), "browser.download.folderList": 2,
-                  "browser.helperApps.neverAsk.saveToDisk": "application/octet-stream", "browser.download.alwaysOpenPanel": False,
-                  "browser.shell.checkDefaultBrowser": False, "datareporting.policy.dataSubmissionEnabled": False}  # fmt: skip
+        wanted = {"marionette.port": self.port, "browser.download.dir": str(self.folder),
+                  "browser.download.folderList": 2,
+                  "browser.helperApps.neverAsk.saveToDisk": "application/octet-stream",
+                  "browser.download.alwaysOpenPanel": False,
+                  "browser.shell.checkDefaultBrowser": False,
+                  "datareporting.policy.dataSubmissionEnabled": False}  # fmt: skip
         lines = "".join(f"user_pref({json.dumps(name)}, {json.dumps(value)});\n" for name, value in wanted.items())
         pathlib.Path(self.profile, "user.js").write_text(lines)
         words = ["--headless", "--marionette", "--remote-allow-system-access", "--profile", self.profile]
         return [shutil.which("firefox-esr") or shutil.which("firefox") or "firefox-esr", *words]
 
     def begin(self):
-        self.count, self.socket = 0, self.again(lambda: socket.create_connection(("127.0.0.1", self.port), timeout=2 * SECONDS))
+        self.count, self.socket = (
+            0, self.again(lambda: socket.create_connection(("127.0.0.1", self.port), timeout=2 * SECONDS))
+        )
         self.received = self.socket.makefile("rb")
         self.message()
         self.send("", "WebDriver:NewSession", capabilities={})
@@ -261,15 +296,17 @@ class Firefox(Browser):
         self.wait("innerWidth === arguments[0] && innerHeight === arguments[1]", width, height)
 
     def media(self, name="", scheme=""):
-        """For what the page is laid out, as "print"; and what its reader prefers, as "dark"."""
+        """Sets the medium of the page, such as "print", and the scheme that its reader prefers, such as "dark"."""
         self.own(self.MEDIA, name, scheme)
 
     def faults(self):
-        """Errors and warnings of pages since this was asked last."""
+        """Returns the errors and warnings of pages since the last call."""
         return self.own("return window.faults.splice(0)")
 
     def fetched(self):
-        """The addresses that pages asked for since this was asked last, but files and what they made themselves."""
+        """Returns the addresses that pages fetched since the last call, except files and those that
+        they made themselves.
+        """
         return self.own("return window.fetched.splice(0)")
 
     def name(self, element):

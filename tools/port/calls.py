@@ -3,9 +3,10 @@
 
 usage: calls.py LIBCAPKIT.SO OUT [SEED]
 
-Some expressions are refused or damaged, some programs are damaged, and captures are samples with flipped bits, cuts and inserted
-bytes. Every buffer is recorded before and after the call, with its padding. The record of a call: its name, whether its result has
-64 bits, its number of arguments, which of these are buffers (a bit each), the arguments (numbers, or length and bytes), the result,
+Some expressions are refused or damaged, some programs are damaged, and captures are samples with
+flipped bits, cuts and inserted bytes. Every buffer is recorded before and after the call, with its
+padding. The record of a call: its name, whether its result has 64 bits, its number of arguments,
+which of these are buffers (a bit each), the arguments (numbers, or length and bytes), the result,
 and the buffers after it. Numbers have 64 bits.
 """
 import ctypes
@@ -39,10 +40,13 @@ class Calls:
         self.out.write(data)
 
     def __call__(self, name, *given, wide=False):
-        """Makes a call: numbers are passed as they are, bytes as a buffer. Returns the result and the buffers after the call."""
+        """Makes a call, with numbers by value and bytes in a buffer; returns the result and the buffers after it."""
         function = getattr(self.library, name)
         function.restype = ctypes.c_uint64 if wide else ctypes.c_uint32
-        passed = [ctypes.c_uint64(it) if isinstance(it, int) else ctypes.create_string_buffer(bytes(it), max(len(it), 1)) for it in given]
+        passed = [
+            ctypes.c_uint64(it) if isinstance(it, int) else ctypes.create_string_buffer(bytes(it), max(len(it), 1))
+            for it in given
+        ]
         self.block(name.encode())
         for value in (wide, len(given), sum(not isinstance(it, int) and 1 << place for place, it in enumerate(given))):
             self.number(value)
@@ -62,7 +66,7 @@ class Calls:
 
 
 def expressions(chance, count):
-    """Random expressions, one in five with a byte changed, and some that are refused for their size."""
+    """Yields random expressions, one in five with a changed byte, and some that are refused for their size."""
     script = [sys.executable, ROOT / "library/tests/random_expressions.py", str(chance.randrange(1000))]
     with subprocess.Popen(script, stdout=subprocess.PIPE) as process:
         for line in itertools.islice(process.stdout, count):
@@ -71,7 +75,16 @@ def expressions(chance, count):
                 text[chance.randrange(len(text))] = chance.randrange(256)
             yield bytes(text)
         process.terminate()
-    yield from (b"", b"tcp prot", "é".encode(), b"tcp port 80", b"ip[0:4] / ip[4] = 3", b"len << 3 > 100", b"9" * 30, b"(" * 200 + b"tcp" + b")" * 200)
+    yield from (
+        b"",
+        b"tcp prot",
+        "é".encode(),
+        b"tcp port 80",
+        b"ip[0:4] / ip[4] = 3",
+        b"len << 3 > 100",
+        b"9" * 30,
+        b"(" * 200 + b"tcp" + b")" * 200,
+    )
 
 
 def call_compiler(calls, chance):
