@@ -84,7 +84,7 @@ EXPRESSIONS = {
 }
 
 
-# What floor.c does in place of a job; IN are the job's captures.
+# The words of floor.c for a job; IN are the job's captures.
 FLOOR = {
     "copy-pcap": ["copy", "OUT", "IN", "0", "0"],
     "to-pcapng": ["pcapng", "OUT", "IN", "0", "0"],
@@ -94,8 +94,9 @@ FLOOR = {
     "web": ["web", "OUT", "IN"],
 }
 
-# The packets of both captures whose instructions are counted.
-FEW, MANY = 10_000, 30_000
+# The numbers of packets of the two captures over which instructions are counted.
+FEW = 10_000
+MANY = 30_000
 
 
 def parts_of(capture, count, folder):

@@ -12,10 +12,22 @@ import os
 import struct
 import sys
 
-SECTION, INTERFACE, SIMPLE, ENHANCED = 0x0A0D0D0A, 1, 3, 6
+# The types of blocks.
+SECTION = 0x0A0D0D0A
+INTERFACE = 1
+SIMPLE = 3
+ENHANCED = 6
+# The byte orders of struct, by the byte-order magic.
 ORDERS = {b"\x4d\x3c\x2b\x1a": "<", b"\x1a\x2b\x3c\x4d": ">"}
 SHORTEST_BODY = {SECTION: 16, INTERFACE: 8, SIMPLE: 4, ENHANCED: 20}
-LONGEST_BLOCK, SNAP, MOST_READ, MOST_WRITTEN = 1_048_576, 262_144, 256, 4_096
+# The most bytes of a block.
+LONGEST_BLOCK = 1_048_576
+# The snap length of pcap files that capkit writes.
+SNAP = 262_144
+# The most interfaces of a section that is read, and of a file that is written.
+MOST_READ = 256
+MOST_WRITTEN = 4_096
+# What `edit` leaves out: blocks by their type, and options by their code, from 1.
 BLOCKS = {4: "name", 5: "statistics", 10: "secrets", 0xBAD: "custom", 0x40000BAD: "custom"}
 OPTIONS = {
     "section": "comment hardware os application",
@@ -25,11 +37,14 @@ OPTIONS = {
 
 
 def need(holds, reason):
+    """Ends the reading with this reason, unless the condition is true."""
     if not holds:
         raise ValueError(reason)
 
 
 class Capture:
+    """A pcapng file that is read block by block, with the counts of what is left out of it."""
+
     def __init__(self, form):
         self.form, self.is_pcap, self.at, self.order = form, form != "pcapng", 0, None
         self.lost, self.interfaces, self.used, self.seen = collections.Counter(), [], set(), set()

@@ -1,6 +1,10 @@
 #!/usr/bin/env python3
-"""Tests ./capkit and build.py on small crates with a stub instead of the kit: order of proofs, changes, interrupts, failures.
-For whoever changes the launcher. The last line counts the failures. usage: check_build.py
+"""Tests ./capkit and build.py on small crates with a stub instead of the kit: the order of proofs,
+changes, interrupts and failures. For whoever changes the launcher.
+
+usage: check_build.py
+
+The last line counts the failures; the status is 1 if there is any.
 """
 import os
 import pathlib
@@ -26,19 +30,22 @@ case $made in *.rlib) mkdir -p "$made" ;; *) printf '#!/bin/sh\\necho "runs $*"\
 
 
 def begin(*command, user=None, **words):
+    """Starts a command, by default the program, with these variables of the environment."""
     how = {"env": {**os.environ, "PATH": f"{at}/bin:{os.environ['PATH']}", "NOTES": str(notes), **words}, "text": True}
     how.update(stdout=subprocess.PIPE, stderr=subprocess.PIPE, user=user)
     return subprocess.Popen(command or [top / "capkit", "infos"], **how)
 
 
-def end(process):  # its status and output, its messages, and what was noted until it ended
+def end(process):
+    """Waits for a process, and returns its status and output, its messages, and what was noted until then."""
     out, messages = process.communicate(timeout=60)
     noted = notes.read_text().splitlines() if notes.exists() else []
     notes.unlink(missing_ok=True)
     return (process.returncode, out), messages, noted
 
 
-def changed(name, **words):  # a call after a crate has changed, once something is being proved
+def changed(name, **words):
+    """Changes a crate and calls the program; returns the call once something is being proved."""
     (top / "crates" / name / "src/lib.rt").write_text(f"// {time.monotonic()}\n")
     process = begin(**words)
     while process.poll() is None and not notes.exists():
@@ -46,8 +53,14 @@ def changed(name, **words):  # a call after a crate has changed, once something 
     return process
 
 
+def logs():
+    """Returns the logs of failed proofs."""
+    return [*top.glob("out/build-*.log")]
+
+
 def tries():
-    runs, logs = (0, "runs infos\n"), lambda: [*top.glob("out/build-*.log")]
+    """Yields what is tested, each with whether it is true."""
+    runs = (0, "runs infos\n")
     done, messages, noted = end(begin())
     yield "the program runs, of each crate that it needs", done == runs and len(noted) == 8
     yield "none begins before those that it needs", noted.index("end low_a") < noted.index("begin middle")

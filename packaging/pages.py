@@ -1,5 +1,6 @@
 #!/usr/bin/env python3
-"""Writes the manual pages and completions of capkit into a folder, for packages and for installing by hand.
+"""Writes the manual pages and completions of capkit into a folder, for packages and for installing
+by hand.
 
 usage: packaging/pages.py FOLDER           (needs python3-jinja2)
 
@@ -22,8 +23,10 @@ STORED = ROOT / "crates/cap_cases/data/lines"
 COLUMNS = 80
 TEMPLATES = ROOT / "packaging/pages"
 LANGUAGE = ROOT / "docs/FILTER.md"
-# The left margin of a manual page, and that of a display in it, in columns.
-MARGIN, DISPLAY = 5, 6
+# The left margin of a manual page, in columns.
+MARGIN = 5
+# The left margin of a display in it.
+DISPLAY = 6
 # The values and arguments that name files.
 FILES = {"IN", "OUT", "FILE", "LISTING", "MORE"}
 # What precedes the values that an option may have, at the end of its line or on the next line.

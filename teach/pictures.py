@@ -1,7 +1,11 @@
-"""A picture of the ways through a program, as SVG. Nothing is drawn by another program."""
+"""Draws the ways through a program as SVG, without other programs. For draw.py and the page."""
 import html
 
-CLASS, JUMP, RETURN, GO_ON = 7, 5, 6, 5
+# The bits of a code that are its class, two classes, and the code of the jump without a condition.
+CLASS = 7
+JUMP = 5
+RETURN = 6
+GO_ON = 5
 # Sizes in pixels: the width of a letter of the fixed-width font, the height of a row, and a box.
 LETTER = 7.9
 ROW = 26

@@ -3,9 +3,13 @@
 same cases, and the numbers on pages with what is counted. tools/cases/ shares nothing with capkit's
 code.
 
-usage: check_cases.py [--all] [TABLE..]     the table `hostile`, of files of up to a million blocks, only with --all: it takes minutes
-       check_cases.py --write [TABLE..]     writes the tables that scripts write; without TABLE also the numbers on pages
-       check_cases.py --numbers             prints what is counted
+usage: check_cases.py [--all] [TABLE..]
+       check_cases.py --write [TABLE..]
+       check_cases.py --numbers
+
+Without --all the table `hostile`, with files of up to a million blocks, is left out: it takes
+minutes. --write writes the tables that scripts write; without TABLE, also the numbers on pages.
+--numbers prints what is counted.
 
 The status is 1 if a table or a page differs.
 """
@@ -41,9 +45,8 @@ def faults_of(name):
     cases = notation.Table(stored).cases
     decided = [case for case in cases if commands.is_decided(case)]
     if name in WRITERS:
-        faults = [
-            f"{name}: tools/cases/ writes another table: check_cases.py --write {name}"
-        ] * (WRITERS[name](stored) != stored)
+        differs = WRITERS[name](stored) != stored
+        faults = [f"{name}: tools/cases/ writes another table: check_cases.py --write {name}"] * differs
     else:
         faults = [f"{name}: {case.title}: {fault}" for case in decided if (fault := fault_of(case))]
     return faults, len(cases), len(decided)
@@ -54,7 +57,10 @@ def fault_of(case):
     outcome = commands.outcome_of(case)
     if (outcome.written, outcome.messages, outcome.status) == (case.written, case.messages, case.status):
         return None
-    return f"status {outcome.status} is computed, with {len(outcome.written)} bytes written, and: {outcome.messages.strip()}"
+    return (
+        f"status {outcome.status} is computed, with {len(outcome.written)} bytes written, and: "
+        f"{outcome.messages.strip()}"
+    )
 
 
 def write(names, numbers):
@@ -85,11 +91,8 @@ def main():
         results = pool.map(faults_of, chosen, chunksize=1)
     faults = [fault for found, _, _ in results for fault in found] + list(page_numbers.differing(numbers))
     cases, computed = [sum(result[place] for result in results) for place in (1, 2)]
-    print(
-        "\n".join(
-            [*faults, f"{cases} cases of {len(chosen)} tables, {computed} of them computed, {len(faults)} differ"]
-        )
-    )
+    summary = f"{cases} cases of {len(chosen)} tables, {computed} of them computed, {len(faults)} differ"
+    print("\n".join([*faults, summary]))
     return bool(faults)
 
 

@@ -203,7 +203,11 @@ def check_successes(capkit):
         with tempfile.TemporaryDirectory() as temporary:
             how = checkout(pathlib.Path(temporary), capkit)
             names = " ".join(set(CAPTURE.findall(example)))
-            script = f"{set_up('in a checkout')}\nfor name in {names}; do test -e ${{name%.gz}} || cp day.pcap ${{name%.gz}}; done\ngzip -k day.pcap\n"
+            script = (
+                f"{set_up('in a checkout')}\n"
+                f"for name in {names}; do test -e ${{name%.gz}} || cp day.pcap ${{name%.gz}}; done\n"
+                "gzip -k day.pcap\n"
+            )
             done = subprocess.run(["bash", "-e", "-c", script + example], **how)
         count, failed = count + 1, failed + bool(done.returncode)
         if done.returncode:

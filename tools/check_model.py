@@ -47,9 +47,8 @@ def uncommented_definitions(sources, crates):
                 spec = sources.items[use]
                 text = lines.setdefault(spec.path, spec.path.read_text().split("\n"))
                 if not text[spec.line - 1].startswith("--") and not text[spec.line - 2].startswith("--"):
-                    found[
-                        use
-                    ] = f"{spec.path.relative_to(ROOT)}:{spec.line}: {use[2]}, which {key[2]} cites, has no comment"
+                    place = f"{spec.path.relative_to(ROOT)}:{spec.line}"
+                    found[use] = f"{place}: {use[2]}, which {key[2]} cites, has no comment"
     yield from found.values()
 
 

@@ -1,5 +1,6 @@
 #!/usr/bin/env python3
-"""Opens docs/capkit.html in Chromium and in Firefox, uses it as a person does, and compares what it shows and saves.
+"""Tests docs/capkit.html in Chromium and in Firefox: uses it as a person does, and compares what it
+shows and saves with what it should. For whoever changes the page or the library.
 
 usage: check_page.py [--page FILE] [--capkit PROGRAM] [--only WORD] [--calls FILE..] [--pictures FOLDER]
 
@@ -35,27 +36,41 @@ import machine
 import make_page
 import printing
 
-SAMPLES, HERE = ROOT / "samples", ROOT / "tools" / "page"
-MOST_BYTES, MANY, MOST_DRAWN = 200_000, 1_000_000, 300
+SAMPLES = ROOT / "samples"
+HERE = ROOT / "tools" / "page"
+# The most bytes of the page.
+MOST_BYTES = 200_000
+# The number of packets in the large capture.
+MANY = 1_000_000
+# The most instructions of a program that the page draws.
+MOST_DRAWN = 300
+# The filter with which the page opens.
 FIRST = "tcp port 80 or 443 and host 10.0.0.5"
 MARKUP = [
     b"<script>document.title = 'taken'</script>", b"</script><script>document.title = 'taken'</script>",
-    b"<img src=x onerror=\"document.title = 'taken'\">", b"<!-- <script> -->", b"]]>&lt;b&gt;", b"\"' "
-    b"onmouseover=alert(1) x='",
+    b"<img src=x onerror=\"document.title = 'taken'\">", b"<!-- <script> -->", b"]]>&lt;b&gt;",
+    b"\"' onmouseover=alert(1) x='",
     b"\x1b[31mred\x07\x00", "\u202etxt.exe\u2028\u200b".encode(), b"\xff\xfe not UTF-8",
     b"javascript:document.title='taken'",
     b"${document.title = 'taken'}", b"{{constructor.constructor('document.title=1')()}}",
 ]  # fmt: skip
 ANY = len(files.Capture((SAMPLES / "any.pcap").read_bytes()).packets)
-KEPT, NOT_KEPT, REJECTED = "matches", "doesn't match", "is rejected"
+# The verdicts of an expression on a packet.
+KEPT = "matches"
+NOT_KEPT = "doesn't match"
+REJECTED = "is rejected"
 
+# Scripts that run in the page. This one puts a text into an element.
 FILL = """((id, text) => {
   const it = document.getElementById(id);
   it.value = text;
   it.dispatchEvent(new Event(it.tagName === "SELECT" ? "change" : "input"));
 })(arguments[0], arguments[1])"""
 TEXTS = "[...document.querySelectorAll(arguments[0])].map((it) => it.textContent)"
-ROWS = """[...document.querySelectorAll(arguments[0] + " tr.ran")].map((row) => [...row.cells].map((cell) => cell.textContent))"""
+ROWS = (
+    """[...document.querySelectorAll(arguments[0] + " tr.ran")]"""
+    """.map((row) => [...row.cells].map((cell) => cell.textContent))"""
+)
 # The places of the bytes that are marked.
 MARKED = """[...document.querySelectorAll(arguments[0])].map((mark) => {
   const range = document.createRange();
@@ -64,8 +79,14 @@ MARKED = """[...document.querySelectorAll(arguments[0])].map((mark) => {
   const rows = range.toString().split("\\n");
   return 16 * (rows.length - 1) + Math.floor((rows[rows.length - 1].length - 6) / 3);
 })"""
-PARTS = """[...document.querySelectorAll("#tree-0 li")].map((it) => [it.children[0].textContent, it.children[1].textContent])"""
-PROGRAM = """[...document.querySelectorAll("#rows-0 tr")].map((row) => `${row.cells[1].textContent} ${row.cells[2].textContent}`)"""
+PARTS = (
+    """[...document.querySelectorAll("#tree-0 li")]"""
+    """.map((it) => [it.children[0].textContent, it.children[1].textContent])"""
+)
+PROGRAM = (
+    """[...document.querySelectorAll("#rows-0 tr")]"""
+    """.map((row) => `${row.cells[1].textContent} ${row.cells[2].textContent}`)"""
+)
 # The marked boxes of a picture of ways, and the line of the marked ways.
 PICTURE = """[[...document.querySelectorAll(arguments[0] + " .on-way text")].map((it) => it.textContent.slice(0, 5)),
   document.querySelector(arguments[0] + " path.on-way").getAttribute("d")]"""
@@ -88,7 +109,10 @@ TRIED = """(async (address) => {
   return refused.sort();
 })(arguments[0])"""
 # A page that may do so.
-OTHER = f"""<script>fetch("{browser.NOWHERE}").catch(() => {{ document.title = "asked"; }});</script><script>nothing();</script>"""
+OTHER = (
+    f"""<script>fetch("{browser.NOWHERE}").catch(() => {{ document.title = "asked"; }});</script>"""
+    "<script>nothing();</script>"
+)
 
 
 def register(value):
@@ -196,7 +220,8 @@ class Page:
         """Gives the page a file; waits until its packets are counted."""
         self.value("document.getElementById('about').textContent = ''")
         self.driver.type("#file", path)
-        self.driver.wait("/packets?/.test(document.getElementById('about').textContent) && document.getElementById('message-0').textContent.includes(arguments[0])",
+        self.driver.wait("/packets?/.test(document.getElementById('about').textContent) && "
+                         "document.getElementById('message-0').textContent.includes(arguments[0])",
                          f"of {count:,} packet" if count is not None else "")
 
     def run(self, *words):

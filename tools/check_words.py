@@ -73,18 +73,22 @@ WORDS = [
     (r"\bso many\b", "the number's name"),
     (r"\b(come|comes|came) to\b", "is, becomes, reaches"),
     (r"\b(?:is|are|was|were|be) told\b|\btells?\b", "reports, shows, states; the reader learns"),
-    (r"\bleaves?\b(?! (?:out|off|alone|a network)\b| (?:it|them|the \w+) unchanged)", "doesn't change, keeps; contains afterwards; omits"),
-    (r"(?<!place )(?<!places )(?<!point )(?<!know )(?<!shows )(?<!stands )(?<!tokens )\bwhere (?:an?|the|it|that|there|no|its|nothing|memory|all|none|this|one|they)\b", "if, when, unless"),
+    (r"\bleaves?\b(?! (?:out|off|alone|a network)\b| (?:it|them|the \w+) unchanged)",
+     "doesn't change, keeps; contains afterwards; omits"),
+    (r"(?<!place )(?<!places )(?<!point )(?<!know )(?<!shows )(?<!stands )(?<!tokens )\bwhere "
+     r"(?:an?|the|it|that|there|no|its|nothing|memory|all|none|this|one|they)\b", "if, when, unless"),
     (r"(?:^|[.;:|] )Of (?!course\b)\w+", "the subject first; on, for, among"),
     (r"(?<!left )(?<!leave )(?<!stand )(?<!stands )(?<!is )\balone\b", "only, before what it limits"),
     (r"\balso (?:where|that|of|those|one|by|from|under|if|at|after|in|when|as)\b", "even if, including, too"),
     (r"(?<!here )\b(?:is|are|was|were) no (?!longer\b|more\b)\w+", "isn't a, aren't"),
     (r"\b(?:is|are|was|were) to (?!the\b|an?\b)\w+", "must, should, will"),
-    (r"(?<!many )\b(?:unit|test|run|file|block|bytes?|instructions?|steps?|ns|two|four|one|\d[\d,.]*) an? (?:call|packet|side|second|row|thousand|subject|type)\b"
+    (r"(?<!many )\b(?:unit|test|run|file|block|bytes?|instructions?|steps?|ns|two|four|one|\d[\d,.]*) an? "
+     r"(?:call|packet|side|second|row|thousand|subject|type)\b"
      r"|\bof (?:a )?processors?\b", "per packet; CPU minutes"),
     (r"\b(?:anew|dear(?:er|est)?|mended|needless|alike|nevertheless|beside|but for|some \d[\d,]*)\b",
      "again, expensive, fixed, unnecessary, the same, next to, except, about"),
-    (r"\b(?:is|are|was|were|reads?|looks?|written|printed|refused|reported|named|ends?|left) so\b(?! that| far| long| many)", "like this"),
+    (r"\b(?:is|are|was|were|reads?|looks?|written|printed|refused|reported|named|ends?|left) "
+     r"so\b(?! that| far| long| many)", "like this"),
     (r"\b(?:that|which|what|they) (?:is|are|was|were) there\b(?! for)|\bis there\b(?! for)", "exists, present"),
 ]
 WORDS = [

@@ -1,13 +1,26 @@
-"""Writes a pcap capture of COUNT packets; half of them are random past the fields that an expression
-tests first. usage: random_capture.py COUNT [LINK-TYPE (1, 101 or 113)]"""
+"""Writes a pcap capture of COUNT packets to standard output, for kernel.sh and compare.c; half of
+them are random past the fields that an expression tests first.
+
+usage: random_capture.py COUNT [LINK-TYPE (1, 101 or 113)]
+"""
 import random
 import struct
 import sys
 
-COUNT, LINK = int(sys.argv[1]), int(sys.argv[2]) if len(sys.argv) > 2 else 1
+COUNT = int(sys.argv[1])
+LINK = int(sys.argv[2]) if len(sys.argv) > 2 else 1
 PORTS = (22, 53, 80, 443, 1023, 65535)
-IPV4, IPV6, ARP, RARP, VLAN = b"\x08\x00", b"\x86\xdd", b"\x08\x06", b"\x80\x35", b"\x81\x00"
-MAC, NET, NET6 = b"\2\0\0\0\0", b"\x0a\0\0", b"\x20\x01\x0d\xb8" + bytes(11)
+# EtherTypes.
+IPV4 = b"\x08\x00"
+IPV6 = b"\x86\xdd"
+ARP = b"\x08\x06"
+RARP = b"\x80\x35"
+VLAN = b"\x81\x00"
+# The first bytes of all addresses; the last byte is random.
+MAC = b"\2\0\0\0\0"
+NET = b"\x0a\0\0"
+NET6 = b"\x20\x01\x0d\xb8" + bytes(11)
+# The start of a cooked link header.
 COOKED = bytes.fromhex("0000000100060200000000010000")
 chance = random.Random(1)
 

@@ -1,4 +1,6 @@
-"""What capkit's commands write and report, as the pages define it: from whole lists of packets, never packet by packet."""
+"""Computes what capkit's commands write and report, as the pages define it: from whole lists of
+packets, never packet by packet.
+"""
 
 import dataclasses
 import datetime

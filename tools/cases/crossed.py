@@ -11,7 +11,10 @@ HEAD = """\
 # limit, so only these cases show code that gives up at one size of a list, or for one pair of options.
 # tools/cases/crossed.py writes this table.
 """
-X, Y, Z = bytes(range(20)), bytes(range(32, 48)), bytes(range(64, 67))
+# The data of three packets.
+X = bytes(range(20))
+Y = bytes(range(32, 48))
+Z = bytes(range(64, 67))
 DATA = [X, X, Y, Z, X]
 FORMATS = ["-F pcap", "-F nsecpcap", ""]
 # Each option of edit with two values: words before the names of the files, and words after them. A
@@ -143,12 +146,14 @@ def interfaces(lines, form):
         "# 64 interfaces of an output, which differ in their snap length, and behind 41 of them one "
         "of another link type.",
     ]
-    lines += [f"row {link} ; {pairs(link.to_bytes(4, 'little'), {})} ; {pairs(other.to_bytes(4, 'little'), {})}" for link, other in
-              ((1, 113), (101, 1), (113, 1), (147, 1))]
+    lines += [
+        f"row {link} ; {pairs(link.to_bytes(4, 'little'), {})} ; {pairs(other.to_bytes(4, 'little'), {})}"
+        for link, other in ((1, 113), (101, 1), (113, 1), (147, 1))
+    ]
     kinds = [0xE1 if number == 41 or number >= 50 else 0xE2 for number in range(64)]
-    writer, read = Writer("pcapng"), SECTION + b"".join(block(1,
-                                                        kind.to_bytes(4, "little") + (100 + number).to_bytes(4, "little"))
-                                                        for number, kind in enumerate(kinds))
+    writer, read = Writer("pcapng"), SECTION + b"".join(
+        block(1, kind.to_bytes(4, "little") + (100 + number).to_bytes(4, "little")) for number, kind in enumerate(kinds)
+    )
     read += b"".join(
         block(6, number.to_bytes(4, "little") + bytes(8) + bytes.fromhex("03000000 03000000") + Z + bytes(1))
         for number in range(64)

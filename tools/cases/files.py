@@ -5,9 +5,17 @@ import struct
 
 SECTION = bytes.fromhex("0a0d0d0a 1c000000 4d3c2b1a 01000000 ffffffffffffffff 1c000000")
 SECOND = 10**9
-LONGEST_RECORD, LONGEST_BLOCK = 262_144, 1_048_576
+# The most captured bytes of a record, and the most bytes of a block.
+LONGEST_RECORD = 262_144
+LONGEST_BLOCK = 1_048_576
+# Magic numbers, with the formats and their fractions per second.
 MAGICS = {0xA1B2C3D4: ("pcap", 10**6), 0xA1B23C4D: ("nsecpcap", SECOND)}
-SECTION_TYPE, INTERFACE_TYPE, OBSOLETE_TYPE, SIMPLE_TYPE, ENHANCED_TYPE = 0x0A0D0D0A, 1, 2, 3, 6
+# The types of blocks.
+SECTION_TYPE = 0x0A0D0D0A
+INTERFACE_TYPE = 1
+OBSOLETE_TYPE = 2
+SIMPLE_TYPE = 3
+ENHANCED_TYPE = 6
 
 
 class Fault(Exception):

@@ -1,4 +1,6 @@
-"""The table `lengths`: printed lines of the packets of the traffic tables, each cut at every captured length up to 60."""
+"""Writes the table `lengths`: the printed lines of the packets of the traffic tables, each cut at
+every captured length up to 60.
+"""
 
 import commands
 from files import header

@@ -1,7 +1,9 @@
-"""More cases for the random tables: random commands on random, mostly damaged captures, and random expressions.
+"""Prints more cases for the random tables: random commands on random, mostly damaged captures, and
+random expressions.
 
-usage: more.py random_captures|random_filters SEED COUNT     prints cases, to be appended to the table; then
-       check_cases.py --write TABLE computes their results
+usage: more.py random_captures|random_filters SEED COUNT
+
+Append what it prints to the table; then check_cases.py --write TABLE computes the results.
 """
 import pathlib
 import random
@@ -17,9 +19,17 @@ LINKS = {1: "traffic", 101: "traffic_raw", 113: "traffic_cooked"}
 TIMES = ["0", "1", "2.5", "0.000000001", "3.999999999", "1970-01-01T00:00:02Z", "4294967296"]
 # What a word in braces is replaced by.
 RULES = {
-    "expression": ["{term}", "{term}", "{term} and {term}", "{term} or {term}", "not {term}", "({expression}) or {term}", "{term} && ! {term}"],
-    "term": ["{check}", "{quals} {value}", "{number} {sign} {number}", "less {small}", "greater {small}", "({expression})"],
-    "check": ["ip", "ip6", "arp", "rarp", "tcp", "udp", "icmp", "icmp6", "broadcast", "ether multicast", "ip multicast", "ip6 multicast"],
+    "expression": [
+        "{term}", "{term}", "{term} and {term}", "{term} or {term}", "not {term}", "({expression}) or {term}",
+        "{term} && ! {term}",
+    ],
+    "term": [
+        "{check}", "{quals} {value}", "{number} {sign} {number}", "less {small}", "greater {small}", "({expression})",
+    ],
+    "check": [
+        "ip", "ip6", "arp", "rarp", "tcp", "udp", "icmp", "icmp6", "broadcast", "ether multicast", "ip multicast",
+        "ip6 multicast",
+    ],
     "quals": ["{side}", "ip {side}", "arp {side}"],
     "side": ["src", "dst", "src or dst", "dst and src"],
     "value": ["host 127.0.0.2", "net 10", "net 127.0.0.0/8", "net 224.0.0.0/4", "net 10.0.0.0 mask 255.0.255.0"],
@@ -126,9 +136,8 @@ def captures(choose, count):
                 packet[:choose.choice([len(packet)] * 3 + [choose.randrange(60)])]
                 for of, packet in choose.choices(known, k=choose.randrange(5))
             ]
-            print(
-                f"in {name}: {damaged(choose, choose.choice([pcap, pcapng])(choose, choose.choice('<>'), link, records)).hex()}"
-            )
+            capture = choose.choice([pcap, pcapng])(choose, choose.choice("<>"), link, records)
+            print(f"in {name}: {damaged(choose, capture).hex()}")
 
 
 def expressions(choose, count):

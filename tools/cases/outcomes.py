@@ -85,8 +85,11 @@ def numbered(data, place, size):
 
 def meets(case, inputs):
     """Returns the lines that state how many of the inputs are refused with each message."""
+
+    def offset(item):
+        return int(item[0].split(": ")[2].split()[1]), item[0]
+
     counts = collections.Counter(commands.outcome_of(case, data).messages for data in inputs)
-    offset = lambda item: (int(item[0].split(": ")[2].split()[1]), item[0])
     refused = [(message, count) for message, count in counts.items() if message]
     return [
         f"meets {count} {message.removeprefix('capkit: ').rstrip()}" for message, count in sorted(refused, key=offset)

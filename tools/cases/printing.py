@@ -4,9 +4,13 @@ import datetime
 
 from files import SECOND
 
-ETHERNET, RAW, COOKED = 1, 101, 113
-# The start of the network header.
+# Link types.
+ETHERNET = 1
+RAW = 101
+COOKED = 113
+# The offset of the network header.
 NETWORK = {ETHERNET: 14, RAW: 0, COOKED: 16}
+# EtherTypes of network headers, and the least lengths of these.
 TYPES = {0x0800: "IP", 0x86DD: "IP6", 0x0806: "ARP", 0x8035: "RARP"}
 LEAST = {"IP": 20, "IP6": 40, "ARP": 28, "RARP": 28}
 

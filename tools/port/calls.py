@@ -1,5 +1,6 @@
 #!/usr/bin/env python3
-"""Records calls of this machine's library with their results, for replay.c, which repeats them on another processor.
+"""Records calls of this machine's library with their results, for replay.c, which repeats them on
+another processor, and for check_page.py.
 
 usage: calls.py LIBCAPKIT.SO OUT [SEED]
 
@@ -21,8 +22,17 @@ import compare
 
 ROOT = pathlib.Path(__file__).resolve().parents[2]
 LINKS = [1, 101, 113, 12, 7, 0]
-INSN, READER, INTERFACE, PACKET, WRITER, STEP = 8, 24, 280, 48, 8, 76
-MORE_UNITS, NO_PACKET, ANOTHER_LINK_TYPE = 227, 223, 226
+# The sizes of the structs of capkit.h, in bytes.
+INSN = 8
+READER = 24
+INTERFACE = 280
+PACKET = 48
+WRITER = 8
+STEP = 76
+# Statuses of capkit.h.
+MORE_UNITS = 227
+NO_PACKET = 223
+ANOTHER_LINK_TYPE = 226
 
 
 class Calls:

@@ -147,7 +147,8 @@ def main():
                     compiling[cell] = min(compiled, compiling.get(cell, compiled))
     print("|", " | ".join(["", *COLUMNS]), "|\n|" + "---|" * (len(COLUMNS) + 1))
     for language in programs:
-        row = [f"{least[it]:.3f}" + (f" (+ {compiling[it]:.2f} to compile)" if it in compiling else "") if it in least else "-"
+        row = [f"{least[it]:.3f}" + (f" (+ {compiling[it]:.2f} to compile)" if it in compiling else "")
+               if it in least else "-"
                for it in ((language, column) for column in COLUMNS)]
         print("|", " | ".join([NAMES[language], *row]), "|")
     print("\n|", " | ".join(["lines, with heads and comments", *EXAMPLES]), "|\n|" + "---|" * (len(EXAMPLES) + 1))
