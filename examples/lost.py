@@ -72,11 +72,11 @@ class Capture:
             self.options("section", body[16:])
         elif kind == INTERFACE:
             need(len(self.interfaces) < MOST_READ, "too many interfaces")
-            held = self.options("interface", body[8:], [2, 9, 14])
-            power = (held.get(9) or b"\6")[0]
+            options = self.options("interface", body[8:], [2, 9, 14])
+            power = (options.get(9) or b"\6")[0]
             units = 10**power if power < 128 else 2 ** (power - 128)
             link_snap = struct.unpack_from(self.order + "HxxI", body)
-            self.interfaces.append((*link_snap, held.get(2, b""), units))
+            self.interfaces.append((*link_snap, options.get(2, b""), units))
             self.lost["interface without packets"] += 1
         elif kind == ENHANCED:
             number, high, low, captured = struct.unpack_from(self.order + "IIII", body)
@@ -89,15 +89,15 @@ class Capture:
 
     def options(self, of, body, kept=()):
         """Counts all options but the first of each kept code; returns the first of each code."""
-        at, held, names = 0, {}, dict(enumerate(OPTIONS[of].split(), 1))
+        at, first, names = 0, {}, dict(enumerate(OPTIONS[of].split(), 1))
         while at < len(body):
             code, size = struct.unpack_from(self.order + "HH", body, at)
             if code == 0 or at + 4 + size > len(body):
                 break
-            self.lost[f"{of} option {names.get(code, 'other')}"] += code not in kept or code in held
-            held.setdefault(code, body[at + 4 : at + 4 + size])
+            self.lost[f"{of} option {names.get(code, 'other')}"] += code not in kept or code in first
+            first.setdefault(code, body[at + 4 : at + 4 + size])
             at += 4 + (size + 3 & ~3)
-        return held
+        return first
 
     def packet(self, number, ticks):
         """Counts what `edit` would lose of a packet of this interface."""
@@ -125,7 +125,7 @@ def main():
         with open(0 if words.file == "-" else words.file, "rb") as stream:
             capture.read(stream)
     except (ValueError, OSError) as error:
-        name = "".join(it if it.isprintable() else ascii(it)[1:-1] for it in words.file)
+        name = "".join(sign if sign.isprintable() else ascii(sign)[1:-1] for sign in words.file)
         fault = f"lost.py: {name}: offset {capture.at}: {getattr(error, 'strerror', error)}\n"
     lines = [f"{what}: {count}\n" for what, count in sorted(capture.lost.items()) if count]
     try:

@@ -109,20 +109,20 @@ def tries():
 
 with tempfile.TemporaryDirectory() as scratch:
     at, top, notes = pathlib.Path(scratch), pathlib.Path(scratch, "checkout"), pathlib.Path(scratch, "notes")
-    for it in CRATES.split("|"):
-        (top / "crates" / it.split(":")[0].split()[0] / "src").mkdir(parents=True)
+    for crate in CRATES.split("|"):
+        (top / "crates" / crate.split(":")[0].split()[0] / "src").mkdir(parents=True)
     (top / "crates/capkit_main/src/main.rt").touch()
     for name, text in (("lib", "mod allocating;\nmod other;\n"), ("allocating", "")):
         (top / "crates/capkit_c/src" / f"{name}.rt").write_text(text)
-    for it in ("capkit", "HANDLES", "packaging/build.py"):
-        (top / it).parent.mkdir(exist_ok=True)
-        shutil.copy(ROOT / it, top / it)
+    for path in ("capkit", "HANDLES", "packaging/build.py"):
+        (top / path).parent.mkdir(exist_ok=True)
+        shutil.copy(ROOT / path, top / path)
     (top / "crates.txt").write_text(CRATES.replace("|", "\n"))
     (at / "bin").mkdir()
     for name in ("rt", "rattle", "rattle-link"):
         (at / "bin" / name).write_text(KIT)
         (at / "bin" / name).chmod(0o755)
     at.chmod(0o755)
-    results = [is_so or print(f"not so: {what}") for what, is_so in tries()]
+    results = [is_true or print(f"not so: {what}") for what, is_true in tries()]
 print(f"{len(results) - results.count(None)} passed, {results.count(None)} failed")
 sys.exit(None in results)

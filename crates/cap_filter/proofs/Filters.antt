@@ -1,4 +1,4 @@
--- What a filter's programs return and how many instructions they execute, run by run.
+-- What a filter's programs return, and how many instructions they execute, run by run.
 use Rattle.cap_filter.proofs.Common.{◌≡◌, ◌≢◌, ◌↔◌, ◌<◌, All, ℕ, zero, suc, ◌+◌, ◌-◌, ◌^◌, Bool, cond, not, nat_eq, nat_lt, ◌==◌, true, false, List, [], ◌∷◌}
 use Rattle.cap_filter.proofs.Common.{◌++◌, length, get_or, set, slice_get, take, drop, min, Option, None, Some, Ok, Err, refl, sym, ◌∙◌, ap, arith, subst}
 use Rattle.cap_filter.proofs.Common.{Captured, Content, machine, Answered, Expression, empty, truth, Link, Ether, AreMade, IsMade, steps_of_run, met_on, ran_at}

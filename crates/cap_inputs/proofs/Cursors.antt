@@ -1,4 +1,4 @@
--- One input among others.
+-- Lemmas on one input among others: how it is found, and how it alone changes.
 use Rattle.cap_inputs.proofs.Common.{◌≡◌, ℕ, zero, suc, ◌+◌, ◌<◌, List, [], ◌∷◌, ◌++◌, length, max, Option, Some, refl, sym, ◌∙◌, ap, ap₂, subst, arith, get_or}
 use Rattle.cap_inputs.proofs.Common.{Bool, true, false, Result, Ok, append-nil, length-append, Placed, slice_set, Fault, Advances, slice_get, AllByRecursion}
 use Rattle.cap_inputs.proofs.Common.{PacketOrder, SectionFits, TakesIfAtHand, SkipsUnits, Phase, Reading, SourceView, Steps, end_offset, phase_after, Schedule}

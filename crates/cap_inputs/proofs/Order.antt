@@ -1,4 +1,4 @@
--- A merge from the current packets gives the order of the whole.
+-- The packets of a merge, continued from the current ones, are in the order of the complete inputs.
 use Rattle.cap_inputs.proofs.Common.{AllByRecursion, ◌≡◌, ℕ, suc, ◌+◌, ◌<◌, ◌≤◌, true, false, max, List, [], ◌∷◌, ◌++◌, length, refl, sym, ◌∙◌, ap, arith}
 use Rattle.cap_inputs.proofs.Common.{add-zero, subst, append_assoc, nat_tests, Fault, Placed, Items, Ending, Packet, SequenceEnd, Complete, FaultIn, with_front}
 use Rattle.cap_inputs.proofs.Common.{InputItems, Entry, end_after, entries_of, all_entries, comes_before, insert_entry, sort_entries, sequence_of_entries}

@@ -1,4 +1,4 @@
--- What the cursor says of the inputs, and how it goes on.
+-- The schedule agrees with the inputs, and still does after each read and decision.
 use Rattle.std.proofs.lemmas.{Bool.cases_order, Option.slice_get_within}
 use Rattle.cap_inputs.proofs.Common.{◌≡◌, ◌≢◌, ◌⊎◌, inl, inr, ℕ, zero, suc, ◌+◌, ◌<◌, ◌≤◌, Bool, true, false, List, [], ◌∷◌, ◌++◌, length, map, Some, Result}
 use Rattle.cap_inputs.proofs.Common.{Ok, Err, refl, sym, ◌∙◌, ap, arith, slice_get, slice_set, AllByRecursion, Fault, Phase, Reading, Ended, Failed}

@@ -1,4 +1,4 @@
--- Units that hold packets and end cleanly read back as them.
+-- Units that hold packets and end cleanly read back as these packets.
 use Rattle.cap_io.proofs.Common.{◌≡◌, ℕ, ◌+◌, List, [], ◌∷◌, ◌++◌, length, map, None, refl, sym, ap, ap₂, ◌∙◌, append_assoc, append-nil, map-append}
 use Rattle.cap_io.proofs.Common.{AllByRecursion, Captured, Declared, Nothing, IsUnit, Placed, placed_at, AreUnits, no_unit, unit_then, NoUnit, front_of, Items}
 use Rattle.cap_io.proofs.Common.{End, items, after_packets, ReadsBack}

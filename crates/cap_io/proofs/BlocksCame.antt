@@ -1,4 +1,4 @@
--- What came of a block, from read to read.
+-- The effect of reading a block, from one read of the device to the next.
 use Rattle.cap_io.proofs.Common.{◌≡◌, ℕ, true, ◌+◌, ◌<◌, ◌≤◌, ◌⊎◌, inl, inr, List, [], ◌∷◌, ◌++◌, length, take, drop, Option, Some, None, Result, Ok, Err, refl}
 use Rattle.cap_io.proofs.Common.{sym, ap, ap₂, ◌∙◌, subst, arith, unwrap_or, option_to_list, append_assoc, length-append, length-take-le, drop_at, drop-drop}
 use Rattle.cap_io.proofs.Common.{take-append-drop, checked, first_failing, Captured, Fault, NoMemory, ReadFailed, Order, checked_ok, checked_err, Parts}

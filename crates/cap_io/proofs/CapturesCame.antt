@@ -1,4 +1,4 @@
--- Units of a capture of any kind, as they came.
+-- The effect of reading the units of a capture of any format.
 use Rattle.std.proofs.lemmas.Bool.{cases_lt}
 use Rattle.cap_io.proofs.BlocksCame.{BlockCame, BlockMissing, Describes}
 use Rattle.cap_io.proofs.Came.{Taken-following, error_is, most_taken-file}

@@ -1,4 +1,4 @@
--- Each text has one cut into units.
+-- Each capture is cut into units in exactly one way.
 use Rattle.cap_io.proofs.Common.{◌≡◌, ℕ, zero, suc, ◌+◌, ◌<◌, ◌≤◌, List, [], ◌++◌, length, take, drop, Option, refl, sym, ◌∙◌, ap, ap₂, arith, zero-add}
 use Rattle.cap_io.proofs.Common.{append_assoc, append-nil, length-drop, take_at, drop_at, take-append-drop, Captured, Fault, Declared, Nothing, IsUnit, Placed}
 use Rattle.cap_io.proofs.Common.{placed_at, AreUnits, no_unit, unit_then, Front, Whole, NoUnit, front_of, items, after_packets, ending_by, EachHasCut}

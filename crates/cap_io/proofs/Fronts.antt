@@ -1,4 +1,4 @@
--- What a text begins with, told by its first bytes.
+-- The first unit of some bytes depends only on their prefix.
 use Rattle.cap_io.proofs.Common.{◌≡◌, ℕ, ◌<◌, ◌≤◌, Bool, List, [], ◌∷◌, ◌++◌, length, take, Option, Some, None, true, false, refl, sym, ap, ◌∙◌, subst, arith}
 use Rattle.cap_io.proofs.Common.{◌&&◌, and_from, le-leb, length-append, Fault, Little, Head, first_failing, form_in, header_fault, header_in, record_size}
 use Rattle.cap_io.proofs.Common.{record_fault, record_packet, frame_checks, is_section, Section, block_size, order_before, packets_in, unit_fault, least_length}

@@ -1,5 +1,4 @@
--- The order of a merge is sorted, has each packet once, and keeps those of each input in their
--- places.
+-- The order of a merge is sorted, has each packet once, and keeps the order of each input.
 use Rattle.cap_io.proofs.Common.{◌≡◌, inl, inr, ℕ, ◌+◌, ◌<◌, ◌≤◌, Bool, true, false, if◌then◌else◌, max, List, [], ◌∷◌, ◌++◌, refl, sym, ◌∙◌, ap, arith, nat_eq}
 use Rattle.cap_io.proofs.Common.{subst, IsPermutation, Placed, Ending}
 use Rattle.std.proofs.lemmas.Bool.{cases_order, Decides.nat_tests}

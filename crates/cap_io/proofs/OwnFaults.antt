@@ -1,4 +1,4 @@
--- Which faults checks tell: none of them that the device failed, or that memory ran out.
+-- Checks never report that the device failed, or that memory ran out.
 use Rattle.cap_io.proofs.Common.{◌≡◌, ◌<◌, ◌++◌, [], ◌∷◌, length, None, ap, length-append, ltb-true, most_interfaces, is_interface, section_by, section_of}
 use Rattle.cap_io.proofs.Common.{Section, Enters, ℕ, inl, inr, Bool, true, false, List, Option, Some, Err, refl, arith, first_failing, Fault, NoMemory}
 use Rattle.cap_io.proofs.Common.{ReadFailed, Order, Parts, SectionParts, InterfaceParts, EnhancedParts, SimpleParts, SkippedParts, block_checks, body_checks}

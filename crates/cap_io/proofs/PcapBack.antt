@@ -1,4 +1,4 @@
--- What is written in a pcap form reads back.
+-- A capture that is written in a pcap format reads back.
 use Rattle.cap_io.proofs.Backs.{Holds, each-following, holds-none, holds-unit, reads-back}
 use Rattle.cap_io.proofs.Common.{◌≡◌, ℕ, ◌+◌, ◌*◌, ◌/◌, ◌%◌, ◌^◌, ◌<◌, ◌≤◌, Bool, List, [], ◌∷◌, ◌++◌, length, drop, nat_lt, None, refl, sym, ap, subst, ◌∙◌}
 use Rattle.cap_io.proofs.Common.{arith, leb-true, lt-ltb, AllByRecursion, flat_map, eqb-true, ltb-true, first_failing, u32_in, Captured, Fault, LinkTypesDiffer}

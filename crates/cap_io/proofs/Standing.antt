@@ -1,4 +1,4 @@
--- Where a source stands in its text, from one call to the next.
+-- The position of a source in its capture, from one call to the next.
 use Rattle.cap_io.proofs.Common.{◌≡◌, ℕ, ◌+◌, ◌-◌, ◌<◌, ◌⊎◌, inl, inr, Bool, true, false, List, [], ◌∷◌, ◌++◌, length, Option, Some, refl, sym, ◌∙◌, ap, arith}
 use Rattle.cap_io.proofs.Common.{add-zero, zero-add, Result, Ok, append_assoc, append-nil, length-append, length-drop, Fault, ReadFailed, NoMemory, Declared}
 use Rattle.cap_io.proofs.Common.{Nothing, Placed, placed_at, AreUnits, no_unit, items, after_packets, ending_by, FaultAt, front_of, NoUnit, SourceView, Phase}

@@ -1,4 +1,4 @@
--- What a sink wrote is the text of the packets that were put to it.
+-- A sink has written the bytes of the packets that were put to it.
 use Rattle.cap_io.proofs.Common.{◌≡◌, ◌⊎◌, inl, inr, ℕ, ◌+◌, ◌/◌, ◌^◌, nat_le, nat_lt, length, Bool, true, false, List, [], ◌∷◌, ◌++◌, Option, None, Some}
 use Rattle.cap_io.proofs.Common.{Result, Ok, Err, refl, sym, ◌∙◌, ap, ap₂, subst, append_assoc, append-nil, first_failing, AppendsOrStops, Captured, Fault}
 use Rattle.cap_io.proofs.Common.{WriteFailed, NoMemory, LinkTypesDiffer, TooLong, TimeOutOfRange, TooManyOutputInterfaces, Format, Pcap, NsecPcap, Pcapng}

@@ -1,4 +1,4 @@
--- A unit and what a text begins with.
+-- Complete units, and what bytes begin with.
 use Rattle.std.proofs.Math.Bool.{or-false}
 use Rattle.cap_io.proofs.Common.{◌≡◌, ℕ, Bool, true, false, ◌&&◌, cond, is_some, ◌⊎◌, inl, inr, ◌<◌, ◌≤◌, List, [], ◌∷◌, ◌++◌, length, take, drop, Option, None}
 use Rattle.cap_io.proofs.Common.{Some, refl, sym, ◌∙◌, ap, arith, append-nil, length-append, length-take-le, take-append-drop, take_at, Captured, Fault, Head}

@@ -1,4 +1,4 @@
--- A block finds its place in the table of interfaces, and its packet its data.
+-- A block is entered into the table of interfaces, and its packet has the data of the definitions.
 use Rattle.cap_pcapng.proofs.Common.{◌≡◌, ℕ, ◌+◌, ◌-◌, ◌^◌, ◌<◌, ◌≤◌, Bool, true, false, List, [], ◌∷◌, length, take, drop, Option, Some, None, Ok, refl, sym}
 use Rattle.cap_pcapng.proofs.Common.{ap, ap₂, subst, ◌∙◌, arith, lit≤, leb-true, length-drop, inl, inr, if◌then◌else◌, nat_lt, is_some, unwrap_or}
 use Rattle.cap_pcapng.proofs.Common.{AllByRecursion, slice_get, option_map, ok_or, drop-drop, drop-take, take-take, length-take-le, length-take, take_all}

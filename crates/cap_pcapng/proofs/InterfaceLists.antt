@@ -1,4 +1,4 @@
--- Options of an interface, read one after another.
+-- The options of an interface, read one after another.
 use Rattle.cap_pcapng.proofs.Common.{◌≡◌, ℕ, Bool, true, false, List, [], ◌∷◌, ◌++◌, cond, refl, sym, ap, ◌∙◌, eqb-true, Option, Some, None, Result, Ok, ◌<◌}
 use Rattle.cap_pcapng.proofs.Common.{◌≤◌, ◌^◌, ◌-◌, nat_lt, unwrap_or, arith, is_some, if◌then◌else◌, ◌==◌, slice_index, option_map, option_or, met_front}
 use Rattle.cap_pcapng.proofs.Common.{failing_front, first_failing, Fault, Order, checks_after, first_checks, first_value, fitting_options, list_checks}

@@ -1,4 +1,4 @@
--- What a list of options begins with.
+-- The first option of a list, and those after it.
 use Rattle.cap_pcapng.proofs.Common.{◌≡◌, ℕ, zero, suc, ◌+◌, ◌<◌, ◌≤◌, Bool, true, false, List, [], ◌∷◌, ◌||◌, cond, length, drop, refl, sym, ap, ap₂, ◌∙◌, ◌-◌}
 use Rattle.cap_pcapng.proofs.Common.{take, arith, lit<, ltb-false, lt-ltb, le-ltb, le-leb, eq-eqb, ne_eqb, length-drop, min, ◌≢◌, Result, Ok, Err, IsErr}
 use Rattle.cap_pcapng.proofs.Common.{lt-leb, drop_min, take_rest, nat_lt, u16_in, Fault, BadOption, Order, fitting_options, CodedValue, item_of, option_at}

@@ -1,4 +1,4 @@
--- All checks of a block by itself, and those of a block among others.
+-- All checks of a block by itself, and those that need its section.
 use Rattle.cap_pcapng.proofs.Common.{◌≡◌, ℕ, ◌-◌, ◌≤◌, ◌⊎◌, inl, inr, Bool, true, false, List, [], ◌∷◌, ◌++◌, length, Some, None, refl, sym, ap, ◌∙◌, le-leb}
 use Rattle.cap_pcapng.proofs.Common.{eq-eqb, first_failing, u32_in, Fault, block_checks, block_fault, body_checks, body_in, option_checks, parts_in}
 use Rattle.cap_pcapng.proofs.Common.{parts_in_body, Frame}

@@ -1,4 +1,4 @@
--- A block is its pieces, joined.
+-- A block that is written is its parts, joined.
 use Rattle.cap_pcapng.proofs.Common.{◌≡◌, ℕ, ◌+◌, ◌-◌, ◌<◌, ◌≤◌, List, [], ◌∷◌, ◌++◌, length, take, drop, replicate, refl, sym, ap, ap₂, ◌∙◌, arith}
 use Rattle.cap_pcapng.proofs.Common.{append_assoc, length-append, ne_eqb, ◌/◌, ◌%◌, ◌^◌, ◌==◌, false, true, false≢true, append-nil, drop_at, length-replicate}
 use Rattle.cap_pcapng.proofs.Common.{replicate-append-replicate, take_all, little_bytes, Captured, padded_length, comment_text, end_text, interface_body}

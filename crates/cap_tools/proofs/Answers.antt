@@ -1,4 +1,4 @@
--- The steps that decide the current packet.
+-- The steps that decide the current packet, and what they write.
 use Rattle.cap_tools.proofs.Coming.{carries-decided, true-wholes, true-fit, true-fits, get-at, At, stands-split, stands-join, rests-join, come-on}
 use Rattle.cap_tools.proofs.Common.{◌≡◌, ◌⊎◌, inl, inr, ℕ, ◌+◌, ◌<◌, ◌≤◌, Bool, true, false, List, [], ◌∷◌, ◌++◌, length, map, Option, None, Some, Result, Ok}
 use Rattle.cap_tools.proofs.Common.{Err, refl, sym, ◌∙◌, ap, arith, subst, append-nil, map-append, slice_get, slice_set, Stops, Captured, Fault, NoMemory}

@@ -1,4 +1,4 @@
--- What has come when an input is read on, or its packet is decided.
+-- The events that have come after an input is read on, or its packet is decided.
 use Rattle.cap_tools.proofs.Common.{◌≡◌, ℕ, suc, ◌+◌, Bool, true, false, List, [], ◌∷◌, ◌++◌, length, drop, map, None, Some, Result, Ok, refl, sym, ◌∙◌, ap}
 use Rattle.cap_tools.proofs.Common.{arith, subst, add-zero, Option, option_to_list, append_assoc, append-nil, length-append, Captured, Fault, Declared, Placed}
 use Rattle.cap_tools.proofs.Common.{placed_at, Items, Ending, End, FaultAt, NoUnit, items, items_from, after_packets, no_items, front_of, kind_of, SourceView}

@@ -1,4 +1,4 @@
--- What a place says of what is left, for inputs in turn and for a merge.
+-- The items that remain after a position, for inputs in turn and for a merge.
 use Rattle.cap_tools.proofs.Coming.{from_turn, left-decided, turn-closes, turn-broken, hand_is, At, Fit, fits-join, rests-join, rests-length}
 use Rattle.cap_tools.proofs.Common.{append-nil, ◌≡◌, inl, inr, ℕ, zero, suc, ◌+◌, ◌≤◌, Bool, true, false, cond, not, max, List, [], ◌∷◌, ◌++◌, length, drop}
 use Rattle.cap_tools.proofs.Common.{Option, None, Some, refl, sym, ◌∙◌, ap, arith, subst, Captured, Fault, Kind, Declared, Items, no_items, kind_of, IsAt}

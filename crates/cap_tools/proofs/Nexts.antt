@@ -1,4 +1,4 @@
--- What comes next, as a step knows it, is what comes next in the order.
+-- The next action, as a step finds it, is that of the job's order.
 use Rattle.cap_tools.proofs.Common.{IsNextEvent, ap₂, append_assoc, append-nil, Stops, AsCapture, AsReports, AsLines, text, added_text, packets_text, text-more}
 use Rattle.cap_tools.proofs.Common.{lines_text, lines-more, report_text, reports_text, reports-more, Report, Sequence, sequence_of, no_progress, apply_events}
 use Rattle.cap_tools.proofs.Common.{end_with, final_text, output_text, text_at_end, Grows, course-grows, course-close, drained-text, StopsWriting}

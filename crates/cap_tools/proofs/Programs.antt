@@ -1,4 +1,4 @@
--- The programs of a job stay those for what is asked, whichever of them run.
+-- The programs of a job remain those for its policy, whichever of them run.
 use Rattle.cap_tools.proofs.Common.{◌≡◌, ℕ, zero, suc, List, [], ◌∷◌, map, true, false, if◌then◌else◌, Option, None, Some, refl, sym, ◌∙◌, ap, subst, Captured}
 use Rattle.cap_tools.proofs.Common.{Insn, Content, empty, truth, all_links, AreMade, ran_at, ran_if, Rule, by_reading, by_answer, AreNew, place_by, spent_on}
 use Rattle.cap_tools.proofs.Common.{Policy, Edit, Filter, KeepAll, Count, is_too_many, AreFor, HavePrograms, SelectorView, spent_by, spent_by_verdict, Spends}

@@ -1,4 +1,4 @@
--- A run of a job, from its first view on, in terms of its call.
+-- A whole run of a job, in terms of its call.
 use Rattle.cap_tools.proofs.Common.{◌≡◌, ℕ, Bool, zero, suc, List, [], ◌∷◌, map, Option, None, Some, IsTrue, refl, sym, ◌∙◌, ap, subst, Placed, InputPast}
 use Rattle.cap_tools.proofs.Common.{DeviceLimits, FreshInput, fresh_view, nothing_done, device_limits, Writing, target_at, written_to, failures_to, form_to}
 use Rattle.cap_tools.proofs.Common.{room_to, failures_by, finish_at, texts, work_of, JobView, Decided, JobGives, StaysDecided, first_job, Policy, IsPolicy}

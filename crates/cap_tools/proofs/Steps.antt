@@ -1,5 +1,5 @@
--- What a step does to a job, by the parts that it changes. `old` is the job as its invariant has it,
--- and `now` the same job as contracts see it.
+-- The effect of a step on a job, by the parts that it changes. `old` is the job as its invariant
+-- describes it, and `now` the same job as contracts see it.
 use Rattle.cap_tools.proofs.{Answers.AnswerLeaves, Answers.answer-leaves, Coming.get-input, CommandStarts.ready-none}
 use Rattle.cap_tools.proofs.Common.{is_none, ◌≡◌, ℕ, ◌+◌, ◌<◌, ◌≤◌, Bool, true, false, IsTrue, List, Captured, Option, None, Some, Result, Ok, Err, ◌&&◌, refl}
 use Rattle.cap_tools.proofs.Common.{sym, ◌∙◌, ap, arith, subst, All, Fault, InputView, InputsView, InputPast, IsInput, IsNext, IsSound, MarksDecided, ReadSteps}

@@ -1,4 +1,4 @@
--- What a put finds, and what it keeps.
+-- The unit that a put writes, and what the writer records.
 use Rattle.capkit_c.proofs.Common.{◌≡◌, ℕ, ◌+◌, ◌<◌, ◌≤◌, List, [], ◌∷◌, ◌++◌, length, take, length-take-le, Option, None, Some, refl, sym, ap, ◌∙◌, subst}
 use Rattle.capkit_c.proofs.Common.{arith, min, zero, suc, Bool, true, false, ◌==◌, nat_lt, ◌&&◌, ◌||◌, not, if◌then◌else◌, slice_set, Captured, Fault}
 use Rattle.capkit_c.proofs.Common.{WriteLeaves, Interface, first_failing, append-nil, ap₂}

@@ -1,4 +1,4 @@
--- What a step of a search leaves.
+-- The effect of a step of a search.
 use Rattle.capkit_c.proofs.Common.{◌≡◌, ℕ, ◌+◌, ◌-◌, ◌<◌, ◌≤◌, List, [], ◌∷◌, length, take, drop, Option, Some, None, refl, sym, ap, ◌∙◌, subst, arith}
 use Rattle.capkit_c.proofs.Common.{drop-drop, length-drop, Captured, Declared, NoUnit, Whole, front_of, HasLink, declared_in, Insn, Skips, at_packet}
 use Rattle.capkit_c.proofs.Common.{past_packet, past_unit, DeclaresOne, IsPastUnit, IsPacketFound, IsStop, NextLeaves, PacketLeaves, PassesUnits, Stays}

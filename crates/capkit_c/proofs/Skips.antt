@@ -1,4 +1,4 @@
--- What going past a refused unit leaves.
+-- The effect of skipping a refused unit.
 use Rattle.capkit_c.proofs.Common.{inl, inr, ap₂, block_size, parts_after, section_of, IsFramed, NextLeaves, Packet, ends, fails, finds, is_full, passes, ◌≡◌}
 use Rattle.capkit_c.proofs.Common.{ℕ, ◌+◌, ◌<◌, ◌≤◌, ◌%◌, List, [], ◌∷◌, ◌++◌, length, take, drop, Option, Some, None, Err, refl, sym, ap, ◌∙◌, subst, arith}
 use Rattle.capkit_c.proofs.Common.{Bool, true, false, nat_lt, ◌==◌, nat_le, ◌&&◌, ◌||◌, not, if◌then◌else◌, length-take-le, take-take, checked, first_failing}

@@ -1,4 +1,4 @@
--- The block that a text begins with.
+-- The block at the start of some bytes.
 use Rattle.capkit_c.proofs.Common.{◌≡◌, ℕ, ◌<◌, ◌≤◌, inl, inr, List, [], ◌∷◌, ◌++◌, length, take, drop, Option, Some, None, Ok, Err, refl, sym, ap, ap₂, ◌∙◌}
 use Rattle.capkit_c.proofs.Common.{subst, arith, option_map, length-take-le, take-append-drop, take-take, checked, first_failing, Fault, Truncated, Order}
 use Rattle.capkit_c.proofs.Common.{checked_err, frame_checks, frame_fault, frame_in, Described, Section, block_size, checks_among, frame_after}
