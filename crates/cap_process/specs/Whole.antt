@@ -317,18 +317,18 @@ pub record HasCarried (format : Format) (file : List ℕ) (p : Captured) (ps : L
   pub few : length (p ∷ ps) < 2 ^ 63
   pub carried : Carries format (p ∷ ps)
 
--- the bytes that an edit without options writes of a file
+-- the bytes that an edit without options writes for a file
 abbrev pub copy_of : Format → List (List ℕ) → List ℕ → List ℕ
 copy_of format names file = (outcome (edit_work no_options format) names (whole_input file ∷ [])).output
 
 -- If the format carries all packets of a file, one or more and fewer than 2^63, an edit without
--- options writes a file of the same packets.
+-- options writes a file with the same packets.
 abbrev pub EditKeeps : Type 0
 EditKeeps =
     (format : Format) (names : List (List ℕ)) (file : List ℕ) (p : Captured) (ps : List Captured)
     → HasCarried format file p ps → file_packets (copy_of format names file) ≡ file_packets file
 
--- Such an edit ends as the file does: cleanly, with status 0, or by its fault.
+-- Such an edit ends as the file does: cleanly, with status 0, or with its fault.
 abbrev pub CopyEnds : Type 0
 CopyEnds =
     (format : Format) (names : List (List ℕ)) (file : List ℕ) (p : Captured) (ps : List Captured)
@@ -336,8 +336,7 @@ CopyEnds =
     → EndsAs names (end_of 0 (items file).ending)
     (outcome (edit_work no_options format) names (whole_input file ∷ []))
 
--- For such a file an edit without options, and such an edit of what that wrote, write the same
--- bytes.
+-- Another edit without options of what such an edit wrote writes the same bytes again.
 abbrev pub EditsAlike : Type 0
 EditsAlike =
     (format : Format) (names : List (List ℕ)) (file : List ℕ) (p : Captured) (ps : List Captured)
@@ -352,7 +351,7 @@ is_rejection Rejected = true
 is_rejection r = false
 
 -- whether an expression rejects a packet on a link: it needs a byte that isn't captured, or divides
--- by 0; never without a link
+-- by 0; false without a link
 abbrev pub is_rejected_on : TruthTree → Option Link → Captured → Bool
 is_rejected_on a None p = false
 is_rejected_on a (Some link) p = is_rejection (holds (truth a) link p.bytes p.orig)
@@ -364,14 +363,15 @@ packets_rejected a (p ∷ ps) =
     if is_rejected_on a (link_of p.link) p then p ∷ packets_rejected a ps
     else packets_rejected a ps
 
--- expressions are read on the link type of each packet
+-- expressions support the link type of each packet
 abbrev pub AreRead : List Captured → Type 0
 AreRead [] = Unit {0}
 AreRead (p ∷ ps) = (is_some (link_of p.link) ≡ true) × AreRead ps
 
--- For packets with link types that expressions are read on there are three lists: those that an
--- expression keeps, those that its negation keeps, and those that it rejects. Whatever is summed of
--- packets, the sums over the three add up to that over all: each packet is in one list, once.
+-- Packets whose link types expressions support are divided into three lists: those that an
+-- expression keeps, those that its negation keeps, and those that it rejects. For any sum over
+-- packets, the sums over the three lists add up to that over all packets: each packet is in exactly
+-- one list.
 abbrev pub NegationParts : Type 0
 NegationParts =
     (a : TruthTree) (ps : List Captured) (f : Captured → ℕ) → AreRead ps
@@ -381,7 +381,7 @@ NegationParts =
 
 -- ---- a capture that is cut
 
--- The packets of a file that is cut anywhere are the first ones of the whole file's.
+-- The packets of a file that is cut anywhere are a prefix of those of the whole file.
 abbrev pub CutsGivePrefixes : Type 0
 CutsGivePrefixes =
     (file : List ℕ) (n : ℕ)
