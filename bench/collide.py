@@ -1,6 +1,7 @@
 #!/usr/bin/env python3
-"""Measures what `edit -D 1000` costs at worst: over packets whose digests were made to collide, and
-over others. For whoever changes the window of duplicates.
+"""Measures what `edit -D 1000` costs at worst: over packets whose digests collide, and over others.
+
+For whoever changes the window of duplicates.
 
 usage: collide.py [--packets N] [--capkit PROGRAM]
 

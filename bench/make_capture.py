@@ -1,9 +1,10 @@
 #!/usr/bin/env python3
-"""Writes a pcap file of made-up traffic, for measurements and tests: TCP, UDP, ICMP, ARP and IPv6
-on Ethernet, in packets of 60 to 200 bytes. The same number of packets gives the same bytes every
-time.
+"""Writes a pcap file of made-up traffic, for measurements and tests.
 
-usage: make_capture.py FILE [PACKETS]        1,000,000 packets by default
+usage: make_capture.py FILE [PACKETS]
+
+It has PACKETS packets (1,000,000) of 60 to 200 bytes: TCP, UDP, ICMP, ARP and IPv6 on Ethernet. The
+same number of packets gives the same bytes every time.
 """
 import random
 import struct

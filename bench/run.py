@@ -1,7 +1,7 @@
 #!/usr/bin/env python3
-"""Compares the CPU time and memory of capkit with those of editcap, mergecap, capinfos and tcpdump,
-and prints a table. For whoever changes code that runs once per packet, and for the figures on
-pages.
+"""Prints a table of the CPU time and memory of capkit, editcap, mergecap, capinfos and tcpdump.
+
+For whoever changes code that runs once per packet, and for the figures on pages.
 
 usage: run.py [--packets N] [--rounds N] [--seconds N] [--capkit PROGRAM] [--instructions | --page] [NAME..]
 
@@ -74,7 +74,9 @@ EXPRESSIONS = {
     "portranges-20": " or ".join(f"portrange {port}-{port + 99}" for port in range(1000, 61000, 3000)),
     "nets-1800": " or ".join(f"ip net {network(24)}" for _ in range(1800)),
     "hosts-2730": "ip src host " + " or ".join(network(32)[:-3] for _ in range(2730)),
-    "macs-40": " or ".join("ether src 00" + "".join(f":{chooser.randrange(256):02x}" for _ in range(5)) for _ in range(40)),
+    "macs-40": " or ".join(
+        "ether src 00" + "".join(f":{chooser.randrange(256):02x}" for _ in range(5)) for _ in range(40)
+    ),
     "ip6-256": " or ".join(f"src host 2001:db8::{k:x}" for k in range(256)),
     "ip6-hosts-256": " or ".join(f"{side} host 2001:db8::{k:x}" for side in ("src", "dst") for k in range(256)),
     "ip6-hosts-64": " or ".join(f"{side} host 2001:db8::{k:x}:0:{k:x}" for side in ("src", "dst") for k in range(256)),

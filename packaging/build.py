@@ -1,6 +1,7 @@
 #!/usr/bin/env python3
-"""Proves the crates that a program or a library for C needs, in parallel, and builds it. The
-launcher, library/Makefile and make_page.sh call it.
+"""Proves the crates that a program or a library for C needs, in parallel, and builds it.
+
+The launcher, library/Makefile and make_page.sh call it.
 
 usage: build.py CRATE PRODUCT [TARGET [TOOLCHAIN]]
 

@@ -1,9 +1,9 @@
 #!/usr/bin/env python3
-"""Tests ./capkit and build.py on small crates with a stub instead of the kit: the order of proofs,
-changes, interrupts and failures. For whoever changes the launcher.
+"""Tests ./capkit and build.py on small crates, with a stub instead of the kit.
 
 usage: check_build.py
 
+It tests the order of proofs, changes, interrupts and failures. For whoever changes the launcher.
 The last line counts the failures; the status is 1 if there is any.
 """
 import os

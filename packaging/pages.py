@@ -1,14 +1,14 @@
 #!/usr/bin/env python3
-"""Writes the manual pages and completions of capkit into a folder, for packages and for installing
-by hand.
+"""Writes the manual pages and completions of capkit into a folder.
 
 usage: packaging/pages.py FOLDER           (needs python3-jinja2)
 
-A page is a template of packaging/pages/. Its usage and examples are those of the help texts, which
-the table crates/cap_cases/data/lines has: cases in which words ask for help or for the version,
-with the lines that are printed. The gate compares these with the program. A page describes each
-argument and option of its command once (`help.item`): this script refuses one that misses some.
-capkit-filter(7) is docs/FILTER.md in the form of a manual page.
+make_deb.sh calls it for packages; docs/INSTALL.md, for installing by hand. A page is a template of
+packaging/pages/. Its usage and examples are those of the help texts, which the table
+crates/cap_cases/data/lines has: cases in which words ask for help or for the version, with the
+lines that are printed. The gate compares these with the program. A page describes each argument and
+option of its command once (`help.item`): this script refuses one that misses some. capkit-filter(7)
+is docs/FILTER.md in the form of a manual page.
 """
 import pathlib
 import re

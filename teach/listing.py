@@ -1,4 +1,4 @@
-"""Programs as listings: what `capkit compile` and `tcpdump -ddd` print; and what all tools read and write."""
+"""Reads programs as listings, which `capkit compile` and `tcpdump -ddd` print, and opens files."""
 import sys
 
 import library

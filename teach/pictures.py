@@ -1,4 +1,4 @@
-"""Draws the ways through a program as SVG, without other programs. For draw.py and the page."""
+"""Draws the ways through a program as SVG, without other programs. For draw.py."""
 import html
 
 # The bits of a code that are its class, two classes, and the code of the jump without a condition.

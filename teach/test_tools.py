@@ -1,5 +1,5 @@
 #!/usr/bin/env python3
-"""Tests of draw.py on listings, above all bad ones: each gives a message.
+"""Tests draw.py on listings, above all on bad ones: each must give a message.
 
 usage: python3 -m unittest test_tools.py            (in this folder)
 """

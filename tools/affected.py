@@ -1,11 +1,12 @@
 #!/usr/bin/env python3
-"""Prints what a change of crates needs before it is handed in: the crates that are proved again,
-with their edits and tests.
+"""Prints what a change of crates needs before it is handed in.
+
+These are the crates that are proved again, with their edits and tests.
 
 usage: affected.py CRATE..
 
 Each crate that depends on a changed one is proved again, since it uses its contracts. `rt ci CRATE`
-proves a crate from nothing with those below it; `.ci/run` does all.
+proves a crate from nothing with those below it; `.ci/run` does all. The status is 1 if there is no such crate.
 """
 import pathlib
 import re

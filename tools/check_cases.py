@@ -1,7 +1,7 @@
 #!/usr/bin/env python3
-"""Compares what the tables of cap_cases state with what the scripts in tools/cases/ compute of the
-same cases, and the numbers on pages with what is counted. tools/cases/ shares nothing with capkit's
-code.
+"""Compares the tables of cap_cases with what tools/cases/ computes, and numbers on pages with counts.
+
+tools/cases/ shares nothing with capkit's code. The gate runs this script.
 
 usage: check_cases.py [--all] [TABLE..]
        check_cases.py --write [TABLE..]

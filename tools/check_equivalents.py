@@ -1,7 +1,8 @@
 #!/usr/bin/env python3
-"""Checks the tables of docs/FROM_TCPDUMP.md: runs each row's line of the other tool and its line of
-capkit, and compares what they write as the last cell claims. For whoever changes that page or what
-capkit does.
+"""Checks the tables of docs/FROM_TCPDUMP.md, by running both lines of each row.
+
+It compares what the other tool's line and capkit's line write, as the row's last cell claims. For
+whoever changes that page or what capkit does.
 
 usage: check_equivalents.py [--capkit PROGRAM]
 

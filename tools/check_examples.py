@@ -1,6 +1,7 @@
 #!/usr/bin/env python3
-"""Runs the examples of the pages and of the manual pages, and compares what they print with what
-the pages show. For whoever changes a page, a sample or what capkit prints.
+"""Runs the examples of pages and manual pages, and compares their output with what the pages show.
+
+For whoever changes a page, a sample or what capkit prints.
 
 usage: check_examples.py [--capkit PROGRAM] [--update] [PAGE..]
 
@@ -16,7 +17,7 @@ usage: check_examples.py [--capkit PROGRAM] [--update] [PAGE..]
 
 A section whose programs aren't all installed, or that needs the library (`make -C library`), is
 left out with a message. --update writes what is printed into the pages: read the changes before you
-commit them.
+commit them. The status is 1 if an example differs or fails.
 """
 import argparse
 import os

@@ -1,6 +1,7 @@
 #!/usr/bin/env python3
-"""Tests docs/capkit.html in Chromium and in Firefox: uses it as a person does, and compares what it
-shows and saves with what it should. For whoever changes the page or the library.
+"""Tests docs/capkit.html in Chromium and in Firefox: uses it, and compares what it shows and saves.
+
+For whoever changes the page or the library.
 
 usage: check_page.py [--page FILE] [--capkit PROGRAM] [--only WORD] [--calls FILE..] [--pictures FOLDER]
 
@@ -739,7 +740,8 @@ LESSONS = {
                  "not port 53": 40,
                  "not port 53 and not tcp and not udp": 6, "host 10.0.0.5 and tcp port 80 or 443": 18,
                  "host 10.0.0.5 and (tcp port 80 or 443)": 9, "tcp[13] & 2 = 0": 22, "not tcp[13] & 2 != 0": 32},
-    "short.pcap": {"tcp port 80": 0, "not tcp port 80": 10, "tcp port 80 or len < 60": 4, "len < 60 or tcp port 80": 34, "tcp": 34},
+    "short.pcap": {"tcp port 80": 0, "not tcp port 80": 10, "tcp port 80 or len < 60": 4,
+                   "len < 60 or tcp port 80": 34, "tcp": 34},
 }  # fmt: skip
 
 
@@ -974,7 +976,10 @@ FOCUSABLE = 'a[href],select,input,textarea,button:not(:disabled),[tabindex="0"]'
 SEEN = """(({ scrollWidth, clientWidth }) => [innerWidth, matchMedia("(prefers-color-scheme: dark)").matches, scrollWidth - clientWidth])(
   document.documentElement)"""
 # The names of those that are shown, and "" for each other one.
-REACHED = """[...document.querySelectorAll(arguments[0])].map((it) => (it.getClientRects().length ? it.id || it.className : ""))"""
+REACHED = (
+    """[...document.querySelectorAll(arguments[0])]"""
+    """.map((it) => (it.getClientRects().length ? it.id || it.className : ""))"""
+)
 
 
 def check_forms(page):
@@ -1086,7 +1091,10 @@ def check_file(path):
     """
     page = path.read_text()
     policy = re.search(r'Content-Security-Policy"\s+content="([^"]*)"', page)[1]
-    wanted = "default-src 'none'; script-src 'wasm-unsafe-eval' DIGEST; style-src DIGEST; base-uri 'none'; form-action 'none'"
+    wanted = (
+        "default-src 'none'; script-src 'wasm-unsafe-eval' DIGEST; style-src DIGEST; base-uri 'none'; "
+        "form-action 'none'"
+    )
     found = [f"{path.stat().st_size} bytes"] if path.stat().st_size >= MOST_BYTES else []
     found += [f"policy: {policy}"] if re.sub(r"'sha256-[A-Za-z0-9+/=]*'", "DIGEST", policy) != wanted else []
     made = make_page.page_of(unpacked(page)[0]['"module">'])

@@ -1,6 +1,7 @@
 #!/usr/bin/env python3
-"""Compares the public calls and types of the sources with tools/surface.txt, the list of those that
-other programs are written to.
+"""Compares the public calls and types of the sources with tools/surface.txt.
+
+That file lists those that other programs use. The gate runs this script.
 
 usage: check_surface.py      prints each difference; the status is 1 if there is any
 

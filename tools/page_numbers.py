@@ -1,4 +1,6 @@
-"""Counts what pages state in numbers, and finds the pages that state another number. For check_cases.py.
+"""Counts what pages state in numbers, and finds the pages that state another number.
+
+check_cases.py calls it.
 
 A page states a number exactly, or as `over N`, which holds for N up to a tenth more: so it needn't
 change with each case or edit.
@@ -80,7 +82,9 @@ def counted():
         "edits that change a definition too": sum("file: specs/" in edit.read_text() for edit in edits),
         "tests": sum(text.read_text().count("#[test]") for text in ROOT.glob("crates/*/src/**/*.rt")),
         "random rounds": int((CASES / "args").read_text().split()[1]),
-        "runs in random rounds": int(re.search(r"^a run ends with .*: (\d+)$", (CASES / "stdout").read_text(), re.M)[1]),
+        "runs in random rounds": int(
+            re.search(r"^a run ends with .*: (\d+)$", (CASES / "stdout").read_text(), re.M)[1]
+        ),
         "crates below the library": len(library),
         "crates of the library": len(library) + 1,
         "crates of the library that the program hasn't": len(library - program) + 1,

@@ -1,14 +1,14 @@
 #!/usr/bin/env python3
-"""Lists the functions of a crate whose proofs cost most, in megabytes written and in seconds. For
-whoever makes checks cheaper.
+"""Lists the functions of a crate whose proofs cost most, in megabytes written and in seconds.
 
 usage: proof_times.py CRATE [COUNT]
 
-It reads what the last check wrote into the crate's out/incremental, and when. For true figures
-empty that folder first (else rt copies another checkout's), and run `rt check --jobs 1` in the
-crate's folder. The megabytes are the same each time; seconds depend on what else runs. For each
-function its most expensive parts follow: Lts is the model of its steps, Kinds mostly loading. If
-Proof takes many seconds for its megabytes, written answers make it cheaper.
+For whoever makes checks cheaper. It lists COUNT functions (25). It reads what the last check wrote
+into the crate's out/incremental, and when. For true figures empty that folder first (else rt copies
+another checkout's), and run `rt check --jobs 1` in the crate's folder. The megabytes are the same
+each time; seconds depend on what else runs. For each function its most expensive parts follow: Lts
+is the model of its steps, Kinds mostly loading. If Proof takes many seconds for its megabytes,
+written answers make it cheaper. The status is 1 if the crate has no work of a check.
 """
 import collections
 import pathlib

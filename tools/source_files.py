@@ -1,4 +1,7 @@
-"""Reads the files of the crates for other scripts: imports and definitions of specs/, uses and declarations of src/."""
+"""Reads the files of the crates, for other scripts.
+
+These are the imports and definitions of specs/, and the uses and declarations of src/.
+"""
 import collections
 import dataclasses
 import pathlib

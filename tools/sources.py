@@ -1,5 +1,7 @@
-"""Reads what the crates define and promise, for other scripts: the definitions of specs/, and the
-types and contracts of src/, each with the names that it uses.
+"""Reads what the crates define and promise, for other scripts.
+
+These are the definitions of specs/, and the types and contracts of src/, each with the names that
+it uses.
 
 An item has a key: its crate, its module and its name, such as ("cap_io", "specs.Text", "text"), so
 two definitions with the same name are two items. A use is the key of an item; that of a variant or

@@ -1,9 +1,10 @@
 #!/usr/bin/env python3
-"""Writes captures that are damaged at random to a folder, for check_packages.sh: samples with some
-bytes changed, cut, left out or doubled, or with a number at a limit. The same COUNT gives the same
-bytes every time.
+"""Writes captures that are damaged at random to a folder, for check_packages.sh.
 
 usage: damaged_captures.py FOLDER COUNT SAMPLE..
+
+They are samples with some bytes changed, cut, left out or doubled, or with a number at a limit. The
+same COUNT gives the same bytes every time.
 """
 import pathlib
 import random

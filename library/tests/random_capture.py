@@ -1,7 +1,8 @@
-"""Writes a pcap capture of COUNT packets to standard output, for kernel.sh and compare.c; half of
-them are random past the fields that an expression tests first.
+"""Writes a pcap capture of COUNT packets to standard output, for check.sh.
 
 usage: random_capture.py COUNT [LINK-TYPE (1, 101 or 113)]
+
+Half of the packets are random past the fields that an expression tests first.
 """
 import random
 import struct

@@ -1,4 +1,5 @@
 """Writes random expressions forever, one per line; each eighth has random words.
+
 usage: random_expressions.py SEED
 
 A blank comes before those that libpcap may read otherwise: those with ^ or %, or with & next to |,

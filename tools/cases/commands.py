@@ -1,5 +1,6 @@
-"""Computes what capkit's commands write and report, as the pages define it: from whole lists of
-packets, never packet by packet.
+"""Computes what capkit's commands write and report, as the pages define it.
+
+It works on whole lists of packets, never packet by packet, unlike capkit.
 """
 
 import dataclasses

@@ -1,4 +1,4 @@
-"""The table `crossed`: sizes and options crossed."""
+"""Writes the table `crossed`: sizes and options crossed."""
 
 import itertools
 

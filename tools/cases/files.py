@@ -1,4 +1,4 @@
-"""Capture files, read and written as docs/inside/FORMATS.md defines them."""
+"""Reads and writes capture files as docs/inside/FORMATS.md defines them."""
 
 import dataclasses
 import struct

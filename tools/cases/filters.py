@@ -1,4 +1,4 @@
-"""Expressions, read and evaluated as docs/FILTER.md defines them."""
+"""Reads and evaluates expressions as docs/FILTER.md defines them."""
 
 import re
 import sys

@@ -1,5 +1,6 @@
-"""Writes the table `lengths`: the printed lines of the packets of the traffic tables, each cut at
-every captured length up to 60.
+"""Writes the table `lengths`: printed lines of packets that are cut.
+
+The packets are those of the traffic tables, each cut at every captured length up to 60.
 """
 
 import commands

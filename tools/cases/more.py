@@ -1,9 +1,9 @@
-"""Prints more cases for the random tables: random commands on random, mostly damaged captures, and
-random expressions.
+"""Prints more cases for a random table.
 
 usage: more.py random_captures|random_filters SEED COUNT
 
-Append what it prints to the table; then check_cases.py --write TABLE computes the results.
+The cases are random commands on random, mostly damaged captures, or random expressions. Append what
+it prints to the table; then check_cases.py --write TABLE computes the results.
 """
 import pathlib
 import random

@@ -1,4 +1,4 @@
-"""Tables of crates/cap_cases as its README.md defines them: read as cases, and written."""
+"""Reads and writes the tables of crates/cap_cases, as its README.md defines them."""
 
 import dataclasses
 import re

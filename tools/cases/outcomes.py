@@ -1,7 +1,6 @@
-"""Computes the expected results of the cases of a table, and writes the lines that state them; all
-other lines are kept.
+"""Computes the expected results of the cases of a table, and writes the lines that state them.
 
-So to add a case to such a table, write only its input: its words, its files and its sweep.
+All other lines are kept: to add a case to such a table, write only its input: its words, its files and its sweep.
 """
 
 import collections

@@ -1,4 +1,4 @@
-"""Lines of printed packets, as docs/LINES.md defines them, and reports."""
+"""Prints lines of packets, as docs/LINES.md defines them, and reports."""
 
 import datetime
 

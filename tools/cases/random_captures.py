@@ -1,6 +1,7 @@
-"""The table `random_captures`: commands with random options on random captures, most of them damaged.
+"""Writes the table `random_captures`: random commands on random captures, most of them damaged.
 
-Its words and captures were made at random once (seed 20261123) and are kept; their results are computed.
+Its words and captures were made at random once (seed 20261123) and are kept; their results are
+computed.
 """
 
 import commands

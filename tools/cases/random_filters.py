@@ -1,6 +1,7 @@
-"""The table `random_filters`: random expressions on random packets.
+"""Writes the table `random_filters`: random expressions on random packets.
 
-Its expressions and packets were made at random once (seed 20261123) and are kept; which match is computed.
+Its expressions and packets were made at random once (seed 20261123) and are kept; which of them
+match is computed.
 """
 
 import filters

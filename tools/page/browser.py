@@ -1,4 +1,4 @@
-"""Chromium and Firefox without a window, driven by WebDriver's commands; no package of Python is needed.
+"""Drives Chromium and Firefox without a window, by WebDriver's commands and without other packages.
 
     with Chromium(folder) as browser:
         browser.open(path)
@@ -38,9 +38,10 @@ KEYS = {"Tab": "\ue004", "Enter": "\ue007", "Space": " ", "PageUp": "\ue00e", "P
 
 
 def free_port():
-    with socket.socket() as it:
-        it.bind(("127.0.0.1", 0))
-        return it.getsockname()[1]
+    """Returns the number of a TCP port that nobody uses."""
+    with socket.socket() as probe:
+        probe.bind(("127.0.0.1", 0))
+        return probe.getsockname()[1]
 
 
 class Browser:
@@ -185,14 +186,14 @@ class Chromium(Browser):
         """
         events = [json.loads(it["message"])["message"] for it in self.log("performance")]
         blocked = {it["params"]["requestId"] for it in events if it["params"].get("blockedReason") == "csp"}
-        asked = [
+        requests = [
             it["params"]
             for it in events
             if it["method"] == "Network.requestWillBeSent" and it["params"]["requestId"] not in blocked
         ]
         return [
             url
-            for it in asked
+            for it in requests
             if not (url := it["request"]["url"]).startswith(("file:", "blob:", "about:", "data:", "chrome:"))
         ]
 
@@ -206,8 +207,8 @@ class Chromium(Browser):
     def drag(self, kind, *paths):
         """Drags files over the page ("dragover"), or drops them there ("drop")."""
         files = {"items": [], "files": [str(pathlib.Path(it).resolve()) for it in paths], "dragOperationsMask": 1}
-        for it in {"dragover": ["dragEnter", "dragOver"], "drop": ["drop"]}[kind]:
-            self.call("Input.dispatchDragEvent", type=it, x=300, y=300, data=files)
+        for event in {"dragover": ["dragEnter", "dragOver"], "drop": ["drop"]}[kind]:
+            self.call("Input.dispatchDragEvent", type=event, x=300, y=300, data=files)
 
     def picture(self):
         return base64.b64decode(self.call("Page.captureScreenshot", format="png", captureBeyondViewport=True)["data"])
@@ -235,7 +236,10 @@ class Firefox(Browser):
       new Debugger().addDebuggee(window).executeInGlobal(arguments[0]);
     """
     # The page gets the event of a drag, with the files of a chooser that is made for it.
-    CHOOSER = """document.body.append(Object.assign(document.createElement("input"), { type: "file", id: "dragged", multiple: true }))"""
+    CHOOSER = (
+        """document.body.append(Object.assign(document.createElement("input"), """
+        """{ type: "file", id: "dragged", multiple: true }))"""
+    )
     DRAG = """((kind) => {
       const chooser = document.getElementById("dragged"), dataTransfer = new DataTransfer();
       for (const file of chooser.files) dataTransfer.items.add(file);

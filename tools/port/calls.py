@@ -1,8 +1,9 @@
 #!/usr/bin/env python3
-"""Records calls of this machine's library with their results, for replay.c, which repeats them on
-another processor, and for check_page.py.
+"""Records calls of this machine's library with their results.
 
 usage: calls.py LIBCAPKIT.SO OUT [SEED]
+
+replay.c repeats them on another processor, and check_page.py in a browser.
 
 Some expressions are refused or damaged, some programs are damaged, and captures are samples with
 flipped bits, cuts and inserted bytes. Every buffer is recorded before and after the call, with its
@@ -60,8 +61,8 @@ class Calls:
         self.block(name.encode())
         for value in (wide, len(given), sum(not isinstance(it, int) and 1 << place for place, it in enumerate(given))):
             self.number(value)
-        for it in given:
-            self.number(it) if isinstance(it, int) else self.block(bytes(it))
+        for argument in given:
+            self.number(argument) if isinstance(argument, int) else self.block(bytes(argument))
         result = function(*passed)
         self.number(result)
         after = [buffer.raw[: len(it)] for buffer, it in zip(passed, given) if not isinstance(it, int)]

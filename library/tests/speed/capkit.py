@@ -1,4 +1,9 @@
-"""usage: capkit.py read|match|pcap|pcapng CAPTURE [EXPRESSION | OUTPUT]    see speed.py"""
+"""Reads, filters or copies a capture with the package for Python, for speed.py.
+
+usage: capkit.py read|match|pcap|pcapng CAPTURE [EXPRESSION | OUTPUT]
+
+It prints the number of packets, and 0, the time of compiling, which isn't measured.
+"""
 import sys
 
 import capkit

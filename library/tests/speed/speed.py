@@ -1,10 +1,10 @@
 #!/usr/bin/env python3
-"""Measures reading, filtering and writing 1,000,000 packets in each language, and in libpcap and
-gopacket, and counts the lines of the examples.
+"""Measures reading, filtering and writing 1,000,000 packets in each language, libpcap and gopacket.
 
-usage: speed.py [ROUNDS] [LANGUAGE..]     by default 7 rounds and c rust go python libpcap gopacket
+usage: speed.py [ROUNDS] [LANGUAGE..]
 
-Each cell is the least CPU time (user and system, in s) of all rounds, in each of which all programs
+By default it makes 7 rounds of c rust go python libpcap gopacket. It also counts the lines of the
+examples. Each cell is the least CPU time (user and system, in s) of all rounds, in each of which all programs
 run one after another. It builds the programs in out/speed, uses the library that `make` and `make
 python` left in out/, and says which language it can't build. libpcap's times are without compiling,
 which is printed after them. Needs the headers of libpcap for libpcap, and Debian's
