@@ -3,11 +3,11 @@
 
 usage: check_lists.py [--capkit PROGRAM] [COUNT [FIRST]]
 
-For whoever changes how lists are compiled: of hosts, networks, ports, protocols, MAC addresses,
-bytes and flows. The script evaluates each list member by member, as docs/FILTER.md defines it;
-`capkit print -w` must write the same packets. Packets have numbers of the list, numbers next to
-them, or others; most are cut. COUNT lists (10,000) have the seeds FIRST (1) and up. The status is 1
-if anything differs.
+For whoever changes how lists are compiled. Lists have hosts, networks, ports, protocols, MAC
+addresses, bytes or flows. The script evaluates each list member by member, as docs/FILTER.md
+defines it; `capkit print -w` must write the same packets. Packets have numbers of the list, numbers
+next to them, or others; most are cut. COUNT lists (10,000) have the seeds FIRST (1) and up. The
+status is 1 if anything differs.
 """
 import argparse
 import contextlib
