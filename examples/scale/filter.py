@@ -61,6 +61,13 @@ def refuse(text, status):
     return status
 
 
+def give_up(joined, statuses):
+    """Removes what a failed merge wrote; returns the greatest status."""
+    if os.path.exists(joined):
+        os.remove(joined)
+    return max(statuses)
+
+
 def connected(scheduler):
     """Returns a client of the scheduler; None if none answers."""
     logging.getLogger("distributed").setLevel(logging.CRITICAL)
@@ -87,6 +94,8 @@ def main(scheduler, out, expression, *files):
         if parts:
             joined = f"{out}.{os.getpid()}.part"
             statuses.append(join(joined, parts))
+            if statuses[-1]:
+                return refuse(f"{out}: not written, since the merge failed", give_up(joined, statuses))
             os.replace(joined, out)
     return max(statuses)
 

@@ -34,8 +34,8 @@ pub enum Subcommand {
     Compile,
 }
 
-/// The subcommand of this name. clap refuses all names except the five, so any name other than the
-/// first four is `compile`.
+/// The subcommand of this name. clap accepts only the five names, so any other than the first four
+/// is `compile`.
 pub fn subcommand_of_name(name: &str) -> Subcommand
     ensures { result ≡ subcommand_of_name name.now }
 {

@@ -20,8 +20,8 @@ const CLOSED: Option<ErrorKind> = Some(ErrorKind::BrokenPipe);
 /// What a run shows of a name with a control character.
 const TOLD: &str = "capkit: a\\x1b: truncated\n";
 
-/// The end of a run: why its writes failed and its last write did, its status, and what is
-/// reported.
+/// The end of a run: why a write failed and why the write of what was buffered did (`None` if it
+/// didn't), its status, and what is reported.
 type Ending = (
     (Option<ErrorKind>, Option<ErrorKind>),
     Option<u8>,
@@ -198,8 +198,8 @@ const ANSWERS: [(Option<ErrorKind>, u8, &str); 3] = [
 ];
 
 /// What a user asks for goes to standard output, and all else to standard error, each message by
-/// one call. An answer that can't be written is a fault, which is reported but if its reader went
-/// away.
+/// one call. An answer that can't be written is a fault, which is reported unless its reader
+/// went away.
 #[test]
 fn faults_and_answers_are_told(rt: HostRuntime) -> Result<(), Fail> {
     for (failure, status, errors) in ANSWERS {
