@@ -49,8 +49,10 @@ SCRIPT = "salvage.py"
 
 
 class Capture:
-    """A capture: its bytes, and the places of its packets. Packets of pcapng have two interfaces, one
-    with microseconds and one with nanoseconds."""
+    """A capture with its bytes and the places of its packets.
+
+    A pcapng capture has two interfaces: one in microseconds and one in nanoseconds.
+    """
 
     def __init__(self, packets, form, snap=262144):
         self.form, (self.kind, self.order) = form, form.split()
@@ -104,12 +106,14 @@ def packets_of(path):
 # ---- captures
 
 def plain(chance, pool):
+    """Returns packets of a capture in a row."""
     packets = chance.choice(pool)
     begin = chance.randrange(max(1, len(packets) - 3000))
     return packets[begin : begin + chance.choice((20, 100, 500, 1000, 3000))]
 
 
 def snapped(chance, pool):
+    """Returns packets with a snap length of 96."""
     return [(when, original, data[:96]) for when, original, data in plain(chance, pool)]
 
 
@@ -166,10 +170,12 @@ def capture(chance, forms=FORMS, makers=ALL):
 # ---- damages: each returns the bytes and the packets, with whether they are damaged
 
 def replaced(one, begin, end, what):
+    """Replaces a range of bytes; the packets in it are damaged."""
     return one.data[:begin] + what + one.data[end:], one.packets([(begin, max(end, begin + 1))])
 
 
 def whole(one):
+    """Returns a capture without damage."""
     return one.data, one.packets()
 
 
@@ -194,17 +200,20 @@ def fractions(chance):
 
 
 def to_crlf(chance):
+    """Replaces each line feed by a carriage return and a line feed, as a transfer as text does."""
     one = capture(chance)
     packets = [(packet, b"\n" in one.data[begin:end]) for begin, end, packet in one.units]
     return one.data.replace(b"\n", b"\r\n"), packets
 
 
 def to_lf(chance):
+    """Removes the carriage returns before line feeds."""
     one = capture(chance)
     return one.data.replace(b"\r\n", b"\n"), one.packets([it.span() for it in re.finditer(b"\r\n", one.data)])
 
 
 def zeros_at_end(chance):
+    """Appends zeros to a capture, or to a prefix of it."""
     one = capture(chance)
     size = chance.randrange(1, len(one.data))
     end = chance.choice((size, len(one.data)))
@@ -227,12 +236,14 @@ def paged(chance, new):
 
 
 def page_twice(chance):
+    """Repeats a page."""
     one = capture(chance)
     begin, end = page(chance, one)
     return one.data[:end] + one.data[begin:], one.packets([(begin, begin + 1), (end, end + 1)])
 
 
 def two_writers(chance):
+    """Mixes the pages of two captures, as if two programs wrote one file."""
     form = [chance.choice(FORMS[:4])]
     ones, size, data = [capture(chance, form), capture(chance, form)], chance.choice((4096, 65536)), b""
     for begin in range(0, max(len(it.data) for it in ones), size):
@@ -253,6 +264,7 @@ def changed(chance, most, mask):
 
 
 def truncated(chance):
+    """Cuts off the end of a capture."""
     one = capture(chance)
     size = chance.randrange(4, len(one.data))
     return one.data[:size], one.packets([(size, len(one.data))])
@@ -272,6 +284,7 @@ def length_broken(chance):
 
 
 def concatenated(chance):
+    """Appends captures to each other, half of them cut."""
     data, packets = b"", []
     for _ in range(chance.randrange(2, 4)):
         one = capture(chance)
@@ -281,12 +294,14 @@ def concatenated(chance):
 
 
 def cut_out(chance):
+    """Removes some bytes."""
     one = capture(chance)
     begin = place(chance, one)
     return replaced(one, begin, min(begin + chance.randrange(1, 3000), len(one.data)), b"")
 
 
 def overwritten(chance, one=None):
+    """Overwrites some bytes."""
     one = one or capture(chance)
     begin = place(chance, one)
     end = min(begin + chance.randrange(1, 5000), len(one.data))
@@ -356,7 +371,7 @@ def start_gone(chance):
 
 
 def beginning_gone(chance):
-    """Removes the first bytes, and returns another capture too, whose file header is the same."""
+    """Removes the first bytes; returns another capture too, with the same file header, for --like."""
     one, size = capture(chance), chance.randrange(1, 3000)
     other = Capture(plain(chance, pool)[: chance.choice((0, 1, 50))], one.form)
     return one.data[size:], one.packets([(one.first, max(size, one.first))]), other.data
@@ -490,8 +505,10 @@ def run_script(words, said):
 
 
 def try_file(data, packets, is_timed, like=b""):
-    """Runs the programs on one file: their counts, and what salvage.py did wrong, if it gets a file that
-    begins in the same way with that one."""
+    """Runs the programs on one file; returns their counts, and the faults of salvage.py.
+
+    `like` is a capture with the same file header, which salvage.py gets by --like.
+    """
     faults, results = [], {}
     with tempfile.TemporaryDirectory() as temporary:
         source = pathlib.Path(temporary) / "damaged"
@@ -538,6 +555,7 @@ def try_one(number, given):
 
 
 def keep(faults, given, name, data):
+    """Writes the bytes of a run with faults to the folder of --keep."""
     if faults and given.keep:
         (pathlib.Path(given.keep) / name).write_bytes(data)
 

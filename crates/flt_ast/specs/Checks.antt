@@ -5,7 +5,7 @@ use Rattle.flt_words.specs.declared.token.Operator.{Operator, TheVariants.Divide
 use Rattle.flt_ast.specs.{Counts.words_of, Counts.bound_of, Resolved.some_primitive}
 use Rattle.flt_ast.specs.Tree.{NumberTree, literal, load, negated, applied, TruthTree, compared, Expression}
 
--- whether an operator's right side mustn't be 0
+-- whether an operator is a division or a remainder, whose right side mustn't be 0
 abbrev pub is_division : Operator → Bool
 is_division Divide = true
 is_division Remainder = true

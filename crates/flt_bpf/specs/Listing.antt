@@ -37,7 +37,7 @@ pub record IsWrittenNumber (digits : List ℕ) (n : ℕ) : Type 0 where
   pub short : length digits ≤ 10
   pub value : digits_value 10 digits ≡ n
 
--- a line that consists of a number, one or more blanks, and something for which `Rest`
+-- a line that consists of a number, one or more blanks, and then bytes for which `Rest` is true
 pub record BeginsWith (line : List ℕ) (n : ℕ) (Rest : List ℕ → Type 0) : Type 0 where
   pub digits : List ℕ
   pub more_blanks : ℕ

@@ -53,8 +53,8 @@ IsWritableNumber (load p s a) = (is_accessor p ≡ true) × (s < 2 ^ 32) × IsWr
 IsWritableNumber (negated a) = IsWritableNumber a
 IsWritableNumber (applied o a b) = IsWritableNumber a × IsWritableNumber b
 
--- some text gives these numbers, names, addresses and protocols of a truth: a protocol that is by
--- itself, or before `broadcast` or `multicast`, may be there
+-- some text gives these numbers, names, addresses and protocols of a truth; a protocol is by
+-- itself, or before `broadcast` or `multicast`, only if the language allows that
 abbrev pub IsWritableTruth : TruthTree → Type 0
 IsWritableTruth (check p) = stands_alone p ≡ true
 IsWritableTruth (cast None c) = Unit {0}
