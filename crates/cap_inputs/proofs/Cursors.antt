@@ -18,7 +18,7 @@ weaker P Q each (x ∷ xs) all = (each x all.0, weaker P Q each xs all.1)
 
 -- ---- one input
 
--- in front of others
+-- an input before others
 pub later-input : (x : InputView) (xs : List InputView) (i : ℕ) (h : InputView) → IsInput xs i h → IsInput (x ∷ xs) (suc i) h
 later-input x xs i h a = record { front = x ∷ a.front; back = a.back; place = ap suc a.place; splits = ap (λ (l : List InputView). x ∷ l) a.splits }
 

@@ -8,7 +8,7 @@ use Rattle.cap_inputs.proofs.Common.{ended_count, has_least_key, is_open, is_unr
 use Rattle.cap_inputs.proofs.Common.{IsNextIn, IsOpen, IsReady, KeysFrom}
 use Rattle.cap_inputs.proofs.Cursors.{get-input, weaker}
 
--- ---- the first input of which a test holds
+-- ---- the first input for which a test is true
 
 abbrev pub AllFail : (InputView → Bool) → List InputView → Type 0
 AllFail p xs = AllByRecursion (λ x. p x ≡ false) xs

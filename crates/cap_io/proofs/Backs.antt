@@ -43,7 +43,7 @@ reads-back text ps holds =
       ending = ap (λ (i : Items). i.ending) all;
     }
 
--- what holds of each packet after those before it holds of those after some
+-- what is true of each packet after those before it is also true of those after some
 pub each-following : (Q : Captured → Type 0) (all : List Captured) → ((earlier : List Captured) (p : Captured) (later : List Captured) → all ≡ earlier
     ++ p ∷ later → Q p)
     → (earlier ps : List Captured) → all ≡ earlier ++ ps → AllByRecursion Q ps

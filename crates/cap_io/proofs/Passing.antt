@@ -141,7 +141,7 @@ IsBroken-then old mid new fault first none counted broken = record {
   packet = broken.packet;
 }
 
--- a source that tells a fault stays where it is
+-- a source that reports a fault doesn't move
 pub IsBroken-failed : (old mid new : SourceView) (fault : Fault) → IsBroken old mid fault → new.declared ≡ mid.declared → new.offset ≡ mid.offset
     → new.unread ≡ mid.unread → new.given ≡ mid.given → new.room ≡ mid.room
     → new.block ≡ [] → new.packet ≡ None → new.phase ≡ Failed fault → FindsFault old new fault

@@ -16,7 +16,7 @@ use Rattle.cap_pcapng.proofs.Numerals.{number_at}
 written_head : Resolution → ℕ → Head
 written_head resolution link = record { order = Little; resolution = resolution; snap = most_captured; link = link }
 
--- whole parts of a second
+-- no part of a second is cut off
 abbrev IsWhole : Resolution → ℕ → Type 0
 IsWhole Microseconds time = time % 1000 ≡ 0
 IsWhole Nanoseconds time = Unit {0}

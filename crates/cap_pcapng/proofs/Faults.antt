@@ -8,7 +8,7 @@ use Rattle.cap_pcapng.specs.OptionList.{options_in, options_within}
 
 -- ---- the faults of some rows
 
--- what holds of the faults of all rows holds of the first that fails
+-- what is true of the faults of all rows is true of the first that fails
 abbrev pub AreAll : (Fault → Type 0) → List (Bool × Fault) → Type 0
 AreAll P rows = AllByRecursion (λ row. P row.1) rows
 

@@ -8,7 +8,8 @@ use Rattle.std.specs.Borrow.{Bor}
 use Rattle.cap_pcapng.specs.declared.interface.FoundOptions.{FoundOptions}
 use Rattle.cap_pcapng.specs.inside.Interface.{Adds, IsFound, is_found, value_for}
 
--- what an iterator of options has left, once some were read and passed, and this was found in them
+-- the options that an iterator still returns after some were read without a fault, and this was
+-- found in them
 pub record HasRead (order : Order) (all rest : List (Result CodedValue Fault)) (found : FoundOptions) : Type 0 where
   pub before : List CodedValue
   pub checks : first_failing (list_checks [] all) ≡ first_failing (list_checks before rest)
@@ -61,7 +62,7 @@ by_code false false true given name units offset a b c n u f = ap (λ g. cond g 
 by_code false false false true name units offset a b c n u f = refl
 by_code false false false false name units offset a b c n u f = refl
 
--- an option of which one of its code stands before isn't checked
+-- an option after another one with its code isn't checked
 pub checks_after-found : (order : Order) (before : List CodedValue) (o : CodedValue) (found : FoundOptions) → IsFound order before found
     → checks_after before o ≡ (if is_found found o.code then [] else first_checks o)
 checks_after-found order before o found is =

@@ -92,7 +92,7 @@ options_in-next order text code len following code_is len_is there more within i
 pub options_in-none : (order : Order) → options_in order [] ≡ []
 options_in-none order = options_in-short order [] (lit< tt)
 
--- an item fewer is left
+-- one item fewer remains
 pub shorter_by : {X : Type 0} (x : X) (all rest : List X) → all ≡ x ∷ rest → length rest < length all
 shorter_by x all rest is = let e : length all ≡ length rest + 1 = ap length is ∙ omega arith in omega arith
 

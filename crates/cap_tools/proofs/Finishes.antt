@@ -11,7 +11,7 @@ use Rattle.cap_tools.proofs.Common.{progress_of, progress_over, wholes_of, Next}
 use Rattle.cap_tools.proofs.{Fetches.mk, Fetches.inputs_at, Laws.OverAt, Laws.over-at}
 use Rattle.cap_tools.proofs.Nexts.{all-course, stops-at, once-closing}
 
--- all events came
+-- all events have come
 over-all : (ss : List InputPast) (before : List ℕ) (cursors : List InputView) (order : PacketOrder) (policy : Policy) (state : SelectorState)
     (names : List (List ℕ)) (output : Target) (decided : ℕ) → OverAt order cursors
     → (d : PacketsDecided ss before (mk cursors order policy state names output decided))

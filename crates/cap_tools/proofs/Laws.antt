@@ -81,7 +81,7 @@ merge-decides xs ys h p fs gs f waits held over from fits_x fits_y whole =
 
 -- ---- which inputs are ready
 
--- an input that is ready, by what is done of it
+-- an input that is ready, by its done part
 ready-one : (s : InputPast) (h : InputView) → At s h → IsReady h → InputFrom 0 h
 ready-one s h at ready = by_waiting h.waiting refl ready
   where
@@ -291,7 +291,7 @@ decide-at ByTime ss cursors i tells following =
           (subst P a.splits (all-ready ss cursors following tells.0)) l.over l.from;
     }
 
--- ---- nothing is left
+-- ---- nothing remains
 
 -- all inputs are at their ends
 pub record OverAt (order : PacketOrder) (cursors : List InputView) : Type 0 where
@@ -304,7 +304,7 @@ drop-all [] (suc n) h = refl
 drop-all (r ∷ rs) zero h = absurd (omega (arith, h))
 drop-all (r ∷ rs) (suc n) h = drop-all rs n (omega (arith, h))
 
--- inputs at their ends, of which none waits
+-- inputs at their ends, none of which waits
 ended-from-all : (hs : List InputView) → NoneWaits hs → AllEnded hs → InputsFrom 0 hs
 ended-from-all [] none ended = tt
 ended-from-all (h ∷ hs) none ended = (ended_from none.0 ended.0, ended-from-all hs none.1 ended.1)

@@ -123,7 +123,8 @@ abbrev pub Goes : Result Bool Fault → Type 0
 Goes (Ok b) = Unit {0}
 Goes (Err fault) = ⊥
 
--- reading on never leaves more to do; if there is no fault it leaves less, and is paid
+-- reading on never increases the bound of the remaining steps; without a fault it decreases it, and
+-- the bytes read account for the step
 pub record ReadOn (inputs inputs' : InputsView) (r : Result Bool Fault) : Type 0 where
   pub kept : steps_left inputs' ≤ steps_left inputs
   pub less : Goes r → steps_left inputs' < steps_left inputs

@@ -4,7 +4,7 @@ use Rattle.cap_tools.proofs.Common.{Insn, Content, empty, truth, all_links, AreM
 use Rattle.cap_tools.proofs.Common.{Policy, Edit, Filter, KeepAll, Count, is_too_many, AreFor, HavePrograms, SelectorView, spent_by, spent_by_verdict, Spends}
 use Rattle.cap_filter.proofs.Filters.{made-ran}
 
--- a run leaves a program's instructions
+-- a run doesn't change a program's instructions
 insns-ran : (programs : List Content) (i : ℕ) (p : Captured) → map (λ (x : Content). x.insns) (ran_at i p programs) ≡ map (λ (x : Content). x.insns) programs
 insns-ran [] i p = refl
 insns-ran (x ∷ xs) zero p = refl

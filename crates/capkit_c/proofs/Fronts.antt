@@ -139,7 +139,7 @@ placed_first link text order size interfaces' None b = b.carries
 placed_first link text order size interfaces' (Some p) b =
     let none : [] ≡ b.carries.packet ∷ [] = sym (first-packets (take size text) b.is_block) ∙ b.carries.stands in absurd (cc)
 
--- what a text begins with, after what is declared
+-- the first unit of bytes, after these declarations
 pub record BlockUnit (declared : Declared) (first : Option ℕ) (text : List ℕ) (order : Order) (size : ℕ) (interfaces' : List Described)
     (packet : Option UnitPacket) : Type 0 where
   pub packets : List Captured

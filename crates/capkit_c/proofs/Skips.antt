@@ -53,14 +53,14 @@ frame_refused before section text front fault is enough same exact =
     (by_frame (is_section front || is_some section) (not (is_section front) || is_some (magic_order front))
     (nat_le 12 (length_in section front) && (length_in section front % 4 == 0)) (nat_le (length_in section front) most_block) fault e)
 
--- ---- a unit that isn't gone past, and one that is
+-- ---- a unit that can't be skipped, and one that can
 
 -- what is declared, by the state of the file
 pub by_state : (r : Reader) (t : List Interface) (f : FileState) → reader_form r ≡ f → declared_in r t ≡ declared_by f
     (first_interfaces (most_known r (length t)) t)
 by_state r t f is = ap (λ g. declared_by g (first_interfaces (most_known r (length t)) t)) is
 
--- the unit that is gone past, by the part that is refused
+-- the unit that is skipped, by the part that is refused
 pub past_is : (capture : List ℕ) (r : Reader) (t : List Interface) (f : FileState) (fault : Fault) (part : RefusedPart) → reader_form r ≡ f
     → front_of (declared_in r t) (drop r.offset capture) ≡ NoUnit (Some fault) → part ≡ refused_part fault
     → past_at capture r t ≡ past_by (declared_by f (first_interfaces (most_known r (length t)) t)) (drop r.offset capture) part
@@ -102,7 +102,7 @@ described_count n t fits = length-map (take n t) _ ∙ length-take-le n t fits
 pub one_more : (n : ℕ) (t : List Interface) (i : Described) → n ≤ length t → length (first_interfaces n t ++ i ∷ []) ≡ n + 1
 one_more n t i fits = length-append (first_interfaces n t) (i ∷ []) ∙ ap (λ m. m + 1) (described_count n t fits)
 
--- a description block is gone past, while its section has room, or it isn't
+-- a description block is skipped if its section has room; otherwise it isn't
 pub past_description : (first : Option ℕ) (section : Section) (size link snap : ℕ) (order : Order) (options : List ℕ) → length section.interfaces < 256
     → past_interface first section size (InterfaceParts link snap order options) ≡ Some
     (record { size = size; declared = with_interface first section (unread_interface link snap) })
@@ -217,14 +217,14 @@ most_count form.Unknown interfaces = omega arith
 most_count (form.Pcap head) interfaces = omega arith
 most_count (form.Pcapng order first) interfaces = omega arith
 
--- nothing is gone past where a text begins with a sound unit or nothing
+-- nothing is skipped if the bytes begin with a sound unit or are at their end
 pub found : (capture : List ℕ) (r : Reader) (t t' : List Interface) (front : Front) (what : Found) → front_of (declared_in r t)
     (drop r.offset capture) ≡ front → past_front (declared_in r t) (drop r.offset capture) front ≡ None
     → what ≡ found_in_front (length t) front → t' ≡ t → SkipLeaves capture r r t t' (Skip.Not what)
 found capture r t t' front what is none says same =
     stays what (ap (past_front (declared_in r t) (drop r.offset capture)) is ∙ none) (says ∙ sym (ap (found_in_front (length t)) is)) refl same
 
--- what the text begins with, in a table of just the interfaces that are known
+-- what the bytes begin with, in a table of exactly the known interfaces
 pub begins : (capture text : List ℕ) (r : Reader) (t : List Interface) (f : FileState) (count : ℕ) → f ≡ reader_form r → Counts f r (length t) count
     → text ≡ drop r.offset capture
     → front_of (declared_in r t) (drop r.offset capture) ≡ front_of (declared_by f (first_interfaces count (take count t))) text

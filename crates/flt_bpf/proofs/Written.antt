@@ -17,7 +17,7 @@ number_before n m ns rest l h =
       rest_is = h;
     }
 
--- the line that is written of an instruction is one of it
+-- the line that is written for an instruction is a line of it
 insn_written : (i : Insn) → HasFieldsInRange i → IsInsnLine (insn_line i) i
 insn_written i r =
     let jf = number_before i.jf i.k [] (decimal i.k) (omega (arith, r.jf)) (decimal_number i.k r.k) in
