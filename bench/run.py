@@ -226,7 +226,7 @@ def measure(programs, arguments, folder):
 
 
 def small_jobs(capkit, floor, folder):
-    """Returns the words of each job by name, for both small captures."""
+    """Yields the words of each job by name, for both small captures."""
     for count in (FEW, MANY):
         place = folder / str(count)
         place.mkdir()

@@ -105,7 +105,7 @@ class Flow:
         self.width = self.end + LANE * (right + 1) + 4 + MARGIN
 
     def parts(self):
-        """Yields the lines, and a box for each instruction."""
+        """Returns the lines, and a box for each instruction."""
         parts = [self.jumps(*key, *lane) for key, lane in self.lanes.items()]
         for place, (insn, text) in enumerate(zip(self.instructions, self.texts)):
             parts.append(self.steps(place))
@@ -113,7 +113,7 @@ class Flow:
         return parts
 
     def steps(self, place):
-        """Yields the short lines from an instruction to the one right below."""
+        """Returns the short lines from an instruction to the one right below."""
         x, y = self.x + self.box_width / 2, y_of(place) + BOX / 2
         return "".join(
             f'<path class="{kind}" d="M{x:g} {y:g}v{ROW - BOX}"/>'

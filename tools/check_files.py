@@ -176,7 +176,7 @@ OUTPUTS = [
 
 
 def differences_after_mistake(program, make, status, message, command, output):
-    """Returns the differences after a command that makes a mistake was run with an output."""
+    """Yields the differences after a command that makes a mistake was run with an output."""
     name, make_output, as_it_was, may_be_refused = output
     command = command.replace("OUT", name)
     line = f"capkit compile tcp > listing; {make_output}; {make}; capkit {command}; s=$?; {as_it_was} || exit 99; exit $s"
@@ -218,7 +218,7 @@ TERMINAL_CASES = [
 
 
 def differences_on_terminal(program, line, name, is_shown):
-    """Returns the differences on a terminal of that name, which is standard error and the controlling terminal."""
+    """Yields the differences on a terminal of that name, which is standard error and the controlling terminal."""
     with tempfile.TemporaryDirectory() as folder:
         here = pathlib.Path(folder)
         variables = folder_with(here, program)
@@ -240,7 +240,7 @@ def differences_on_terminal(program, line, name, is_shown):
 
 
 def differences(program, line, status, message, files):
-    """Returns the differences between the files that a line wrote and those that it should write."""
+    """Yields the differences between the files that a line wrote and those that it should write."""
     with tempfile.TemporaryDirectory() as folder:
         here = pathlib.Path(folder)
         variables = folder_with(here, program)

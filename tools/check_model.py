@@ -135,7 +135,7 @@ class Names:
                       if not left_out(inner) for name in names]
 
     def private_paths(self):
-        """Returns the paths of all items, variants and modules, as code inside their crate could write them."""
+        """Yields the paths of all items, variants and modules, as code inside their crate could write them."""
         for (crate, module, name), item in self.sources.items.items():
             path = "::".join([crate, *filter(None, module.removeprefix("src").split(".")), name])
             yield path
@@ -164,7 +164,7 @@ def left_out(folders):
 
 
 def ends(path):
-    """Yields a path, and its ends: without its first parts, down to its last two."""
+    """Returns a path, and its ends: without its first parts, down to its last two."""
     parts = path.split("::")
     return ["::".join(parts[at:]) for at in range(len(parts) - 1)]
 

@@ -886,7 +886,7 @@ def check_many(page):
 
 
 def blocks(data):
-    """Returns the enhanced packet blocks of a little-endian pcapng file."""
+    """Yields the enhanced packet blocks of a little-endian pcapng file."""
     place = 0
     while place < len(data):
         kind, size = struct.unpack_from("<II", data, place)

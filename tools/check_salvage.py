@@ -84,7 +84,7 @@ class Capture:
         return struct.pack(self.order + "II", kind, size) + body + struct.pack(self.order + "I", size)
 
     def packets(self, ranges=()):
-        """Yields the packets, each with whether one of its bytes, or of the bytes before the first
+        """Returns the packets, each with whether one of its bytes, or of the bytes before the first
         packet, is in a range.
         """
         is_all = any(begin < self.first for begin, end in ranges)
@@ -426,7 +426,7 @@ KINDS = {
 # ---- comparison
 
 def marks(packet, times):
-    """Returns bytes of a packet that identify it, even if others of its bytes were damaged."""
+    """Yields marks that identify a packet, even if some of its bytes were damaged."""
     when, original, data = packet
     size = len(data)
     yield "time", when, size if times[when] > 1 else None

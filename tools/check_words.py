@@ -186,7 +186,7 @@ def names(path):
 
 
 def all_files():
-    """Returns the files to read if none is named."""
+    """Yields the files to read if none is named."""
     for path in sorted(
         path for pattern in [*FILES, *(f"{name}/**/*" for name in FOLDERS)] for path in ROOT.glob(pattern)
     ):

@@ -199,7 +199,7 @@ class Source:
         return textwrap.dedent(without_attributes(self.text[start:end]).strip("\n"))
 
     def variants(self, block):
-        """Yields the variants of an enum with their places, each up to the next one."""
+        """Returns the variants of an enum with their places, each up to the next one."""
         inside = self.code[block.end_of_head + 1 : block.end - 1]
         places = [it.start(1) + block.end_of_head + 1 for it in re.finditer(r"^    ([A-Z]\w*)", inside, re.MULTILINE)]
         return [(re.match(r"\w+", self.code[place:])[0], place) for place in places]

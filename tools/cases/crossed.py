@@ -104,9 +104,15 @@ def table():
             f"out {written}",
         )
     for values, written in same(MANY, lambda count: out(PRINT + ["--code", "listing", "in"], listing(count))):
-        form([f"each {values}"], "case a listing of {} lines", "run print -w out --format pcap --code listing in",
-             "code {}", "codes {-1} 5 0 0 0",
-             "code 6 0 0 1", f"out {written}")
+        form(
+            [f"each {values}"],
+            "case a listing of {} lines",
+            "run print -w out --format pcap --code listing in",
+            "code {}",
+            "codes {-1} 5 0 0 0",
+            "code 6 0 0 1",
+            f"out {written}",
+        )
     for values, written in same(MANY, lambda count: out([*PRINT, "in", "len > 3" + " or len > 3" * (count - 1)])):
         form(
             [f"each {values}"],
@@ -116,9 +122,15 @@ def table():
             f"out {written}",
         )
     for values, written in same(MANY, lambda count: out([*PRINT, "in", "len" + " + 1" * count + f" > {16 + count}"])):
-        form([f"each {values}"], "# Programs of each length: to a length of 16 the number is added by ones.",
-             "case a sum of {} ones", "filter len",
-             "more {}  + 1", "more 1  > {+16}", f"out {written}")
+        form(
+            [f"each {values}"],
+            "# Programs of each length: to a length of 16 the number is added by ones.",
+            "case a sum of {} ones",
+            "filter len",
+            "more {}  + 1",
+            "more 1  > {+16}",
+            f"out {written}",
+        )
     inputs(lines, form, known)
     return HEAD + "\n".join(lines) + "\n"
 
@@ -127,6 +139,7 @@ PRINT = ["print", "-w", "out", "--format", "pcap"]
 
 
 def listing(count):
+    """Returns a listing of this many instructions, which accepts all packets."""
     return b"%d\n" % count + b"5 0 0 0\n" * (count - 1) + b"6 0 0 1\n"
 
 

@@ -1,5 +1,6 @@
 """Reads and evaluates expressions as docs/FILTER.md defines them."""
 
+import operator
 import re
 import sys
 
@@ -25,16 +26,27 @@ TRANSPORTS = {"tcp": 6, "udp": 17, "icmp": 1, "icmp6": 58}
 OPERATORS = [("|", "&", "^"), ("<<", ">>"), ("+", "-"), ("*", "/", "%")]
 LEVELS = {sign: level for level, signs in enumerate(OPERATORS) for sign in signs}
 OPERATIONS = {
-    "+": lambda a, b: a + b, "-": lambda a, b: a - b, "*": lambda a, b: a * b, "/": lambda a, b: a // b,
-    "%": lambda a, b: a % b,
-    "&": lambda a, b: a & b, "|": lambda a, b: a | b, "^": lambda a, b: a ^ b,
+    "+": operator.add,
+    "-": operator.sub,
+    "*": operator.mul,
+    "/": operator.floordiv,
+    "%": operator.mod,
+    "&": operator.and_,
+    "|": operator.or_,
+    "^": operator.xor,
     "<<": lambda a, b: a << b if b < 32 else 0,
     ">>": lambda a, b: a >> b if b < 32 else 0,
 }
 PROTOCOLS = ("ether", "ip", "ip6", "arp", "rarp", "tcp", "udp", "icmp", "icmp6")
 ACCESSORS = PROTOCOLS[:-1]
-RELATIONS = {"=": lambda a, b: a == b, "!=": lambda a, b: a != b, "<": lambda a, b: a < b, "<=": lambda a, b: a <= b,
-             ">": lambda a, b: a > b, ">=": lambda a, b: a >= b}
+RELATIONS = {
+    "=": operator.eq,
+    "!=": operator.ne,
+    "<": operator.lt,
+    "<=": operator.le,
+    ">": operator.gt,
+    ">=": operator.ge,
+}
 BLANKS = re.compile(r"[ \t\n\r]*")
 WORD = re.compile(r"[0-9A-Za-z:][0-9A-Za-z:.-]*")
 INDEX_WORD = re.compile(r"[0-9A-Za-z][0-9A-Za-z.-]*")
@@ -131,8 +143,8 @@ class Reader:
 
     def truth(self):
         tree = self.term()
-        while operator := self.take("and", "or"):
-            tree = (operator, tree, self.term())
+        while join := self.take("and", "or"):
+            tree = (join, tree, self.term())
         return tree
 
     def term(self):
@@ -212,9 +224,9 @@ class Reader:
         """Reads a direction: `src`, `dst`, or the operator that joins both."""
         first = self.take("src", "dst")
         if first and self.peek() in ("and", "or") and self.peek(1) in {"src", "dst"} - {first}:
-            operator = self.take("and", "or")
+            join = self.take("and", "or")
             self.at += 1
-            return operator
+            return join
         return first
 
     def mask(self):

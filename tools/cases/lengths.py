@@ -40,7 +40,7 @@ def both(data, options):
 
 
 def of_packet(head, name, whole, known):
-    """Returns the cases of a packet: its lines at each length, and its bytes."""
+    """Yields the cases of a packet: its lines at each length, and its bytes."""
     yield from ["", f"packet {name} {whole[16:].hex()}", f"cuts {name}_CUTS {MOST} {name}"]
     front, lines = both(known[head] + cuts(whole), [])
     yield from [*front, f"in {head} {name}_CUTS", *lines, ""]

@@ -108,20 +108,27 @@ def line(choose):
     """Returns the words of a random command, and the names of its captures."""
     form = choose.choice(["pcap", "nsecpcap", "pcapng"])
     names = ["a", "b", "c"][:choose.randrange(1, 4)]
-    options = [f"-A {choose.choice(TIMES)}", f"-B {choose.choice(TIMES)}", f"--chop-start {choose.randrange(50)}",
-               f"--chop-end {choose.randrange(50)}",
-               f"-s {choose.randrange(1, 60)}",
-               f"--{choose.choice(['later', 'earlier'])} {choose.choice(TIMES[:5])}",
-               f"-D {choose.randrange(2, 6)}", "-r"]
+    options = [
+        f"-A {choose.choice(TIMES)}",
+        f"-B {choose.choice(TIMES)}",
+        f"--chop-start {choose.randrange(50)}",
+        f"--chop-end {choose.randrange(50)}",
+        f"-s {choose.randrange(1, 60)}",
+        f"--{choose.choice(['later', 'earlier'])} {choose.choice(TIMES[:5])}",
+        f"-D {choose.randrange(2, 6)}",
+        "-r",
+    ]
     chosen = " ".join(choose.sample(options, choose.randrange(4)))
     prints = [
         f"print {choose.choice(['', '-e ', '-x ', '-e -x '])}{choose.choice(['', '-c 2 '])}a",
         f"print -w out --format {form} a",
     ]
-    return choose.choice([(f"edit -F {form} {chosen} a out {choose.choice(['', '1-3', '2 4'])}", ["a"]),
-                          (f"infos {' '.join(names)}", names),
-                          (f"merge {choose.choice(['', '-a '])}-F {form} -w out {' '.join(names)}", names),
-                          (choose.choice(prints), ["a"])])
+    return choose.choice([
+        (f"edit -F {form} {chosen} a out {choose.choice(['', '1-3', '2 4'])}", ["a"]),
+        (f"infos {' '.join(names)}", names),
+        (f"merge {choose.choice(['', '-a '])}-F {form} -w out {' '.join(names)}", names),
+        (choose.choice(prints), ["a"]),
+    ])
 
 
 def captures(choose, count):
