@@ -25,12 +25,14 @@ rng = random.Random(SEED)
 
 
 def address():
+    """Returns an IPv4 address, half of the time a common one."""
     if rng.random() < 0.5:
         return rng.choice(COMMON_HOSTS)
     return bytes([rng.randrange(1, 224), rng.randrange(256), rng.randrange(256), rng.randrange(1, 255)])
 
 
 def address6():
+    """Returns an IPv6 address."""
     return bytes.fromhex("20010db8") + rng.randbytes(12)
 
 
@@ -57,6 +59,7 @@ def transport(protocol, length):
 
 
 def fragment_field():
+    """Returns the field of a fragment: 2 % of the packets are one."""
     if rng.random() < 0.02:
         return 0x2000 | rng.randrange(1, 100)
     return 0x4000 if rng.random() < 0.5 else 0
@@ -75,6 +78,7 @@ def ipv4(length):
 
 
 def ipv6(length):
+    """Returns an IPv6 packet of about this length."""
     protocol = rng.choices([TCP, UDP, ICMP6], [55, 35, 10])[0]
     body = max(HEADER[protocol], length - 40)
     start = struct.pack(">IHBB", 0x60000000, body, protocol, 64)
@@ -82,6 +86,7 @@ def ipv6(length):
 
 
 def arp():
+    """Returns an ARP packet."""
     start = struct.pack(">HHBBH", 1, 0x800, 6, 4, rng.choice([1, 2]))
     return start + rng.randbytes(6) + address() + rng.randbytes(6) + address()
 

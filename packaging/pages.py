@@ -143,6 +143,7 @@ def roff_text(text):
 
 
 def header(lines):
+    """Returns the header of a section."""
     mark, _, name = lines[0].partition(" ")
     return [".Ss " + roff(name) if len(mark) == 3 else ".Sh " + roff(name.upper())]
 
@@ -160,6 +161,7 @@ def table(lines):
 
 
 def code(lines):
+    """Returns a display of code."""
     return [".Bd -literal", *(r"\&" + roff(line) for line in lines), ".Ed"]
 
 
@@ -172,6 +174,7 @@ def points(lines):
 
 
 def paragraph(lines):
+    """Returns a paragraph."""
     return [".Pp", *map(roff_text, lines)]
 
 

@@ -15,6 +15,7 @@ MARGIN = 8
 
 
 def width_of(text):
+    """Returns the width of a text."""
     return round(LETTER * len(text) + 12)
 
 
@@ -80,10 +81,12 @@ def side_of(kind):
 
 
 def fits(spans, first, last):
+    """Returns whether a span overlaps with none of these."""
     return all(last < start or end < first for start, end in spans)
 
 
 def y_of(place):
+    """Returns the height of the middle of a row."""
     return MARGIN + BOX / 2 + ROW * place
 
 

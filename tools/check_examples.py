@@ -141,6 +141,7 @@ def only_ip(capkit):
 
 
 def missing_program(commands):
+    """Returns a program or the library that commands need and that isn't there, or None."""
     if NEEDS_LIBRARY.search("\n".join(commands)) and not LIBRARY.exists():
         return LIBRARY.name
     for program in OTHER_PROGRAMS:

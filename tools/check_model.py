@@ -155,6 +155,7 @@ class Names:
         return {field for item in self.by_name.get(name, ()) for field in FIELD.findall(item.text())}
 
     def clauses(self, functions):
+        """Returns the names of the clauses of functions."""
         return {clause for item in functions for clause in CLAUSE.findall(item.text())}
 
 

@@ -117,6 +117,7 @@ OTHER = (
 
 
 def register(value):
+    """Returns the text that the page shows for a register."""
     return str(value) if value < 10 else f"{value:#x} = {value}"
 
 
@@ -187,6 +188,7 @@ class Page:
         driver.wait("document.querySelector('#reasons .reason') || document.querySelector('#about.bad')")
 
     def equal(self, what, shown, expected):
+        """Counts a comparison, and prints it if what the page shows differs."""
         Page.count += 1
         if shown != expected:
             Page.wrong += 1
@@ -196,6 +198,7 @@ class Page:
         self.equal(what, bool(holds), True)
 
     def texts(self, selector):
+        """Returns the texts of the elements of a selector."""
         return self.value(TEXTS, selector)
 
     def text(self, selector):
@@ -206,6 +209,7 @@ class Page:
         self.value(FILL, f"{name}-{place}" if name in ("text", "kind") else name, text)
 
     def show(self, which):
+        """Chooses the packets that the list shows."""
         self.fill(which, name="show")
 
     def packets(self, which):
@@ -214,6 +218,7 @@ class Page:
         return self.value("[...document.querySelectorAll('[role=option]')].map((it) => Number(it.id.slice(7)))")
 
     def sample(self, name):
+        """Opens a sample, and waits until it is read."""
         self.fill(name, name="sample")
         self.driver.wait("document.getElementById('about').textContent.startsWith(arguments[0])", f"{name}:")
 
@@ -310,6 +315,7 @@ def check_parts(page, number, packet):
 
 
 def listing_of(page, text, *words):
+    """Returns the listing that the program prints for an expression."""
     return page.run("compile", *words, text)
 
 
@@ -488,6 +494,7 @@ def check_listing(page):
 
 
 def write(page, name, data):
+    """Writes a file into the folder of the page, and returns its path."""
     (page.folder / name).write_bytes(data)
     return page.folder / name
 

@@ -162,6 +162,7 @@ def is_contract(item):
 
 
 def is_promise(path):
+    """Returns whether a path is promised to users."""
     is_between = path.split("::")[0] in BETWEEN or path in STEPS
     return not is_between or "::law" in path or path in PROMISED
 

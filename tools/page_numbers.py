@@ -64,6 +64,7 @@ def keys_of(path, name):
 
 
 def cases_in(name):
+    """Returns the number of cases in a table."""
     return len(notation.Table((CASES / "data" / name).read_text()).cases)
 
 

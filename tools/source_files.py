@@ -108,6 +108,7 @@ def imports_of(line, module_of):
 
 
 def without_attributes(text):
+    """Returns a text without its lines of attributes."""
     return "\n".join(line for line in text.split("\n") if not re.match(r"\s*#\[", line))
 
 
@@ -196,6 +197,7 @@ class Source:
         return self.text.count("\n", 0, place) + 1
 
     def cut(self, start, end):
+        """Returns a part of the file without attributes and indentation."""
         return textwrap.dedent(without_attributes(self.text[start:end]).strip("\n"))
 
     def variants(self, block):

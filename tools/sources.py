@@ -195,6 +195,7 @@ class Sources:
         return file, next(it for it in file.blocks if it.name == key[2] and it.kind not in ("impl", "mod"))
 
     def variants_of(self, key):
+        """Returns the variants of a type by name."""
         file, block = self.block_of(key)
         return {name: (*key, name) for name, _ in file.variants(block)} if block.kind == "enum" else {}
 
@@ -318,6 +319,7 @@ class Sources:
             yield Piece(text, uses, {(*key, variant[1])} if variant else set(), "rule" if variant else "head")
 
     def add_contracts(self, file):
+        """Adds the functions, impls and traits of a file of src/."""
         for block in file.blocks:
             if block.kind == "fn":
                 self.add_function(file, block, file.key(block.name), file.scope, set())

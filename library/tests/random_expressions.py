@@ -41,6 +41,7 @@ SOUP = """tcp port 80 and or not ( ) [ ] ip host 10.0.0.1 net / 8 len > 0xffffff
 
 
 def is_one_in(count):
+    """Returns true once in `count` times."""
     return chance.randrange(count) == 0
 
 
@@ -65,6 +66,7 @@ def atom(depth):
 
 
 def arithmetic(depth):
+    """Returns a number: one to three operands with operators."""
     text = atom(depth)
     for _ in range(chance.randrange(3)):
         text += f" {pick('%^' if is_one_in(8) else '+ - * / & | << >>'.split())} {atom(depth)}"
@@ -110,6 +112,7 @@ class Expression:
         return text
 
     def condition(self, depth):
+        """Returns a truth: one to three operands with `and` and `or`."""
         text = self.operand(depth)
         for _ in range(chance.randrange(3)):
             text += f" {pick(['and', 'or', '&&', '||'])} {self.operand(depth)}"

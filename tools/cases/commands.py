@@ -107,6 +107,7 @@ def written(form, sources, list_, end=None):
 
 
 def end_of(capture, name):
+    """Returns the end of a capture with a fault: its name, the offset and the text; else None."""
     return (name, (capture.places[-1][0], capture.fault)) if capture.fault else None
 
 
@@ -130,6 +131,7 @@ def edit(words, file_of, _listing):
 
 
 def is_in_time(words, packet):
+    """Returns whether a packet is within the times of -A and -B."""
     start, stop = words.time("-A"), words.time("-B")
     return (start is None or start <= packet.time) and (stop is None or packet.time < stop)
 
@@ -155,6 +157,7 @@ def unique(window, packets):
 
 
 def merge(words, file_of, _listing):
+    """Returns the outcome of `merge`."""
     words = Words(words, "aF:w:")
     names = words.rest
     captures = [Capture(file_of(name)) for name in names]

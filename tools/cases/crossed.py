@@ -38,6 +38,7 @@ MANY = range(1, 301)
 
 
 def names():
+    """Returns the bytes that the table gives names."""
     records = {f"R{second}": second.to_bytes(4, "little") + record(data)[4:] for second, data in enumerate(DATA, 1)}
     own = {
         "H": header("pcap", 1), "N": header("nsecpcap", 1), "SECTION": SECTION, "NANO": interface_block(1, 262_144, b"")

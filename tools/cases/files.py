@@ -45,6 +45,7 @@ class Interface:
     offset: int = 0
 
     def packet(self, ticks, original, data, comment, offset):
+        """Returns a packet of the interface, with the time of these ticks."""
         time = ticks * SECOND // self.units + self.offset * SECOND
         if not 0 <= time < 2**63:
             raise Fault("time out of range")
@@ -52,10 +53,12 @@ class Interface:
 
 
 def padded(size):
+    """Returns a length, rounded up to a multiple of four."""
     return size + -size % 4
 
 
 def require(holds, text):
+    """Ends the reading or writing with a fault, unless the condition is true."""
     if not holds:
         raise Fault(text)
 
@@ -93,6 +96,7 @@ class Capture:
             self.places.append((self.at, len(self.packets)))
 
     def numbers(self, form, at):
+        """Returns numbers at an offset, in the byte order of the file."""
         size = struct.calcsize("<" + form)
         require(at + size <= len(self.data), "truncated")
         return struct.unpack(self.order + form, self.data[at:at + size])
@@ -118,6 +122,7 @@ class Capture:
         return 16 + size
 
     def add_interface(self, interface):
+        """Adds an interface to the section, and its link type to the file."""
         self.interfaces.append(interface)
         self.links.append(interface.link)
 
@@ -204,11 +209,13 @@ class Capture:
 
 
 def block(kind, body):
+    """Returns a little-endian block."""
     size = struct.pack("<I", len(body) + 12)
     return struct.pack("<I", kind) + size + body + size
 
 
 def header(form, link):
+    """Returns the file header of a pcap format."""
     magic = {"pcap": 0xA1B2C3D4, "nsecpcap": 0xA1B23C4D}[form]
     return struct.pack("<IHHIIII", magic, 2, 4, 0, 0, LONGEST_RECORD, link)
 
@@ -225,6 +232,7 @@ class Writer:
         self.pieces.append(piece if self.pieces else self.heading(packet.link) + piece)
 
     def heading(self, link):
+        """Returns the start of a file without packets."""
         return SECTION if self.form == "pcapng" else header(self.form, link)
 
     def record_of(self, packet):

@@ -117,6 +117,7 @@ class Reader:
         self.inherited = (None, None, "host")
 
     def peek(self, ahead=0):
+        """Returns the current token, or one after it; None past the end."""
         return self.tokens[self.at + ahead] if self.at + ahead < len(self.tokens) else None
 
     def take(self, *wanted):
@@ -127,6 +128,7 @@ class Reader:
         return None
 
     def need(self, *wanted):
+        """Takes one of these tokens, or ends the reading."""
         token = self.take(*wanted)
         if token is None:
             raise Unread("not an expression")
@@ -142,6 +144,7 @@ class Reader:
         return tree
 
     def truth(self):
+        """Reads a chain of terms."""
         tree = self.term()
         while join := self.take("and", "or"):
             tree = (join, tree, self.term())
@@ -163,11 +166,13 @@ class Reader:
         return self.primitive()
 
     def relation(self):
+        """Reads a relation between two numbers."""
         left = self.arithmetic()
         sign = self.need(*RELATIONS)
         return ("relation", sign, left, self.arithmetic())
 
     def arithmetic(self, level=0):
+        """Reads a chain of operators of at least this level."""
         tree = self.unary()
         while (own := LEVELS.get(self.peek(), -1)) >= level:
             self.at += 1
@@ -249,6 +254,7 @@ class Reading:
         self.link, self.data, self.original, self.base = link, data, original, NETWORK[link]
 
     def field(self, at, size):
+        """Returns the number in a field, or rejects the packet."""
         number = big(self.data, at % 2**32, size)
         if number is None:
             raise Rejected
@@ -277,6 +283,7 @@ class Reading:
         return self.link == ETHERNET
 
     def is_network(self, name):
+        """Returns whether the packet's network header is of this kind."""
         if self.link == RAW:
             version = {"ip": 4, "ip6": 6}.get(name)
             return version is not None and self.field(0, 1) >> 4 == version
@@ -300,6 +307,7 @@ class Reading:
         return self.is_network("ip6") and self.field(self.base + 6, 1) == number
 
     def is_check(self, name):
+        """Returns whether the packet is of a protocol."""
         if name in ETHERTYPES:
             return self.is_network(name)
         if name == "icmp6":
@@ -354,6 +362,7 @@ class Reading:
         return self.is_address(protocol, direction, big(data.ljust(4, b"\0"), 0, 4), mask_of(len(data), mask))
 
     def is_proto(self, protocol, number):
+        """Returns whether the packet has this protocol number."""
         if protocol == "ether":
             return self.link != RAW and self.field(self.base - 2, 2) == number
         return protocol != "ip6" and self.is_ip(number) or protocol != "ip" and self.is_ip6(number)
@@ -419,12 +428,14 @@ def accessors(tree):
 
 
 def arithmetic(sign, left, right):
+    """Returns the result of an operation, or rejects the packet."""
     if sign in ("/", "%") and right == 0:
         raise Rejected
     return OPERATIONS[sign](left, right) % 2**32
 
 
 def words(data):
+    """Returns the four-byte words of bytes."""
     return [big(data, at, 4) for at in range(0, len(data), 4)]
 
 
@@ -445,4 +456,5 @@ def matches(tree, packet):
 
 
 def tree_of(text):
+    """Returns the tree of an expression."""
     return Reader(text).read()

@@ -49,6 +49,7 @@ def of_packet(head, name, whole, known):
 
 
 def cuts(whole):
+    """Returns the packet of a record, cut at every length."""
     original = int.from_bytes(whole[12:16], "little")
     return b"".join(record(whole[16:16 + size], original) for size in range(min(MOST, len(whole) - 16) + 1))
 

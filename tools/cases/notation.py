@@ -54,10 +54,12 @@ class Table:
         self.add_block(lines, rows)
 
     def add_block(self, lines, rows):
+        """Adds the cases of a block: one for each row, or one."""
         for row in rows or [""] * bool(lines):
             self.cases.append(self.case_of([spelled(line, row) for line in lines]))
 
     def part(self, word):
+        """Returns the bytes of a word: those of a name, or a part of them, or hexadecimal digits."""
         name, _, places = word.removesuffix("]").partition("[")
         if name not in self.names:
             return bytes.fromhex(word)
@@ -65,6 +67,7 @@ class Table:
         return self.names[name][int(first or 0):int(last) if last else None]
 
     def bytes_of(self, words):
+        """Returns the bytes of words."""
         parts = []
         for word in words.split():
             times, star, once = word.partition("*")
@@ -87,6 +90,7 @@ class Table:
         return b"".join(record(whole[:size], original) for size in sizes)
 
     def case_of(self, lines):
+        """Returns the case that lines describe."""
         case = Case(input=self.given)
         for line in lines:
             kind, _, rest = line.partition(" ")
@@ -94,6 +98,7 @@ class Table:
         return case
 
     def read(self, case, kind, rest):
+        """Reads a line of a case."""
         number, _, text = rest.partition(" ")
         if kind in ("in", "out", "listing"):
             name, colon, words = rest.partition(":")
@@ -191,6 +196,7 @@ def repeated(lines):
 
 
 def text_of(written):
+    """Returns the words for an output that is a text."""
     return repeated(written.decode().split("\n")[:-1])
 
 

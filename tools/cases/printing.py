@@ -16,6 +16,7 @@ LEAST = {"IP": 20, "IP6": 40, "ARP": 28, "RARP": 28}
 
 
 def date(time):
+    """Returns a time as a date."""
     seconds, nanoseconds = divmod(time, SECOND)
     day = datetime.datetime(1970, 1, 1) + datetime.timedelta(seconds=seconds)
     return f"{day:%Y-%m-%d %H:%M:%S}.{nanoseconds:09}"

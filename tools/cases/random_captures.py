@@ -14,6 +14,7 @@ HEAD = """\
 
 
 def table(stored):
+    """Returns the table with its expected results computed."""
     lines = []
     for case in Table(stored).cases:
         lines += ["", f"run {' '.join(case.words)}", *(f"in {name}: {data.hex()}" for name, data in case.files.items())]

@@ -84,6 +84,7 @@ class Browser:
                 time.sleep(0.1)
 
     def open(self, path, address=""):
+        """Opens a page."""
         self.send("url", "WebDriver:Navigate", url="about:blank")
         self.send("url", "WebDriver:Navigate", url=pathlib.Path(path).resolve().as_uri() + address)
 
@@ -94,6 +95,7 @@ class Browser:
         )
 
     def wait(self, condition, *arguments):
+        """Waits until a condition is true in the page."""
         end = time.monotonic() + SECONDS
         while not self.value(condition, *arguments):
             if time.monotonic() > end:
@@ -116,6 +118,7 @@ class Browser:
         self.to_element(selector, "value", "WebDriver:ElementSendKeys", text=str(text))
 
     def to_element(self, selector, name, marionette, **parameters):
+        """Sends a command to an element."""
         found = self.send("element", "WebDriver:FindElement", using="css selector", value=selector)
         self.send(f"element/{found[ELEMENT]}/{name}", marionette, id=found[ELEMENT], **parameters)
 
@@ -130,6 +133,8 @@ class Browser:
 
 
 class Chromium(Browser):
+    """Chromium, driven by chromedriver."""
+
     def command(self):
         return [shutil.which("chromedriver") or "chromedriver", f"--port={self.port}"]
 
@@ -146,6 +151,7 @@ class Chromium(Browser):
         self.size(1300, 1000)
 
     def post(self, path, **parameters):
+        """Sends parameters to the driver."""
         return self.ask(path, json.dumps(parameters).encode())
 
     def ask(self, path, data=None):
@@ -174,6 +180,7 @@ class Chromium(Browser):
         self.call("Emulation.setEmulatedMedia", media=name, features=features)
 
     def log(self, kind):
+        """Returns new entries of a log."""
         return self.post("/se/log", type=kind)
 
     def faults(self):
@@ -198,6 +205,7 @@ class Chromium(Browser):
         ]
 
     def name(self, element):
+        """Returns the name that a screen reader uses for an element."""
         return self.ask(f"/element/{element}/computedlabel")
 
     def inside(self, expression):
@@ -211,10 +219,13 @@ class Chromium(Browser):
             self.call("Input.dispatchDragEvent", type=event, x=300, y=300, data=files)
 
     def picture(self):
+        """Returns a picture of the page, as a PNG file."""
         return base64.b64decode(self.call("Page.captureScreenshot", format="png", captureBeyondViewport=True)["data"])
 
 
 class Firefox(Browser):
+    """Firefox, driven by its own protocol."""
+
     # Scripts of the browser itself. The first one notes what pages fetch, and their errors and warnings.
     WATCH = """
       window.fetched = [];
@@ -272,6 +283,7 @@ class Firefox(Browser):
         self.own(self.WATCH)
 
     def message(self):
+        """Returns the next message of Firefox."""
         size = b""
         while (sign := self.received.read(1)) != b":":
             size += sign

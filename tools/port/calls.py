@@ -44,9 +44,11 @@ class Calls:
         self.number(0)
 
     def number(self, value):
+        """Writes a number."""
         self.out.write(struct.pack("<Q", value))
 
     def block(self, data):
+        """Writes the length of some bytes, and the bytes."""
         self.number(len(data))
         self.out.write(data)
 
@@ -72,6 +74,7 @@ class Calls:
         return result, after
 
     def end(self):
+        """Writes the number of calls at the start of the file."""
         self.out.seek(0)
         self.number(self.count)
 

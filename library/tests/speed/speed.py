@@ -46,6 +46,7 @@ EXAMPLES = {
 
 
 def run(*words, **env):
+    """Runs a command in out/speed."""
     subprocess.run([str(word) for word in words], check=True, cwd=OUT, env={**os.environ, **env})
 
 
