@@ -120,8 +120,8 @@ pub record IsSmall (h : InputView) : Type 0 where
 abbrev pub IsBounded : InputsView → Target → Type 0
 IsBounded inputs target = All IsSmall inputs.cursors × HasFewOutputInterfaces target
 
--- What a job holds for each input is bounded, and so is the sum; a window for n packets counts as n
--- - 1 marks, and as none if duplicates aren't searched for.
+-- What a job holds for each input is bounded, and so is the sum; a window for n packets counts as
+-- n - 1 marks, and as none if duplicates aren't searched for.
 pub record IsLight (m : JobState) : Type 0 where
   pub each : IsBounded m.inputs m.output
   pub all : weight m ≤ most_weight (length m.inputs.cursors) (places (window_of m.policy))

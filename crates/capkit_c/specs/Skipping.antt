@@ -58,8 +58,8 @@ with_interface first section interface =
     let more = record section { interfaces = section.interfaces ++ interface ∷ [] } in
     PcapngFile (first_link_after first more) more
 
--- a description block with these parts is skipped, but its interface has a number, one of 256; no
--- other block has an interface
+-- what skipping a description block with these parts does: its interface gets the next number, if
+-- there are fewer than 256; None for any other block
 abbrev pub past_interface : Option ℕ → Section → (size : ℕ) → Parts → Option PastUnit
 past_interface first section size (InterfaceParts link snap order options) =
     if nat_lt (length section.interfaces) most_interfaces then
