@@ -123,6 +123,10 @@ with tempfile.TemporaryDirectory() as scratch:
         (at / "bin" / name).write_text(KIT)
         (at / "bin" / name).chmod(0o755)
     at.chmod(0o755)
-    results = [is_true or print(f"not so: {what}") for what, is_true in tries()]
-print(f"{len(results) - results.count(None)} passed, {results.count(None)} failed")
-sys.exit(None in results)
+    passed = failed = 0
+    for what, is_true in tries():
+        passed, failed = passed + is_true, failed + (not is_true)
+        if not is_true:
+            print(f"not so: {what}")
+print(f"{passed} passed, {failed} failed")
+sys.exit(failed > 0)

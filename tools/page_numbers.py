@@ -111,7 +111,7 @@ def is_stated(text, first, last, count):
 
 
 def differing(numbers):
-    """Yields the numbers on pages and in the stored output that are others."""
+    """Yields the numbers on pages and in the stored output that differ from what is counted."""
     stdout, texts = (CASES / "stdout").read_text(), pages()
     for line in (
         f"{numbers['cases']} cases, 0 failed",

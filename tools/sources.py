@@ -67,7 +67,8 @@ def split_import(line):
     names = [name.strip() for name in found[3].split(",")] if found else []
     if not any(re.match(r"\w+\.", name) for name in names):
         return [line]
-    return ["{3}{0}.{{{2}}}".format(*f"{found[2]}.{name}".rpartition("."), found[1]) for name in names]
+    modules = [f"{found[2]}.{name}".rpartition(".") for name in names]
+    return [f"{found[1]}{module}.{{{name}}}" for module, _, name in modules]
 
 
 def used_names(code, scope, bound):

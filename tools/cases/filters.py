@@ -384,7 +384,7 @@ class Reading:
         numbers = [TRANSPORTS[protocol]] if protocol else [6, 17]
 
         def test(at):
-            # The port is loaded for each of the two tests; the one past the end of the bytes rejects either way.
+            # Loaded once for both comparisons; if it isn't captured, the packet is rejected.
             return first <= self.field(at, 2) <= last
 
         if (

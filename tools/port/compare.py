@@ -41,7 +41,7 @@ LINES = [["--help"], ["--version"], [], ["edit", "--help"], ["print", "--help"],
 
 
 def damaged(chance, data):
-    """Returns a copy with one to three changed bits, with inserted pieces, or without its end."""
+    """Returns a damaged copy: one to three times a bit is flipped, the end cut off, or random bytes inserted."""
     data = bytearray(data)
     for _ in range(chance.randint(1, 3)):
         kind, at = chance.randrange(3), chance.randrange(len(data))
@@ -103,17 +103,19 @@ def main(one, other, count=800, seed=7):
             names.append(f"bad{number}")
         lines = [random_line(chance, [*names, "nowhere", "."]) for _ in range(int(count))] + LINES
 
-        def both(number):
+        def differs(number):
             results = [
                 result(it, lines[number], at / "base", at / f"{number}-{side}") for side, it in enumerate(commands)
             ]
-            return results[0] == results[1] or print("DIFFERS", shlex.join(lines[number]))
+            if results[0] != results[1]:
+                print("DIFFERS", shlex.join(lines[number]))
+            return results[0] != results[1]
 
         with concurrent.futures.ThreadPoolExecutor(len(os.sched_getaffinity(0))) as pool:
-            differ = sum(it is None for it in pool.map(both, range(len(lines))))
+            differ = sum(pool.map(differs, range(len(lines))))
     print(f"{len(lines)} command lines, {differ} differ")
     return differ > 0
 
 
 if __name__ == "__main__":
-    sys.exit(main(*sys.argv[1:]))
+    sys.exit(main(*sys.argv[1:]) if len(sys.argv) > 2 else __doc__)
