@@ -246,6 +246,8 @@ def build(top, made):
     subprocess.run(["rm", "-rf", *OUT.glob("build-*.log"), *old], check=True)
 
 
+if len(sys.argv) < 3:
+    sys.exit(__doc__)
 for number in (signal.SIGTERM, signal.SIGHUP):
     signal.signal(number, signal.default_int_handler)
 try:

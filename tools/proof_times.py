@@ -29,6 +29,8 @@ def place_of(file):
 
 
 def main():
+    if len(sys.argv) < 2:
+        sys.exit(__doc__)
     folder = ROOT / "crates" / sys.argv[1] / "out" / "incremental"
     files = sorted((it.stat().st_mtime, it.stat().st_size / 1e6, it.name) for it in folder.rglob("*.oantt"))
     if not files:

@@ -29,6 +29,8 @@ def damage(rng, capture):
 
 
 def main():
+    if len(sys.argv) < 4:
+        sys.exit(__doc__)
     folder, count, samples = pathlib.Path(sys.argv[1]), int(sys.argv[2]), sys.argv[3:]
     rng = random.Random(92)
     whole = [pathlib.Path(name).read_bytes() for name in samples]

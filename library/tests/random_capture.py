@@ -8,6 +8,8 @@ import random
 import struct
 import sys
 
+if len(sys.argv) < 2:
+    sys.exit(__doc__)
 COUNT = int(sys.argv[1])
 LINK = int(sys.argv[2]) if len(sys.argv) > 2 else 1
 PORTS = (22, 53, 80, 443, 1023, 65535)

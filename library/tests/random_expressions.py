@@ -13,6 +13,8 @@ import sys
 
 signal.signal(signal.SIGPIPE, signal.SIG_DFL)
 sys.stdout.reconfigure(errors="surrogateescape")
+if len(sys.argv) != 2:
+    sys.exit(__doc__)
 chance = random.Random(int(sys.argv[1]))
 pick = chance.choice
 # Types, the protocols that come before them, and values.

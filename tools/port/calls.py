@@ -199,4 +199,6 @@ def main(library, out, seed=1):
     print(f"{calls.count} calls")
 
 
+if len(sys.argv) < 3:
+    sys.exit(__doc__)
 main(*sys.argv[1:])

@@ -6,7 +6,7 @@ usage: compare.py PROGRAM OTHER [COUNT [SEED]]
 Each line runs in its own folder with the samples and forty damaged copies of them. PROGRAM and
 OTHER are commands of one or more words (such as an emulator with its options and the program); both
 files must have the same name, since messages have it. The last line counts the command lines that
-differ.
+differ; the status is 1 if there are any.
 """
 import concurrent.futures
 import os

@@ -8,6 +8,8 @@ import sys
 
 import capkit
 
+if len(sys.argv) < 3:
+    sys.exit(__doc__)
 mode, name, *rest = sys.argv[1:]
 count = 0
 if mode in ("read", "match"):
