@@ -217,14 +217,14 @@ most_count form.Unknown interfaces = omega arith
 most_count (form.Pcap head) interfaces = omega arith
 most_count (form.Pcapng order first) interfaces = omega arith
 
--- nothing is skipped if the bytes begin with a sound unit or are at their end
+-- nothing is gone past where a text begins with a sound unit or nothing
 pub found : (capture : List ℕ) (r : Reader) (t t' : List Interface) (front : Front) (what : Found) → front_of (declared_in r t)
     (drop r.offset capture) ≡ front → past_front (declared_in r t) (drop r.offset capture) front ≡ None
     → what ≡ found_in_front (length t) front → t' ≡ t → SkipLeaves capture r r t t' (Skip.Not what)
 found capture r t t' front what is none says same =
     stays what (ap (past_front (declared_in r t) (drop r.offset capture)) is ∙ none) (says ∙ sym (ap (found_in_front (length t)) is)) refl same
 
--- what the bytes begin with, in a table of exactly the known interfaces
+-- what the text begins with, in a table of just the interfaces that are known
 pub begins : (capture text : List ℕ) (r : Reader) (t : List Interface) (f : FileState) (count : ℕ) → f ≡ reader_form r → Counts f r (length t) count
     → text ≡ drop r.offset capture
     → front_of (declared_in r t) (drop r.offset capture) ≡ front_of (declared_by f (first_interfaces count (take count t))) text

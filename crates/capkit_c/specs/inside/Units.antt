@@ -95,7 +95,7 @@ Counts FileState.Unknown r room count = Unit {0}
 Counts (FileState.Pcap head) r room count = count ≡ most_known r room
 Counts (FileState.Pcapng order link) r room count = count ≡ most_known r room
 
--- a unit was read, and no bytes remain
+-- a unit was read, and nothing is left
 abbrev pub IsAtEnd : FileState → List ℕ → Type 0
 IsAtEnd FileState.Unknown text = ⊥
 IsAtEnd (FileState.Pcap head) text = text ≡ []

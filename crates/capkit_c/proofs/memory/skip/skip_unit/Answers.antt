@@ -1,4 +1,4 @@
--- A sound unit is reported as it is found; a refused one is skipped if it can be.
+-- What is found of a sound unit; a refused one is handed on.
 use Rattle.capkit_c.proofs.Common.{◌≡◌, ◌+◌, ◌∙◌, ◌++◌, List, [], ap, arith, drop, length, length-take-le, refl, subst, sym, take, take-append-drop, NoUnit}
 use Rattle.capkit_c.proofs.Common.{None, PcapngFile, Whole, declared_by, declared_in, first_interfaces, front_of, Interface, IsNoUnit}
 use Rattle.capkit_c.specs.{Skipping.SkipLeaves, declared.memory.reader.Found.Found}
