@@ -48,7 +48,7 @@ TEXTS = {".md", ".1", ".3", ".7", ".html"}
 UNREAD = {"capkit.html", "expressions.txt", "filter.txt", "surface.txt"}
 # Code between backticks, which may go on in the next line.
 QUOTED = re.compile(r"`(?:[^`\n]|\n(?!\n))*`")
-# A blank of a word also matches the end of a line, and `$` the end of a paragraph.
+# Patterns of words, each with what to write instead. A blank also matches the end of a line, and `$` the end of a paragraph.
 WORDS = [
     (r"\banswers? other than 0\b|\bsays yes\b", "accepts the packet, returns non-zero"),
     (r"\banswers (it|that fault|true|false|\d|E\d)|\banswers? (it|that) again\b", "returns"),

@@ -17,6 +17,7 @@ sys.path.insert(0, str(ROOT / "tools/cases"))
 import notation
 
 CASES = ROOT / "crates/cap_cases"
+# The table of cases that must fail.
 WRONG = "wrong"
 # How pages state what `counted` counts.
 STATED = {

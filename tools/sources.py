@@ -216,7 +216,7 @@ class Sources:
         return {key: sorted(paths, key=len) for key, paths in found.items() if paths}
 
     def show(self, file, path, found):
-        """Adds what a module shows under a path."""
+        """Adds the public items of a module and of its public modules, with their paths."""
         for block in file.blocks:
             if block.is_public and block.kind == "mod":
                 inner = self.files.get((file.crate, ".".join(filter(None, [file.module, block.name]))))

@@ -158,13 +158,13 @@ def call_reader(calls, chance, programs, data):
         if status == 0:
             calls("capkit_comment", reader, data, len(data), packet, bytes(300), 300, wide=True)
             body, captured = call_packet(calls, chance, programs, packet, data)
-            put = MORE_UNITS
-            while put == MORE_UNITS:
+            put = UNIT_BEFORE
+            while put == UNIT_BEFORE:
                 rest = packet, b"eth0", 4, body, captured, b"hi", 2, bytes(700), 700, bytes(8)
                 put, (writer, written, *_) = calls("capkit_writer_put", writer, written, 8, *rest)
         elif status != NO_PACKET:
             skipped, (reader, table, _) = calls("capkit_skip", reader, table, 8, data, len(data))
-            if skipped != 228:
+            if skipped != SKIPPED:
                 return
 
 
