@@ -28,10 +28,10 @@ SECTIONS = {struct.pack(it + "IHH", ORDER_MAGIC, 1, minor): it for it in "<>" fo
 HEADER = re.compile(b"|".join(map(re.escape, [*FORMS, SECTION_TYPE])))
 LONGEST, LONGEST_BLOCK, MOST_INTERFACES, NO_TIME = 262_144, 1_048_576, 256, float("nan")
 HELD, AHEAD, ZONE = 8 << 20, 3 << 20, 1 << 20  # of the file, held and looked through at once
-INSIDE, UNITS, FAR = 65_552, 32, 2 << 20  # what no packet's inside exceeds; a chain that does
+INSIDE, UNITS, FAR = 65_552, 32, 2 << 20  # no payload has a chain over both the first, or the last
 TICKS = {bytes([it]): 10**it for it in range(13)} | {bytes([it + 128]): 2**it for it in range(33)}
 SHORT = {"<": b"\x14\0\0\0", ">": b"\0\0\0\x14"}  # of an interface without options
-DOUBTED, FEW, KNOWN = 8, 4, 32  # records next to damage; too few to compare with; near it
+DOUBTED, FEW, KNOWN = 8, 4, 32  # records next to damage; least to compare with; most near it
 NEAR, EARLIER, UNSET = 86_400, 1, 31_536_000  # seconds; the last of a clock that wasn't set
 # Bytes before the version of IP or a type in usual packets, by link type; and such types.
 SKIPS = {0: 4, 108: 4, 12: 0, 101: 0, 228: 0, 229: 0, 1: 12, 113: 14}
@@ -42,7 +42,7 @@ USUAL = {link: re.compile(rb"(?s).{%d}%s" % (skip, ETHER if skip > 4 else b"[E-O
 
 
 def report(text):
-    """Writes a line to standard error, in which what isn't a character of a line is a number."""
+    """Writes a line to standard error, with unprintable characters shown as numbers."""
     text = "".join(it if it.isprintable() else ascii(it)[1:-1] for it in text)
     with contextlib.suppress(OSError):
         os.write(2, text.encode(errors="surrogateescape") + b"\n")
@@ -68,7 +68,7 @@ class Job:
 
     def get(self, at, size): return os.pread(self.held.fileno(), size, at)
     @functools.lru_cache(128)
-    def start(self, at): return self.get(at, 40).ljust(16, b"\0")  # of a unit, and its packet
+    def start(self, at): return self.get(at, 40).ljust(16, b"\0")  # header, and first bytes
     def may_try(self, at): return self.tried < 600_000 + at // 64  # bounds the time of a run
 
     def places(self, pattern, back, slow, begin, end):
@@ -306,7 +306,7 @@ class Records(Reader):
         places += after[self.edge(after) :] if len(places) < DOUBTED else []
         heads = {it: self.head(it) for it in places}
         times, parts, sizes, _ = zip(*heads.values()) if heads else [()] * 4
-        least, most = min((14, *sizes)) if sizes else 1, max((INSIDE, *sizes))  # 14 of Ethernet
+        least, most = min((14, *sizes)) if sizes else 1, max((INSIDE, *sizes))  # 14: a link header
         snap = max((it[2] for it in heads.values() if it[2] < it[3]), default=None)
         known = sorted(it for it in times if it > UNSET)
         near = {it for two in itertools.pairwise(known) if two[1] - two[0] <= NEAR for it in two}
