@@ -4,8 +4,8 @@
 #
 # usage: any.sh FILE > OUT                 or: any.sh FILE | capkit print - tcp port 80
 #
-# FILE is - for standard input. A listing keeps the packets whose link header, which begins with the EtherType, says
-# IPv4 or IPv6: ARP, STP, LLDP, PPPoE and packets with a VLAN tag are left out. The 20 bytes of the link header are
+# FILE is - for standard input. A listing keeps the packets whose link header, which begins with the EtherType, shows
+# IPv4 or IPv6; ARP, STP, LLDP, PPPoE and packets with a VLAN tag are left out. The 20 bytes of the link header are
 # removed; original lengths remain 20 bytes too long. Needs capkit in PATH. The status is 1 if FILE can't be read to its
 # end, or has another link type, 2 if the command line is wrong.
 set -euo pipefail

@@ -38,7 +38,7 @@ def keep(expression, file, out):
 
 
 def is_part(name, status):
-    """Whether a capture was written. One of 0 bytes comes of a file that can't be read."""
+    """Returns whether a capture was written; one of 0 bytes comes from a file that can't be read."""
     return status < 2 and os.path.isfile(name) and os.path.getsize(name) > 0
 
 
@@ -69,7 +69,7 @@ def give_up(joined, statuses):
 
 
 def connected(scheduler):
-    """A client of the scheduler; None if none answers."""
+    """Returns a client of the scheduler; None if none answers."""
     logging.getLogger("distributed").setLevel(logging.CRITICAL)
     try:
         return distributed.Client(scheduler, timeout=10)
