@@ -1,10 +1,12 @@
 -- The effect of reading the unit at a reader's offset.
 use Rattle.capkit_c.proofs.Common.{◌≡◌, ℕ, ◌+◌, ◌-◌, ◌<◌, ◌≤◌, List, [], length, take, drop, Option, Some, None, refl, sym, ap, ◌∙◌, subst, arith, min}
-use Rattle.capkit_c.proofs.Common.{drop-drop, length-drop, Captured, Fault, Declared, NoUnit, Whole, first_link_of, front_of, declared_by, Described, HasLink}
+use Rattle.capkit_c.proofs.Common.{drop-drop, length-drop, length-take-le, Captured, Fault, Declared, NoUnit, Whole, first_link_of, front_of, declared_by}
 use Rattle.capkit_c.proofs.Common.{declared_in, first_interfaces, reader_form, most_known, IsPastUnit, IsPacketFound, NextLeaves, Stays, comment_by, ends}
 use Rattle.capkit_c.proofs.Common.{fails, finds, is_full, passes, spans_of, ArePlaced, Counts, IsNoUnit, IsAtEnd, IsPlaced, BeginsWithUnit, placed_packet}
-use Rattle.capkit_c.proofs.Common.{UnitPacket, FileState, Interface, Packet, Reader}
+use Rattle.capkit_c.proofs.Common.{UnitPacket, FileState, Interface, Packet, Reader, Described, HasLink}
 use Rattle.capkit_c.specs.declared.memory.{block.Refusal.Refusal, reader.Found.Found, reader.ReadUnit.ReadUnit}
+use Rattle.capkit_c.specs.inside.Units.{IsBare, IsFull}
+use Rattle.std.proofs.lemmas.List.{length-map}
 use Rattle.cap_io.specs.declared.file_state.FileState.TheVariants as form
 
 -- ---- what is declared
@@ -30,6 +32,16 @@ pub declared_after : (f : FileState) (r : Reader) (table : List Interface) (coun
 declared_after f r table count is counts fits upper_bound =
     let most = most_is r table count counts fits upper_bound in
     ap (λ n. declared_by f (first_interfaces n table)) (sym most) ∙ ap (λ g. declared_by g (first_interfaces (most_known r (length table)) table)) (sym is)
+
+-- a table without room for more has as many interfaces as are known
+pub all_known : (f : FileState) (r : Reader) (room count : ℕ) → f ≡ reader_form r → Counts f r room count → IsBare f count → IsFull (reader_form r) r room
+    → count ≡ room
+all_known f r room count is counts bare full = by_form f counts bare (subst (λ g. IsFull g r room) (sym is) full)
+  where
+    by_form : (g : FileState) → Counts g r room count → IsBare g count → IsFull g r room → count ≡ room
+    by_form form.Unknown counts bare full = bare ∙ sym full.1
+    by_form (form.Pcap head) counts bare full = counts ∙ sym full.0
+    by_form (form.Pcapng order link) counts bare full = counts ∙ sym full.0
 
 -- ---- a unit
 
@@ -134,21 +146,16 @@ found_packet capture text r r' t t' p p' f count s placed is counts same steps f
 stays : (r : Reader) (t t' : List Interface) (p : Packet) → t' ≡ t → Stays r r t t' p p
 stays r t t' p same = record { reader = refl; table = same; packet = refl }
 
-pub end_front : (capture text : List ℕ) (r : Reader) (t : List Interface) (f : FileState) (count : ℕ) → f ≡ reader_form r
+pub ended : (capture text : List ℕ) (r : Reader) (t : List Interface) (p : Packet) (f : FileState) (count : ℕ) → f ≡ reader_form r
     → Counts f r (length t) count → text ≡ drop r.offset capture → IsAtEnd f text
-    → front_of (declared_in r t) (drop r.offset capture) ≡ NoUnit None
-end_front capture text r t f count is counts same over =
-    ap (front_of (declared_in r t)) (sym same) ∙ ap (λ d. front_of d text) (sym (declared_as f r t count is counts)) ∙ stops f over
+    → NextLeaves capture r r t t p p Found.End
+ended capture text r t p f count is counts same over =
+    ends (ap (front_of (declared_in r t)) (sym same) ∙ ap (λ d. front_of d text) (sym (declared_as f r t count is counts)) ∙ stops f over) (stays r t t p refl)
   where
     stops : (g : FileState) → IsAtEnd g text → front_of (declared_by g (first_interfaces count t)) text ≡ NoUnit None
     stops form.Unknown over = absurd over
     stops (form.Pcap head) over = ap (front_of (declared_by (form.Pcap head) (first_interfaces count t))) over
     stops (form.Pcapng order link) over = ap (front_of (declared_by (form.Pcapng order link) (first_interfaces count t))) over
-
-pub ended : (capture text : List ℕ) (r : Reader) (t : List Interface) (p : Packet) (f : FileState) (count : ℕ) → f ≡ reader_form r
-    → Counts f r (length t) count → text ≡ drop r.offset capture → IsAtEnd f text
-    → NextLeaves capture r r t t p p Found.End
-ended capture text r t p f count is counts same over = ends (end_front capture text r t f count is counts same over) (stays r t t p refl)
 
 pub refused : (capture text : List ℕ) (r : Reader) (t t' : List Interface) (p : Packet) (f : FileState) (count : ℕ) (fault : Fault)
     → f ≡ reader_form r → Counts f r (length t) count
@@ -158,12 +165,13 @@ refused capture text r t t' p f count fault is counts same why kept =
     fails fault (ap (front_of (declared_in r t)) (sym same) ∙ ap (λ d. front_of d text) (sym (declared_as f r t count is counts)) ∙ why) (stays r t t' p kept)
 
 pub full : (capture text : List ℕ) (r : Reader) (t t' : List Interface) (p : Packet) (f : FileState) (count : ℕ) → f ≡ reader_form r
-    → Counts f r (length t) count
+    → Counts f r (length t) count → count ≤ length t
     → text ≡ drop r.offset capture → IsNoUnit f (first_interfaces count t) text (length t) Refusal.NoRoom → t' ≡ t → NextLeaves capture r r t t' p p
     Found.NoRoom
-full capture text r t t' p f count is counts same why kept =
+full capture text r t t' p f count is counts fits same why kept =
     let one = why.1 in
-    is_full (first_interfaces count t) why.0 (record {
+    let known : length (first_interfaces count t) ≡ count = length-map (take count t) _ ∙ length-take-le count t fits in
+    is_full (first_interfaces count t) (omega (arith, why.0, known, fits)) (record {
       size = one.size;
       first = one.first;
       section = one.section;

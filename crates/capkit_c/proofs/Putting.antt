@@ -1,7 +1,7 @@
 -- The unit that a put writes, and what the writer records.
-use Rattle.capkit_c.proofs.Common.{◌≡◌, ℕ, ◌+◌, ◌<◌, ◌≤◌, List, [], ◌∷◌, ◌++◌, length, take, length-take-le, Option, None, Some, refl, sym, ap, ◌∙◌, subst}
-use Rattle.capkit_c.proofs.Common.{arith, min, zero, suc, Bool, true, false, ◌==◌, nat_lt, ◌&&◌, ◌||◌, not, if◌then◌else◌, slice_set, Captured, Fault}
-use Rattle.capkit_c.proofs.Common.{WriteLeaves, Interface, first_failing, append-nil, ap₂}
+use Rattle.capkit_c.proofs.Common.{◌≡◌, ℕ, ◌+◌, ◌<◌, ◌≤◌, List, [], ◌∷◌, ◌++◌, length, take, length-take-le, Option, refl, sym, ap, ◌∙◌, subst}
+use Rattle.capkit_c.proofs.Common.{arith, min, suc, Bool, true, false, ◌==◌, nat_lt, ◌&&◌, ◌||◌, not, if◌then◌else◌, Captured, Fault}
+use Rattle.capkit_c.proofs.Common.{Interface, first_failing, append-nil, ap₂}
 use Rattle.std.specs.{List.list_any, List.position_or_len, Prelude.map, Prelude.cond}
 use Rattle.std.proofs.lemmas.{Bool.Decides.nat_tests, Cmp.nat_eq_equiv, Cmp.nat_list_eq_equiv, List.take_more_set, List.length-map, List.length-set}
 use Rattle.cap_io.specs.Text as text

@@ -1,6 +1,6 @@
 -- The effect of a step of a search.
-use Rattle.capkit_c.proofs.Common.{◌≡◌, ℕ, ◌+◌, ◌-◌, ◌<◌, ◌≤◌, List, [], ◌∷◌, length, take, drop, Option, Some, None, refl, sym, ap, ◌∙◌, subst, arith}
-use Rattle.capkit_c.proofs.Common.{drop-drop, length-drop, Captured, Declared, NoUnit, Whole, front_of, HasLink, declared_in, Insn, Skips, at_packet}
+use Rattle.capkit_c.proofs.Common.{◌≡◌, ℕ, ◌+◌, ◌-◌, ◌<◌, ◌≤◌, List, length, take, drop, refl, sym, ap, ◌∙◌, subst, arith}
+use Rattle.capkit_c.proofs.Common.{drop-drop, length-drop, Captured, Declared, front_of, declared_in, Insn, Skips, at_packet}
 use Rattle.capkit_c.proofs.Common.{past_packet, past_unit, DeclaresOne, IsPastUnit, IsPacketFound, IsStop, NextLeaves, PacketLeaves, PassesUnits, Stays}
 use Rattle.capkit_c.proofs.Common.{UnitHas, comment_by, ends, fails, finds, is_full, one_passed, passes, Interface, Packet, Reader}
 use Rattle.capkit_c.specs.{Laws.packet_from, Laws.reader_from, inside.Matching.JudgedAs, inside.Matching.StepLeaves}

@@ -1,10 +1,10 @@
 -- The effect of skipping a refused unit.
 use Rattle.capkit_c.proofs.Common.{inl, inr, ap₂, block_size, parts_after, section_of, IsFramed, NextLeaves, Packet, ends, fails, finds, is_full, passes, ◌≡◌}
 use Rattle.capkit_c.proofs.Common.{ℕ, ◌+◌, ◌<◌, ◌≤◌, ◌%◌, List, [], ◌∷◌, ◌++◌, length, take, drop, Option, Some, None, Err, refl, sym, ap, ◌∙◌, subst, arith}
-use Rattle.capkit_c.proofs.Common.{Bool, true, false, nat_lt, ◌==◌, nat_le, ◌&&◌, ◌||◌, not, if◌then◌else◌, length-take-le, take-take, checked, first_failing}
+use Rattle.capkit_c.proofs.Common.{Bool, true, false, nat_lt, ◌==◌, nat_le, ◌&&◌, ◌||◌, not, if◌then◌else◌, length-take-le, take-append-drop, take-take}
 use Rattle.capkit_c.proofs.Common.{Captured, Fault, Truncated, Order, checked_err, Head, is_section, frame_fault, frame_in, Described, Section, order_before}
 use Rattle.capkit_c.proofs.Common.{unit_fault, Declared, Nothing, PcapFile, PcapngFile, NoUnit, Whole, front_of, declared_by, FileState, declared_in}
-use Rattle.capkit_c.proofs.Common.{first_interfaces, reader_form, most_known, ArePlaced, BeginsWithUnit, Counts, DeclaresOne, UnitPacket, Interface, Reader}
+use Rattle.capkit_c.proofs.Common.{first_interfaces, reader_form, most_known, Counts, Interface, Reader, checked, first_failing}
 use Rattle.std.specs.Prelude.{is_some, map, pos, ◌*◌, ◌/◌, ◌^◌}
 use Rattle.cap_octet.specs.Date.{NANOS_PER_SECOND}
 use Rattle.cap_pcapng.specs.Time.{microseconds, representable_time}
@@ -20,8 +20,8 @@ use Rattle.capkit_c.proofs.{Leaves.declared_after, Leaves.declared_as, Leaves.is
 use Rattle.capkit_c.specs.Layout.{described_of}
 use Rattle.capkit_c.specs.Skipping.{PastUnit, SkipLeaves, found_at, found_in_front, found_with, goes_past, interface_count, is_cut, offset_of_no_time, past_at}
 use Rattle.capkit_c.specs.Skipping.{past_by, past_front, past_interface, refused_part, stays, unread_interface, with_interface}
-use Rattle.capkit_c.specs.declared.memory.{reader.Found.Found, reader.ReadUnit.ReadUnit, skip.RefusedPart.RefusedPart, skip.Skip.Skip}
-use Rattle.capkit_c.specs.inside.{Skipping.Describes, Skipping.IsUnread, Skipping.Moves, Skipping.RefusesForm, Units.found_by}
+use Rattle.capkit_c.specs.declared.memory.{reader.Found.Found, skip.RefusedPart.RefusedPart, skip.Skip.Skip}
+use Rattle.capkit_c.specs.inside.{Skipping.Describes, Skipping.IsUnread, Skipping.Moves, Skipping.RefusesForm, Units.IsBare, Units.IsFull}
 use Rattle.cap_io.specs.declared.file_state.FileState.TheVariants as form
 
 -- ---- a block whose form is refused
@@ -199,12 +199,7 @@ module _ (capture : List ℕ) (r : Reader) (t : List Interface) (order : Order) 
       | inr none ↦ by_parts is ∙ ap (λ b. past_interface first section frame.length (parts_in frame b)) (sym same) ∙ none first section frame.length
     ]
 
--- ---- a sound unit, and the end
-
-placed_found : (d : Declared) (bytes : List ℕ) (size : ℕ) (packet : Option UnitPacket) (packets : List Captured) → ArePlaced d bytes size packet
-    packets → found_by packet ≡ found_with packets
-placed_found d bytes size None packets placed = sym (ap found_with placed)
-placed_found d bytes size (Some p) packets placed = sym (ap found_with placed.1)
+-- ---- what is found of a unit, in a table of just the interfaces that are known
 
 with_room : (room n : ℕ) (found : Found) → n ≤ room → (if nat_lt room n then Found.NoRoom else found) ≡ found
 with_room room n found fits = let e : nat_lt room n ≡ false = grind (arith, nat_tests) in ap (λ b. if b then Found.NoRoom else found) e
@@ -217,45 +212,55 @@ most_count form.Unknown interfaces = omega arith
 most_count (form.Pcap head) interfaces = omega arith
 most_count (form.Pcapng order first) interfaces = omega arith
 
+counts_those : (f : FileState) (r : Reader) (room count : ℕ) → Counts f r room count → Counts f r count count
+counts_those form.Unknown r room count counts = tt
+counts_those (form.Pcap head) r room count counts = omega (arith, counts)
+counts_those (form.Pcapng order first) r room count counts = omega (arith, counts)
+
+-- what the reader knows of the table
+module _ (r : Reader) (t : List Interface) (f : FileState) (count : ℕ) (is : f ≡ reader_form r) (counts : Counts f r (length t) count)
+    (fits : count ≤ length t) where
+  those : length (take count t) ≡ count
+  those = length-take-le count t fits
+
+  counted : Counts f r (length (take count t)) count
+  counted = subst (λ n. Counts f r n count) (sym those) (counts_those f r (length t) count counts)
+
+  pub known_alike : declared_in r (take count t) ≡ declared_in r t
+  known_alike =
+      let all : take count (take count t) ≡ take count t = take-take count count t (omega arith) in
+      sym (declared_as f r (take count t) count is counted) ∙ ap (λ (l : List Interface). declared_by f (map described_of l)) all
+      ∙ declared_as f r t count is counts
+
+  pub all_taken : IsBare f count → IsFull (reader_form r) r (length (take count t))
+  all_taken bare = subst (λ g. IsFull g r (length (take count t))) is
+      (subst (λ n. Counts f r (length (take count t)) n × IsBare f n) (sym those) (counted, bare))
+
+  pub untouched : (s' : List Interface) → s' ≡ take count t → s' ++ drop count t ≡ t
+  untouched s' kept = ap (λ (l : List Interface). l ++ drop count t) kept ∙ take-append-drop count t
+
+-- what is found in a table with less room is found, unless that has no room
+in_more_room : (lacks : Bool) (n room count : ℕ) (what found : Found) → nat_lt n count ≡ lacks
+    → what ≡ (if nat_lt n count then Found.NoRoom else found) → n ≤ room → (what ≡ Found.NoRoom → n ≡ room)
+    → what ≡ (if nat_lt room count then Found.NoRoom else found)
+in_more_room true n room count what found lacks says fits full =
+    let none : what ≡ Found.NoRoom = says ∙ ap (λ b. if b then Found.NoRoom else found) lacks in
+    subst (λ m. what ≡ (if nat_lt m count then Found.NoRoom else found)) (full none) says
+in_more_room false n room count what found lacks says fits full =
+    let enough : count ≤ n = grind (arith, nat_tests) in
+    says ∙ with_room n count found enough ∙ sym (with_room room count found (omega arith))
+
 -- nothing is gone past where a text begins with a sound unit or nothing
-pub found : (capture : List ℕ) (r : Reader) (t t' : List Interface) (front : Front) (what : Found) → front_of (declared_in r t)
-    (drop r.offset capture) ≡ front → past_front (declared_in r t) (drop r.offset capture) front ≡ None
-    → what ≡ found_in_front (length t) front → t' ≡ t → SkipLeaves capture r r t t' (Skip.Not what)
-found capture r t t' front what is none says same =
-    stays what (ap (past_front (declared_in r t) (drop r.offset capture)) is ∙ none) (says ∙ sym (ap (found_in_front (length t)) is)) refl same
-
--- what the text begins with, in a table of just the interfaces that are known
-pub begins : (capture text : List ℕ) (r : Reader) (t : List Interface) (f : FileState) (count : ℕ) → f ≡ reader_form r → Counts f r (length t) count
-    → text ≡ drop r.offset capture
-    → front_of (declared_in r t) (drop r.offset capture) ≡ front_of (declared_by f (first_interfaces count (take count t))) text
-begins capture text r t f count is counts same =
-    let all : take count (take count t) ≡ take count t = take-take count count t (omega arith) in
-    ap (front_of (declared_in r t)) (sym same) ∙ ap (λ d. front_of d text) (sym (declared_as f r t count is counts))
-    ∙ ap (λ (l : List Interface). front_of (declared_by f (map described_of l)) text) (sym all)
-
-pub sound : (text : List ℕ) (t s' : List Interface) (f : FileState) (interfaces : List Described) (step : ReadUnit)
-    (b : BeginsWithUnit f interfaces text s' step) → length s' ≤ length t
-    → found_by step.packet ≡ found_in_front (length t) (Whole step.size b.packets (declared_by step.form (first_interfaces step.interfaces s')))
-sound text t s' f interfaces step b shorter =
-    let is : List Described = first_interfaces step.interfaces s' in
-    let fits : interface_count (declared_by step.form is) ≤ length t =
-    omega (arith, most_count step.form is, described_count step.interfaces s' b.known, b.known, shorter) in
-    placed_found _ _ _ step.packet b.packets b.placed ∙ sym (with_room (length t) (interface_count (declared_by step.form is)) (found_with b.packets) fits)
-
--- an interface, in a table of just those that are known
-pub one_declared : (d : Declared) (text : List ℕ) (t : List Interface) (count : ℕ) → count ≤ length t
-    → (one : DeclaresOne d text (first_interfaces count (take count t))) → interface_count (PcapngFile one.first one.section) ≡ count + 1
-one_declared d text t count fits one =
-    let all : take count (take count t) ≡ take count t = take-take count count t (omega arith) in
-    ap length one.more ∙ ap (λ (l : List Interface). length (map described_of l ++ one.interface ∷ [])) all ∙ one_more count t one.interface fits
-
-pub room_left : (t : List Interface) (size : ℕ) (first : Option ℕ) (section : Section) → length section.interfaces ≤ length t
-    → Found.Unit ≡ found_in_front (length t) (Whole size [] (PcapngFile first section))
-room_left t size first section fits = sym (with_room (length t) (length section.interfaces) Found.Unit fits)
-
-pub no_room : (t : List Interface) (size : ℕ) (first : Option ℕ) (section : Section) → length t < length section.interfaces
-    → Found.NoRoom ≡ found_in_front (length t) (Whole size [] (PcapngFile first section))
-no_room t size first section short = sym (without_room (length t) (length section.interfaces) Found.Unit short)
+found_front : (capture : List ℕ) (r : Reader) (t t' : List Interface) (n : ℕ) (front : Front) (what : Found) → front_of (declared_in r t)
+    (drop r.offset capture) ≡ front → what ≡ found_in_front n front → n ≤ length t → (what ≡ Found.NoRoom → n ≡ length t)
+    → ((fault : Fault) → ¬ what ≡ Found.Fault fault) → t' ≡ t → SkipLeaves capture r r t t' (Skip.Not what)
+found_front capture r t t' n (NoUnit None) what is says fits full sound same =
+    stays what (ap (past_front (declared_in r t) (drop r.offset capture)) is) (says ∙ sym (ap (found_in_front (length t)) is)) refl same
+found_front capture r t t' n (NoUnit (Some fault)) what is says fits full sound same = absurd (sound fault says)
+found_front capture r t t' n (Whole size packets d) what is says fits full sound same =
+    stays what (ap (past_front (declared_in r t) (drop r.offset capture)) is)
+    (in_more_room (nat_lt n (interface_count d)) n (length t) (interface_count d) what (found_with packets) refl says fits full
+    ∙ sym (ap (found_in_front (length t)) is)) refl same
 
 -- ---- laws
 
@@ -277,6 +282,42 @@ found_is capture r r' t t' p p' what same (fails fault front kept) = sym (ap (fo
 found_is capture r r' t t' p p' what same (is_full interfaces most one kept) =
     let more : length one.section.interfaces ≡ length interfaces + 1 = ap length one.more ∙ length-append interfaces (one.interface ∷ []) in
     sym (ap (found_in_front (length t)) one.front ∙ without_room (length t) (length one.section.interfaces) Found.Unit (omega (arith, more, most)))
+
+-- ---- a unit that was read on copies
+
+-- what the call found of a unit that isn't refused, in a table whose interfaces are all known
+pub found : (capture : List ℕ) (r r' : Reader) (t s s' t' : List Interface) (p p' : Packet) (what : Found) → declared_in r s ≡ declared_in r t
+    → length s' ≡ length s → NextLeaves capture r r' s s' p p' what → length s ≤ length t → (what ≡ Found.NoRoom → length s ≡ length t)
+    → ((fault : Fault) → ¬ what ≡ Found.Fault fault) → t' ≡ t → SkipLeaves capture r r t t' (Skip.Not what)
+found capture r r' t s s' t' p p' what known long leaves fits full sound same =
+    found_front capture r t t' (length s) (front_of (declared_in r s) (drop r.offset capture)) what
+    (ap (λ d. front_of d (drop r.offset capture)) (sym known)) (found_is capture r r' s s' p p' what long leaves) fits full sound same
+
+-- an interface that a table with more room has room for
+pub room_left : (capture : List ℕ) (r r' : Reader) (t s s' t' : List Interface) (p p' : Packet) (what : Found) → declared_in r s ≡ declared_in r t
+    → NextLeaves capture r r' s s' p p' what → what ≡ Found.NoRoom → length s < length t → t' ≡ t → SkipLeaves capture r r t t' (Skip.Not Found.Unit)
+room_left capture r r' t s s' t' p p' what known (passes size front after kept) e more same = absurd (cc)
+room_left capture r r' t s s' t' p p' what known (finds size q front after is) e more same = absurd (cc)
+room_left capture r r' t s s' t' p p' what known (ends front kept) e more same = absurd (cc)
+room_left capture r r' t s s' t' p p' what known (fails fault front kept) e more same = absurd (cc)
+room_left capture r r' t s s' t' p p' what known (is_full interfaces most one kept) e more same =
+    let count : length one.section.interfaces ≡ length interfaces + 1 = ap length one.more ∙ length-append interfaces (one.interface ∷ []) in
+    found_front capture r t t' (length t) (Whole one.size [] (PcapngFile one.first one.section)) Found.Unit
+    (ap (λ d. front_of d (drop r.offset capture)) (sym known) ∙ one.front)
+    (sym (with_room (length t) (length one.section.interfaces) Found.Unit (omega (arith, count, most, more)))) (omega arith) (λ none. refl)
+    (λ fault is. (cc)) same
+
+-- the fault that the call found
+pub refused_alike : (capture : List ℕ) (r r' : Reader) (t s s' : List Interface) (p p' : Packet) (what : Found) (fault : Fault)
+    → declared_in r s ≡ declared_in r t → NextLeaves capture r r' s s' p p' what → what ≡ Found.Fault fault
+    → front_of (declared_in r t) (drop r.offset capture) ≡ NoUnit (Some fault)
+refused_alike capture r r' t s s' p p' what fault known (passes size front after kept) e = absurd (cc)
+refused_alike capture r r' t s s' p p' what fault known (finds size q front after is) e = absurd (cc)
+refused_alike capture r r' t s s' p p' what fault known (ends front kept) e = absurd (cc)
+refused_alike capture r r' t s s' p p' what fault known (fails why front kept) e =
+    let same : why ≡ fault = (cc) in
+    ap (λ d. front_of d (drop r.offset capture)) (sym known) ∙ front ∙ ap (λ f. NoUnit (Some f)) same
+refused_alike capture r r' t s s' p p' what fault known (is_full interfaces most one kept) e = absurd (cc)
 
 too_late : (n m : ℕ) → 2 ^ 63 ≤ m → nat_lt (n + m) (2 ^ 63) ≡ false
 too_late n m least = grind (arith, nat_tests)

@@ -96,7 +96,7 @@ pub data NextLeaves (capture : List ℕ) (r r' : Reader) (t t' : List Interface)
       → NextLeaves capture r r' t t' p p' Found.End
   fails : (fault : Fault) → front_of (declared_in r t) (drop r.offset capture) ≡ NoUnit (Some fault)
       → Stays r r' t t' p p' → NextLeaves capture r r' t t' p p' (Found.Fault fault)
-  is_full : (interfaces : List Described) → length t ≤ length interfaces
+  is_full : (interfaces : List Described) → length t ≡ length interfaces
       → DeclaresOne (declared_in r t) (drop r.offset capture) interfaces → Stays r r' t t' p p'
       → NextLeaves capture r r' t t' p p' Found.NoRoom
 

@@ -1,5 +1,5 @@
 -- The units of a pcapng file that is written packet by packet, as for a sink.
-use Rattle.std.specs.Prelude.{◌≡◌, ℕ, ◌==◌, ◌≤◌, ◌&&◌, not, false, if◌then◌else◌, Bool, min, nat_lt, nat_le, List, [], ◌∷◌, ◌++◌, length, map, take, Option, None, Some}
+use Rattle.std.specs.Prelude.{◌≡◌, ℕ, ◌==◌, ◌≤◌, ◌&&◌, not, false, if◌then◌else◌, Bool, min, nat_lt, nat_le, List, [], ◌∷◌, ◌++◌, length, map, take, Option}
 use Rattle.cap_octet.specs.{Checks.first_failing, Date.TIME_END, Packet.Captured, declared.fault.Fault.Fault}
 use Rattle.cap_octet.specs.declared.fault.Fault.TheVariants.{BadOption, TimeOutOfRange, TooManyOutputInterfaces}
 use Rattle.cap_io.specs.Text as text

@@ -8,7 +8,7 @@ use Rattle.capkit_c.specs.Layout.{first_interfaces, most_known}
 use Rattle.capkit_c.specs.Units.{comment_by, name_by, DeclaresOne, UnitHas}
 use Rattle.capkit_c.specs.declared.memory.block.{Refusal.Refusal, UnitPacket.UnitPacket}
 use Rattle.capkit_c.specs.declared.memory.layout.{Interface.Interface, Packet.Packet, Reader.Reader}
-use Rattle.capkit_c.specs.{declared.memory.reader.Found.Found, declared.memory.reader.ReadUnit.ReadUnit, inside.Blocks.spans_of}
+use Rattle.capkit_c.specs.{declared.memory.reader.ReadUnit.ReadUnit, inside.Blocks.spans_of}
 
 -- a packet of the unit of this size at the start of these bytes, and the spans of its parts in the
 -- unit
@@ -95,13 +95,12 @@ Counts FileState.Unknown r room count = Unit {0}
 Counts (FileState.Pcap head) r room count = count ≡ most_known r room
 Counts (FileState.Pcapng order link) r room count = count ≡ most_known r room
 
+-- as many interfaces are known as the table has room for
+abbrev pub IsFull : FileState → Reader → ℕ → Type 0
+IsFull form r room = Counts form r room room × IsBare form room
+
 -- a unit was read, and nothing is left
 abbrev pub IsAtEnd : FileState → List ℕ → Type 0
 IsAtEnd FileState.Unknown text = ⊥
 IsAtEnd (FileState.Pcap head) text = text ≡ []
 IsAtEnd (FileState.Pcapng order link) text = text ≡ []
-
--- what is found of a sound unit, by its packet
-abbrev pub found_by : Option UnitPacket → Found
-found_by None = Found.Unit
-found_by (Some p) = Found.Packet

@@ -4,9 +4,9 @@ ghost use Rattle.std.specs.Prelude.{false, drop, length, take};
 ghost use Rattle.cap_pcapng.specs.{Effect.section_of, Interface.Described};
 ghost use Rattle.cap_io.specs.Capture.{first_link_after, is_pcapng};
 ghost use Rattle.capkit_c.specs.inside.Units.{Begins, Counts, IsBare, IsNoUnit, IsAtEnd, IsSomeFor};
-ghost use Rattle.capkit_c.specs.Layout.{declared_in, first_interfaces};
+ghost use Rattle.capkit_c.specs.Layout.{declared_in, first_interfaces, reader_form};
 ghost use Rattle.capkit_c.specs.Units.{NextLeaves, PacketLeaves, comment_by};
-ghost use Rattle.capkit_c.specs.inside.Units.{BeginsWithUnit, found_by, placed_packet};
+ghost use Rattle.capkit_c.specs.inside.Units.{BeginsWithUnit, IsFull, placed_packet};
 ghost use Rattle.cap_io.specs.declared.file_state.FileState.TheVariants as form;
 
 use crate::memory::block::{Refusal, UnitPacket, read_block};
@@ -34,7 +34,7 @@ pub enum Found {
 
 /// A unit that was read.
 #[derive(Clone, Copy)]
-pub(crate) struct ReadUnit {
+struct ReadUnit {
     /// In bytes.
     size: usize,
     /// The state of the file after it.
@@ -43,18 +43,6 @@ pub(crate) struct ReadUnit {
     interfaces: usize,
     /// Its packet, if it has one.
     packet: Option<UnitPacket>,
-}
-
-impl ReadUnit {
-    /// What a call finds that reads it.
-    pub(crate) fn found(&self) -> Found
-        ensures { result ≡ found_by self.now.packet }
-    {
-        match self.packet {
-            Some(_) => Found::Packet,
-            None => Found::Unit,
-        }
-    }
 }
 
 /// The bytes from a place on; none if it is past the end.
@@ -164,8 +152,7 @@ fn read_block_unit(
 /// Reads the unit that a text begins with, a file header, a record or a block, by what is declared
 /// of the file. The text isn't empty if a unit was read before. A refusal leaves the table
 /// unchanged; and none is added to a table of `count`.
-#[inline(always)]
-pub(crate) fn read_unit(
+fn read_unit(
     form: FileState,
     table: &mut [Interface],
     count: usize,
@@ -245,7 +232,7 @@ pub(crate) fn known_interface_count(reader: &Reader, form: FileState, room: usiz
 
 /// Whether a capture of which `text` is left is at its clean end. An empty capture, of which no
 /// unit was read, isn't: its file header is missing.
-pub(crate) fn is_at_end(form: FileState, text: &[u8]) -> bool
+fn is_at_end(form: FileState, text: &[u8]) -> bool
     ensures over { IsTrue result → IsAtEnd form text.now }
     ensures some { result ≡ false → IsSomeFor form text.now }
 {
@@ -256,7 +243,8 @@ pub(crate) fn is_at_end(form: FileState, text: &[u8]) -> bool
 }
 
 /// Reads the unit at the reader's place. By `Unit` and `Packet` the reader is after it, and by
-/// `Packet` the packet is where `packet` says; by the others nothing is written.
+/// `Packet` the packet is where `packet` says; by the others nothing is written. Nor is the table,
+/// if the reader knows as many interfaces as it has.
 pub fn next_unit(
     reader: &mut Reader,
     table: &mut [Interface],
@@ -266,6 +254,8 @@ pub fn next_unit(
     ensures left { NextLeaves capture.now reader.old reader.new table.old table.new packet.old
         packet.new result }
     ensures same { length table.new ≡ length table.old }
+    ensures full { IsFull (reader_form reader.old) reader.old (length table.old)
+        → table.new ≡ table.old }
 {
     let form = reader.file_state();
     let count = known_interface_count(reader, form, table.len());

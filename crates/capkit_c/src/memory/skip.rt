@@ -8,12 +8,10 @@ ghost use Rattle.capkit_c.specs.Skipping.{SkipLeaves, past_at, refused_part, wit
 ghost use Rattle.capkit_c.specs.inside.Skipping.{IsUnread, IsWholeFrame, Moves};
 ghost use Rattle.cap_io.specs.declared.file_state.FileState.TheVariants as form;
 
-use crate::memory::block::{Refusal, append_interface};
-use crate::memory::layout::{Interface, Reader};
+use crate::memory::block::append_interface;
+use crate::memory::layout::{Interface, Packet, Reader};
 use crate::memory::pcap::{FILE_HEADER, RECORD_HEADER, head_by_low_bits, record_size};
-use crate::memory::reader::{
-    Found, bytes_from, first_link_type, is_at_end, known_interface_count, read_unit,
-};
+use crate::memory::reader::{Found, bytes_from, first_link_type, known_interface_count, next_unit};
 use cap_io::FileState;
 use cap_octet::{Fault, Order, u16_at, u32_at};
 use cap_pcap::Head;
@@ -21,6 +19,19 @@ use cap_pcapng::{BlockType, Clock, Frame, Interface as PcapngInterface, MOST_INT
 
 /// The ticks per second of an interface whose options aren't read.
 const MICROSECONDS: u64 = 1_000_000;
+
+/// The packet of a unit that is read only to see what is found of it.
+const NO_PACKET: Packet = Packet {
+    time: 0,
+    at: 0,
+    options_at: 0,
+    captured: 0,
+    original: 0,
+    options_length: 0,
+    interface: 0,
+    snap: 0,
+    link_type: 0,
+};
 
 /// What a fault refuses of a unit.
 #[derive(Clone, Copy)]
@@ -257,19 +268,17 @@ pub fn skip_unit(reader: &mut Reader, table: &mut [Interface], capture: &[u8]) -
 {
     let form = reader.file_state();
     let count = known_interface_count(reader, form, table.len());
-    let text = bytes_from(capture, reader.offset);
-    if is_at_end(form, text) {
-        return Skip::Not(Found::End);
-    }
-    // In a table without room for a further interface none is entered.
-    match read_unit(form, &mut table[..count], count, text) {
-        Ok(unit) => Skip::Not(unit.found()),
-        Err(Refusal::NoRoom) => {
+    let mut after = *reader;
+    let mut packet = NO_PACKET;
+    // The unit is read on copies, in a table without room for a further interface: none is entered.
+    match next_unit(&mut after, &mut table[..count], capture, &mut packet) {
+        Found::Fault(fault) => skip_refused(reader, table, capture, fault),
+        Found::NoRoom => {
             if count < table.len() {
                 return Skip::Not(Found::Unit);
             }
             Skip::Not(Found::NoRoom)
         }
-        Err(Refusal::Fault(fault)) => skip_refused(reader, table, capture, fault),
+        found => Skip::Not(found),
     }
 }

@@ -1,5 +1,5 @@
 -- The buffer has as much of the meaning as there is room for.
-use Rattle.std.proofs.Common.{ℕ, List, length, refl, ap, ◌∙◌}
+use Rattle.std.proofs.Common.{ℕ, List, length, ap, ◌∙◌}
 use Rattle.std.specs.Prelude.{string_bytes}
 use Rattle.capkit_c.specs.Texts.{put_text}
 use Rattle.capkit_c.proofs.explaining.put_meaning.Goals as goal

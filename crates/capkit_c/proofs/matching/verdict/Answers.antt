@@ -3,7 +3,7 @@ use Rattle.std.proofs.Common.{◌≡◌, ◌∙◌, List, ℕ, ap, drop, length,
 use Rattle.flt_bpf.specs.Machine.{Answered, machine}
 use Rattle.flt_trace.proofs.ByRules.{same_run, valid_meets_none}
 use Rattle.flt_trace.specs.RunByRules.{run_end}
-use Rattle.capkit_c.specs.{Running.RunLeaves, Running.answers, inside.Matching.IsKnown}
+use Rattle.capkit_c.specs.{Running.answers, inside.Matching.IsKnown}
 use Rattle.capkit_c.proofs.matching.verdict.Goals as goal
 
 pub returns-in-Valid : goal.returns-in-Valid

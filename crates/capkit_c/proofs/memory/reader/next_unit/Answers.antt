@@ -1,6 +1,6 @@
 -- The effect of the call is that of reading the unit.
 use Rattle.capkit_c.proofs.Common.{length, refl, subst, first_interfaces, IsNoUnit}
-use Rattle.capkit_c.proofs.Leaves.{ended, found_packet, full, passed, refused}
+use Rattle.capkit_c.proofs.Leaves.{all_known, ended, found_packet, full, passed, refused}
 use Rattle.capkit_c.proofs.memory.reader.next_unit.Goals as goal
 
 pub returns-then-is_at_end-clause-left : goal.returns-then-is_at_end-clause-left
@@ -35,6 +35,18 @@ pub returns-in-Err-NoRoom-clause-left : goal.returns-in-Err-NoRoom-clause-left
 returns-in-Err-NoRoom-clause-left c =
     full c.args.capture.now c.bytes_from-text.result.now c.args.reader.now c.args.table.now c.read_unit.new.table c.args.packet.now
     c.file_state-form.result c.known_interface_count-count.result
-    c.file_state-form.ensures c.known_interface_count-count.ensures.counts c.bytes_from-text.ensures
+    c.file_state-form.ensures c.known_interface_count-count.ensures.counts c.known_interface_count-count.ensures.fits c.bytes_from-text.ensures
     (subst (λ w. IsNoUnit c.file_state-form.result (first_interfaces c.known_interface_count-count.result c.args.table.now)
     c.bytes_from-text.result.now (length c.args.table.now) w) c.in-Err-NoRoom.field-0-is c.in-Err-NoRoom.ensures.err) c.in-Err-NoRoom.ensures.kept
+
+pub returns-in-Some-clause-full : goal.returns-in-Some-clause-full
+returns-in-Some-clause-full c =
+    λ filled. c.in-Ok.ensures.full (all_known c.file_state-form.result c.args.reader.now (length c.args.table.now)
+    c.known_interface_count-count.result c.file_state-form.ensures c.known_interface_count-count.ensures.counts
+    c.known_interface_count-count.ensures.bare filled)
+
+pub returns-in-None-clause-full : goal.returns-in-None-clause-full
+returns-in-None-clause-full c =
+    λ filled. c.in-Ok.ensures.full (all_known c.file_state-form.result c.args.reader.now (length c.args.table.now)
+    c.known_interface_count-count.result c.file_state-form.ensures c.known_interface_count-count.ensures.counts
+    c.known_interface_count-count.ensures.bare filled)

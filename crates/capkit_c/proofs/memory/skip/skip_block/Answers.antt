@@ -1,8 +1,8 @@
 -- A block is skipped if only its time or its options are refused.
-use Rattle.std.proofs.Common.{◌≡◌, ◌∙◌, Some, None, arith, length, refl, subst, sym}
+use Rattle.std.proofs.Common.{◌∙◌, Some, arith, length, refl, subst, sym}
 use Rattle.cap_io.specs.Capture.{PcapngFile}
 use Rattle.cap_io.specs.declared.file_state.FileState.TheVariants as form
-use Rattle.cap_pcapng.specs.{Effect.section_of, Unit.order_before}
+use Rattle.cap_pcapng.specs.{Effect.section_of}
 use Rattle.capkit_c.specs.Layout.{first_interfaces, most_known}
 use Rattle.capkit_c.specs.inside.Skipping.{IsUnread, IsWholeFrame}
 use Rattle.capkit_c.proofs.Skips.{kept, moved, past_form, past_full, past_none, past_other, past_time, past_unread}

@@ -1,5 +1,5 @@
 -- A file header is skipped if only its link type is refused.
-use Rattle.std.proofs.Common.{◌∙◌, Some, ap, arith, drop, refl, subst, sym}
+use Rattle.std.proofs.Common.{◌∙◌, ap, arith, drop, refl, sym}
 use Rattle.cap_io.specs.Capture.{PcapFile}
 use Rattle.cap_io.specs.declared.file_state.FileState.TheVariants as form
 use Rattle.capkit_c.specs.Skipping.{head_by_low_bits, is_cut}

@@ -1,7 +1,7 @@
 -- The first 12 bytes determine the frame, or the form is refused.
 use Rattle.std.proofs.Common.{Some, arith, refl}
 use Rattle.cap_octet.specs.declared.fault.Fault.TheVariants.{Truncated}
-use Rattle.capkit_c.proofs.Skips.{few, frame_refused, refuses}
+use Rattle.capkit_c.proofs.Skips.{frame_refused, refuses}
 use Rattle.capkit_c.proofs.Stands.{block_cut, framed}
 use Rattle.capkit_c.proofs.memory.skip.whole_frame.Goals as goal
 
