@@ -118,7 +118,7 @@ fn line_without_commands<'a>(alloc: Global) -> Result<Command<'a>, AllocError>
     ensures { IfOk result (λ command. app_of command ≡ line_without_commands) }
 {
     Command::new(alloc, NAME)
-        .about("A workbench for saved packet captures")
+        .about("Edit, merge, filter and print saved packet captures")
         .after_help(LINE_HELP)
         .version(VERSION)
         .no_binary_name(true)

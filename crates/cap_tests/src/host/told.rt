@@ -141,12 +141,13 @@ edit in out -t3600 | -t | see --later, --earlier
 edit -C 14 in out | -C | see --chop-start, --chop-end
 edit --chop 3 in out | --chop | see --chop-start, --chop-end
 edit -c 100 in out | -c | split by -r and ranges: 1-100, 101-200
-edit -d in out | -d | see -D
+edit -d in out | -d | see -D 5
+edit --novlan -D 5 in out | --novlan | -D compares whole packets, with their VLAN tags
 edit --later -5 in out | -5 | for --later -5 write --earlier 5; a range is 1-5
 print -r in | -r | the file is named without -r
 print -nr in | -n | names are never looked up
 print in -len = 1 | -l | lines need no -l; quote an expression that has a dash: ' -len = 1'
-print -X in | -X | see -x
+print -X in | -X | see -x, which prints bytes without characters
 print -w out -F pcap in | -F | see --format; for words in a file \"$(cat FILE)\"
 edit --format pcap in out | --format | see -F
 merge --format pcap -w out in | --format | see -F
@@ -160,7 +161,7 @@ const NO_COMMAND: &str = "error: 'capkit' requires a subcommand but one was not 
 Commands:
   edit     Select and change packets, and remove duplicates
   merge    Merge captures into one, by time
-  infos    Write a report on each capture
+  infos    Report packet counts, sizes, times and order
   print    Print or write the packets that match an expression or a listing
   compile  Compile an expression, and write the listing of its program
 

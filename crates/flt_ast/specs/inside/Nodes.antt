@@ -1,4 +1,4 @@
--- A tree's nodes, latest first.
+-- A tree's nodes, latest first, and that they lead back to the tree.
 use Rattle.std.specs.Prelude.{◌≡◌, List, [], ◌∷◌, fold, refl}
 use Rattle.std.proofs.Common.{ap, ◌∙◌}
 use Rattle.flt_ast.specs.Nodes.{number_nodes, truth_nodes, expr_nodes, Trees, with_number, with_truth, with_node, first_truth, tree_of}
