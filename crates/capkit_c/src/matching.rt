@@ -11,6 +11,10 @@ use flt_trace::run_insns;
 /// The number of a packet of another link type than the program's.
 const ANOTHER_LINK_TYPE: u32 = 226;
 
+/// The most instructions that a search checks before their first run: that costs less than a few
+/// runs in which each is checked.
+const FEW: usize = 32;
+
 /// What a search knows of its instructions.
 #[derive(Clone, Copy)]
 enum Known {
@@ -53,17 +57,15 @@ impl Known {
 }
 
 /// Runs instructions on a packet of a capture: their result as `capkit_run` has it, and the number
-/// of executed ones. Those of a program that is known to be valid aren't checked again.
+/// of executed ones, each of which was checked. Those of a program that is known to be valid aren't
+/// checked again, nor counted.
 fn verdict(insns: &[Insn], known: Known, capture: &[u8], packet: &Packet) -> (u32, usize)
     requires { IsKnown insns.now known }
     ensures { Returns insns.now capture.now packet.now result.0 }
 {
     let bytes = bytes_at(capture, packet.at, packet.captured);
     match known {
-        Known::Valid => {
-            let (answer, count) = run_insns(insns, bytes, packet.original);
-            (answer, count as usize)
-        }
+        Known::Valid => (run_insns(insns, bytes, packet.original).0, 0),
         Known::Executed(_) | Known::Invalid => run(insns, bytes, packet.original),
     }
 }
@@ -127,7 +129,7 @@ pub extern "C" fn capkit_next_match(
     ensures { SearchLeaves insns.now link_type capture.now reader.old reader.new interfaces.old
         interfaces.new packet.old packet.new result }
 {
-    let mut known = Known::Executed(0);
+    let mut known = Known::Executed(0).after(insns, FEW);
     // The label names the loop in its proof.
     'search: loop {
         match search_step(reader, interfaces, capture, insns, known, link_type, packet) {

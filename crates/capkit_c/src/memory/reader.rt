@@ -170,31 +170,25 @@ fn read_unit(
     ensures kept { OnErr result (table.new ≡ table.old) }
     ensures full { count ≡ length table.old → table.new ≡ table.old }
 {
-    match form {
+    let (section, first) = match form {
         FileState::Unknown => {
-            if is_pcapng(text) {
-                return read_block_unit(form, None, None, table, count, text);
+            if !is_pcapng(text) {
+                return match header_in(text) {
+                    Ok(head) => Ok(ReadUnit {
+                        size: FILE_HEADER,
+                        form: FileState::Pcap(head),
+                        interfaces: 0,
+                        packet: None,
+                    }),
+                    Err(fault) => Err(Refusal::Fault(fault)),
+                };
             }
-            match header_in(text) {
-                Ok(head) => Ok(ReadUnit {
-                    size: FILE_HEADER,
-                    form: FileState::Pcap(head),
-                    interfaces: 0,
-                    packet: None,
-                }),
-                Err(fault) => Err(Refusal::Fault(fault)),
-            }
+            (None, None)
         }
-        FileState::Pcap(head) => read_record_unit(&head, text, count),
-        FileState::Pcapng(order, first) => read_block_unit(
-            form,
-            Some(order),
-            first,
-            table,
-            count,
-            text,
-        ),
-    }
+        FileState::Pcap(head) => return read_record_unit(&head, text, count),
+        FileState::Pcapng(order, first) => (Some(order), first),
+    };
+    read_block_unit(form, section, first, table, count, text)
 }
 
 /// A packet of the unit at place `at` of a capture, with its places from the capture's start.

@@ -4,7 +4,7 @@ use Rattle.capkit_c.proofs.Searches.{step_smaller, went_on}
 use Rattle.capkit_c.proofs.matching.capkit_next_match.Goals as goal
 
 pub search-init : goal.search-init
-search-init c = record { goes = at_first; known = tt }
+search-init c = record { goes = at_first; known = c.after-known.ensures }
 
 pub search-smaller : goal.search-smaller
 search-smaller c =
@@ -20,7 +20,7 @@ search-preserved c = record {
       (went_on c.args.insns.now c.args.link_type c.args.capture.now c.search.reader c.search_step.new.reader c.search.interfaces
       c.search_step.new.table c.search.packet c.search_step.new.packet c.search_step.result
       c.in-More.steps c.search_step.ensures c.in-More.is);
-  known = c.after-known.ensures;
+  known = c.after-known-in-More.ensures;
 }
 
 pub returns-in-Last : goal.returns-in-Last

@@ -12,6 +12,6 @@ returns-in-Valid c =
     let len = c.args.packet.now.original in
     let bytes : List ℕ = take c.args.packet.now.captured (drop c.args.packet.now.at c.args.capture.now) in
     let valid = subst (λ known. IsKnown insns known) c.in-Valid.is c.requires in
-    let runs : machine insns bytes len (length insns) ≡ Answered c.run_insns-answer.result.0 c.run_insns-answer.result.1 =
-    ap (λ b. machine insns b len (length insns)) (sym c.bytes_at-bytes.ensures) ∙ c.run_insns-answer.ensures.answer in
-    record { steps = c.run_insns-answer.result.1; runs = answers (same_run insns bytes len (valid_meets_none insns bytes len valid) ∙ ap run_end runs) runs }
+    let runs : machine insns bytes len (length insns) ≡ Answered c.run_insns.result.0 c.run_insns.result.1 =
+    ap (λ b. machine insns b len (length insns)) (sym c.bytes_at-bytes.ensures) ∙ c.run_insns.ensures.answer in
+    record { steps = c.run_insns.result.1; runs = answers (same_run insns bytes len (valid_meets_none insns bytes len valid) ∙ ap run_end runs) runs }
