@@ -36,7 +36,11 @@ impl<'a> Model for Numbers<'a> {
 impl<'a> Numbers<'a> {
     /// No number is looked for.
     pub fn none() -> Self
-        ensures { result.all ≡ [] }
+        ensures all { result.all ≡ [] }
+        ensures others { result.others ≡ [] }
+        ensures mask { result.mask ≡ None }
+        ensures low { result.first.low ≡ 0 }
+        ensures high { result.first.high ≡ 0 }
     {
         Numbers {
             mask: None,
