@@ -1,12 +1,13 @@
 #!/usr/bin/env python3
-"""Measures what `edit -D 1000` costs at worst: over packets whose digests were made to collide, and over others. For whoever
-changes the window of duplicates.
+"""Measures what `edit -D 1000` costs at worst: over packets whose digests collide, and over others.
+
+For whoever changes the window of duplicates.
 
 usage: collide.py [--packets N] [--capkit PROGRAM]
 
-A window of 1,000 packets finds a packet by the low ten bits of its MD5. It makes N packets (10,000) whose digests agree in
-these bits, and as many whose digests don't, in about 25 seconds. Then it prints the instructions per packet for both, which
-valgrind's callgrind counts.
+A window of 1,000 packets finds a packet by the low ten bits of its MD5. It makes N packets (10,000)
+whose digests agree in these bits, and as many whose digests don't, in about 25 seconds. Then it
+prints the instructions per packet for both, which valgrind's callgrind counts.
 """
 import argparse
 import hashlib

@@ -1,8 +1,10 @@
 #!/usr/bin/env python3
-"""Writes a pcap file of made-up traffic, for measurements and tests: TCP, UDP, ICMP, ARP and IPv6 on Ethernet, in packets of 60
-to 200 bytes. The same number of packets gives the same bytes every time.
+"""Writes a pcap file of made-up traffic, for measurements and tests.
 
-usage: make_capture.py FILE [PACKETS]        1,000,000 packets by default
+usage: make_capture.py FILE [PACKETS]
+
+It has PACKETS packets (1,000,000) of 60 to 200 bytes: TCP, UDP, ICMP, ARP and IPv6 on Ethernet. The
+same number of packets gives the same bytes every time.
 """
 import random
 import struct
@@ -23,17 +25,19 @@ rng = random.Random(SEED)
 
 
 def address():
+    """Returns an IPv4 address, half of the time a common one."""
     if rng.random() < 0.5:
         return rng.choice(COMMON_HOSTS)
     return bytes([rng.randrange(1, 224), rng.randrange(256), rng.randrange(256), rng.randrange(1, 255)])
 
 
 def address6():
+    """Returns an IPv6 address."""
     return bytes.fromhex("20010db8") + rng.randbytes(12)
 
 
 def ports():
-    """A server's port and a client's, in either order."""
+    """Returns a server's port and a client's, in either order."""
     server = rng.choice(COMMON_PORTS) if rng.random() < 0.4 else rng.randrange(1, 65536)
     both = [server, rng.randrange(1024, 65536)]
     rng.shuffle(both)
@@ -41,7 +45,7 @@ def ports():
 
 
 def transport(protocol, length):
-    """`length` bytes of a transport header and its payload."""
+    """Returns `length` bytes of a transport header and its payload."""
     source, destination = ports()
     if protocol == TCP:
         flags = rng.choice([0x10, 0x10, 0x10, 0x18, 0x02, 0x12, 0x11, 0x04])
@@ -55,12 +59,14 @@ def transport(protocol, length):
 
 
 def fragment_field():
+    """Returns the field of a fragment: 2 % of the packets are one."""
     if rng.random() < 0.02:
         return 0x2000 | rng.randrange(1, 100)
     return 0x4000 if rng.random() < 0.5 else 0
 
 
 def ipv4(length):
+    """Returns an IPv4 packet of about this length."""
     protocol = rng.choices([TCP, UDP, ICMP, GRE], [62, 30, 5, 3])[0]
     # a third of the TCP packets have no payload
     is_empty = protocol == TCP and rng.random() < 0.35
@@ -72,6 +78,7 @@ def ipv4(length):
 
 
 def ipv6(length):
+    """Returns an IPv6 packet of about this length."""
     protocol = rng.choices([TCP, UDP, ICMP6], [55, 35, 10])[0]
     body = max(HEADER[protocol], length - 40)
     start = struct.pack(">IHBB", 0x60000000, body, protocol, 64)
@@ -79,12 +86,13 @@ def ipv6(length):
 
 
 def arp():
+    """Returns an ARP packet."""
     start = struct.pack(">HHBBH", 1, 0x800, 6, 4, rng.choice([1, 2]))
     return start + rng.randbytes(6) + address() + rng.randbytes(6) + address()
 
 
 def packet():
-    """A frame of Ethernet: IPv4 (78 %), IPv6 (16 %), ARP (4 %) or LLDP (2 %)."""
+    """Returns an Ethernet frame: IPv4 (78 %), IPv6 (16 %), ARP (4 %) or LLDP (2 %)."""
     length = rng.randrange(46, 187)
     kind = rng.random()
     if kind < 0.78:

@@ -1,18 +1,22 @@
 #!/usr/bin/env python3
-"""Compares the CPU time and memory of capkit with those of editcap, mergecap, capinfos and tcpdump, and prints a table. For
-whoever changes code that runs once per packet, and for the figures on pages.
+"""Prints a table of the CPU time and memory of capkit, editcap, mergecap, capinfos and tcpdump.
+
+For whoever changes code that runs once per packet, and for the figures on pages.
 
 usage: run.py [--packets N] [--rounds N] [--seconds N] [--capkit PROGRAM] [--instructions | --page] [NAME..]
 
-It makes a capture of N packets (1,000,000) in a temporary folder. The programs write their captures there too: set TMPDIR to a
-folder on a disk. The programs run each job in turn, ROUNDS times (15), or until it has taken SECONDS (60) in 3 rounds or more, and the
-best CPU time of each counts (user and system, in seconds). Memory is the greatest resident size in MiB, if GNU time is installed.
-First it compares what capkit and the other tool write (after the file header; for reports, the number of packets). NAMEs choose
-jobs; without one, all run. Tools that aren't installed are left out. --page prints rows as docs/inside/TESTING.md has them.
+It makes a capture of N packets (1,000,000) in a temporary folder. The programs write their captures
+there too: set TMPDIR to a folder on a disk. The programs run each job in turn, ROUNDS times (15),
+or until it has taken SECONDS (60) in 3 rounds or more, and the best CPU time of each counts (user
+and system, in seconds). Memory is the greatest resident size in MiB, if GNU time is installed.
+First it compares what capkit and the other tool write (after the file header; for reports, the
+number of packets). NAMEs choose jobs; without one, all run. Tools that aren't installed are left
+out. --page prints rows as docs/inside/TESTING.md has them.
 
-For some jobs it also measures floor.c, a C program that does only what such a job can't avoid, if there is a C compiler. If
-valgrind is installed, callgrind counts the instructions per packet: the difference between a capture of 30,000 packets and its
-first 10,000, which doesn't depend on the load of the machine. --instructions does only this.
+For some jobs it also measures floor.c, a C program that does only what such a job can't avoid, if
+there is a C compiler. If valgrind is installed, callgrind counts the instructions per packet: the
+difference between a capture of 30,000 packets and its first 10,000, which doesn't depend on the
+load of the machine. --instructions does only this.
 """
 import argparse
 import ipaddress
@@ -38,15 +42,19 @@ from built import built_program
 # 300 ports, six of them common, and 50 hosts, half of them common.
 chooser = random.Random(7)
 PORTS = sorted(chooser.sample(range(1, 65536), 294)) + [80, 443, 53, 22, 25, 8080]
-HOSTS = [f"10.0.0.{k}" for k in range(1, 26)] + [".".join(str(chooser.randrange(1, 224)) for _ in range(4)) for _ in range(25)]
+HOSTS = (
+    [f"10.0.0.{k}" for k in range(1, 26)]
+    + [".".join(str(chooser.randrange(1, 224)) for _ in range(4)) for _ in range(25)]
+)
+
 
 def network(prefix):
-    """A network with a prefix of this length."""
+    """Returns a random network with a prefix of this length."""
     return f"{ipaddress.IPv4Address(chooser.randrange(1 << 24, 224 << 24) >> 32 - prefix << 32 - prefix)}/{prefix}"
 
 
 def flow():
-    """The packets from one host to another."""
+    """Returns the expression for the packets from one host to another."""
     source, destination = (network(32)[:-3] for _ in range(2))
     return f"(src host {source} and dst host {destination})"
 
@@ -66,7 +74,9 @@ EXPRESSIONS = {
     "portranges-20": " or ".join(f"portrange {port}-{port + 99}" for port in range(1000, 61000, 3000)),
     "nets-1800": " or ".join(f"ip net {network(24)}" for _ in range(1800)),
     "hosts-2730": "ip src host " + " or ".join(network(32)[:-3] for _ in range(2730)),
-    "macs-40": " or ".join("ether src 00" + "".join(f":{chooser.randrange(256):02x}" for _ in range(5)) for _ in range(40)),
+    "macs-40": " or ".join(
+        "ether src 00" + "".join(f":{chooser.randrange(256):02x}" for _ in range(5)) for _ in range(40)
+    ),
     "ip6-256": " or ".join(f"src host 2001:db8::{k:x}" for k in range(256)),
     "ip6-hosts-256": " or ".join(f"{side} host 2001:db8::{k:x}" for side in ("src", "dst") for k in range(256)),
     "ip6-hosts-64": " or ".join(f"{side} host 2001:db8::{k:x}:0:{k:x}" for side in ("src", "dst") for k in range(256)),
@@ -76,7 +86,7 @@ EXPRESSIONS = {
 }
 
 
-# What floor.c does in place of a job; IN are the job's captures.
+# The words of floor.c for a job; IN are the job's captures.
 FLOOR = {
     "copy-pcap": ["copy", "OUT", "IN", "0", "0"],
     "to-pcapng": ["pcapng", "OUT", "IN", "0", "0"],
@@ -86,8 +96,9 @@ FLOOR = {
     "web": ["web", "OUT", "IN"],
 }
 
-# The packets of both captures whose instructions are counted.
-FEW, MANY = 10_000, 30_000
+# The numbers of packets of the two captures over which instructions are counted.
+FEW = 10_000
+MANY = 30_000
 
 
 def parts_of(capture, count, folder):
@@ -105,7 +116,9 @@ def parts_of(capture, count, folder):
 
 
 def jobs(capkit, floor, capture, folder):
-    """The jobs: their name, the peer's program, and the words of each program by its name, with OUT for the output."""
+    """Yields the jobs: their names, the other programs, and the words of each program by its name,
+    with OUT for the output.
+    """
     edits = {
         "copy-pcap": ["-F", "pcap", capture, "OUT"],
         "to-pcapng": ["-F", "pcapng", capture, "OUT"],
@@ -142,7 +155,7 @@ def compiled_floor(folder):
 
 
 def instructions_of(words):
-    """How many instructions a run of the words executes."""
+    """Returns the number of instructions that a run of the words executes."""
     words = ["/dev/null" if word == "OUT" else word for word in words]
     callgrind = ["valgrind", "--tool=callgrind", "--callgrind-out-file=/dev/null"]
     done = subprocess.run([*callgrind, *words], stdout=subprocess.DEVNULL, stderr=subprocess.PIPE, text=True)
@@ -165,7 +178,7 @@ def run(words, out):
 
 
 def memory_of(words, folder):
-    """The resident memory of a run in MiB; wait4 would count this process too, before the program starts."""
+    """Returns the resident memory of a run in MiB; wait4 would include this process, before the program starts."""
     if not os.path.exists("/usr/bin/time"):
         return math.nan
     report = folder / "memory"
@@ -174,20 +187,20 @@ def memory_of(words, folder):
 
 
 def packets_of(path):
-    """What follows the header of a pcap file."""
+    """Returns the bytes after the header of a pcap file."""
     with open(path, "rb") as file:
         return file.read()[24:]
 
 
 def counted(words):
-    """The number of packets in a report."""
+    """Returns the number of packets in a report."""
     report = subprocess.run(words, capture_output=True, text=True, check=True).stdout
     counts = re.findall(r"^(?:Packets|Number of packets): *(?:= *)?(\d+)", report, re.MULTILINE)
     return counts[0] if counts else None
 
 
 def compare(name, programs, folder):
-    """Whether both write the same packets; only pcap files can be compared byte by byte."""
+    """Returns whether both write the same packets; only pcap files can be compared byte by byte."""
     if name in ("to-pcapng", "lines"):
         return ""
     if name == "infos":
@@ -213,7 +226,7 @@ def measure(programs, arguments, folder):
 
 
 def small_jobs(capkit, floor, folder):
-    """For both small captures, the words of each job by its name."""
+    """Yields the words of each job by name, for both small captures."""
     for count in (FEW, MANY):
         place = folder / str(count)
         place.mkdir()
@@ -222,7 +235,9 @@ def small_jobs(capkit, floor, folder):
 
 
 def counts_of(few, many):
-    """Instructions per packet of capkit and of floor.c, as texts; `few` and `many` are the words of a job for the two captures."""
+    """Returns the instructions per packet of capkit and of floor.c, as texts; `few` and `many` are
+    the words of a job for the two captures.
+    """
     counts = {}
     for which in {"own", "floor"} & few.keys():
         counts[which] = str(round((instructions_of(many[which]) - instructions_of(few[which])) / (MANY - FEW)))
@@ -262,7 +277,9 @@ def measure_jobs(arguments, folder):
         ratios.append(own / other)
         if arguments.page:
             shown = [f"{ratio:.2f}" if ratio == ratio else "" for ratio in (own / other, own / least)]
-            print("|", " | ".join([f"`{name}`", peer, *shown, *(f"{size:.0f}" for size in memory)]), "|", note, flush=True)
+            print(
+                "|", " | ".join([f"`{name}`", peer, *shown, *(f"{size:.0f}" for size in memory)]), "|", note, flush=True
+            )
             continue
         cells = [(own, 3), (other, 3), (own / other, 2), (least, 3), (own / least, 2), *((size, 1) for size in memory)]
         print_line(name, peer, [*cells, *counts_of(*(words.get(name, {}) for words in small)), note])

@@ -12,10 +12,22 @@ import os
 import struct
 import sys
 
-SECTION, INTERFACE, SIMPLE, ENHANCED = 0x0A0D0D0A, 1, 3, 6
+# The types of blocks.
+SECTION = 0x0A0D0D0A
+INTERFACE = 1
+SIMPLE = 3
+ENHANCED = 6
+# The byte orders of struct, by the byte-order magic.
 ORDERS = {b"\x4d\x3c\x2b\x1a": "<", b"\x1a\x2b\x3c\x4d": ">"}
 SHORTEST_BODY = {SECTION: 16, INTERFACE: 8, SIMPLE: 4, ENHANCED: 20}
-LONGEST_BLOCK, SNAP, MOST_READ, MOST_WRITTEN = 1_048_576, 262_144, 256, 4_096
+# The most bytes of a block.
+LONGEST_BLOCK = 1_048_576
+# The snap length of pcap files that capkit writes.
+SNAP = 262_144
+# The most interfaces of a section that is read, and of a file that is written.
+MOST_READ = 256
+MOST_WRITTEN = 4_096
+# What `edit` leaves out: blocks by their type, and options by their code, from 1.
 BLOCKS = {4: "name", 5: "statistics", 10: "secrets", 0xBAD: "custom", 0x40000BAD: "custom"}
 OPTIONS = {
     "section": "comment hardware os application",
@@ -25,16 +37,20 @@ OPTIONS = {
 
 
 def need(holds, reason):
+    """Ends the reading with this reason, unless the condition is true."""
     if not holds:
         raise ValueError(reason)
 
 
 class Capture:
+    """A pcapng file that is read block by block, with the counts of what is left out of it."""
+
     def __init__(self, form):
         self.form, self.is_pcap, self.at, self.order = form, form != "pcapng", 0, None
         self.lost, self.interfaces, self.used, self.seen = collections.Counter(), [], set(), set()
 
     def read(self, stream):
+        """Reads the blocks of a file up to its end or the first fault."""
         while (head := stream.read(12)) or not self.at:
             if head[:4] == b"\n\r\r\n":
                 self.order = ORDERS.get(head[8:])
@@ -50,16 +66,17 @@ class Capture:
             self.at += size
 
     def look(self, kind, body):
+        """Counts what `edit` would lose of a block."""
         if kind == SECTION:
             self.interfaces, self.used = [], set()
             self.options("section", body[16:])
         elif kind == INTERFACE:
             need(len(self.interfaces) < MOST_READ, "too many interfaces")
-            held = self.options("interface", body[8:], [2, 9, 14])
-            power = (held.get(9) or b"\6")[0]
+            options = self.options("interface", body[8:], [2, 9, 14])
+            power = (options.get(9) or b"\6")[0]
             units = 10**power if power < 128 else 2 ** (power - 128)
             link_snap = struct.unpack_from(self.order + "HxxI", body)
-            self.interfaces.append((*link_snap, held.get(2, b""), units))
+            self.interfaces.append((*link_snap, options.get(2, b""), units))
             self.lost["interface without packets"] += 1
         elif kind == ENHANCED:
             number, high, low, captured = struct.unpack_from(self.order + "IIII", body)
@@ -72,17 +89,18 @@ class Capture:
 
     def options(self, of, body, kept=()):
         """Counts all options but the first of each kept code; returns the first of each code."""
-        at, held, names = 0, {}, dict(enumerate(OPTIONS[of].split(), 1))
+        at, first, names = 0, {}, dict(enumerate(OPTIONS[of].split(), 1))
         while at < len(body):
             code, size = struct.unpack_from(self.order + "HH", body, at)
             if code == 0 or at + 4 + size > len(body):
                 break
-            self.lost[f"{of} option {names.get(code, 'other')}"] += code not in kept or code in held
-            held.setdefault(code, body[at + 4 : at + 4 + size])
+            self.lost[f"{of} option {names.get(code, 'other')}"] += code not in kept or code in first
+            first.setdefault(code, body[at + 4 : at + 4 + size])
             at += 4 + (size + 3 & ~3)
-        return held
+        return first
 
     def packet(self, number, ticks):
+        """Counts what `edit` would lose of a packet of this interface."""
         need(number < len(self.interfaces), "unknown interface")
         link, snap, name, units = self.interfaces[number]
         self.lost["time digits"] += ticks * 10**9 % (units * 1000 ** (self.form == "pcap")) != 0
@@ -107,7 +125,7 @@ def main():
         with open(0 if words.file == "-" else words.file, "rb") as stream:
             capture.read(stream)
     except (ValueError, OSError) as error:
-        name = "".join(it if it.isprintable() else ascii(it)[1:-1] for it in words.file)
+        name = "".join(sign if sign.isprintable() else ascii(sign)[1:-1] for sign in words.file)
         fault = f"lost.py: {name}: offset {capture.at}: {getattr(error, 'strerror', error)}\n"
     lines = [f"{what}: {count}\n" for what, count in sorted(capture.lost.items()) if count]
     try:

@@ -1,10 +1,13 @@
 #!/bin/sh
-# Tests libcapkit: builds it, its callers and its packages, and runs them over samples/. It also uses valgrind, a C++ compiler,
-# cargo, go, python3, libpcap's headers and capkit itself, and prints which of them are missing. The last line says whether
-# everything is as it should be.
+# Tests libcapkit: builds it, its callers and its packages, and runs them over samples/. For whoever
+# changes the library.
 #
-# usage: library/check.sh [ROUNDS [INPUTS]]   ROUNDS of random programs and packets (100000);
-#                                             INPUTS damaged under each sanitizer (5000)
+# usage: library/check.sh [ROUNDS [INPUTS]]
+#
+# It tries ROUNDS of random programs and packets (100000), and INPUTS damaged captures under each
+# sanitizer (5000). It uses valgrind, a C++ compiler, cargo, go, python3, libpcap's headers and capkit
+# itself, and prints which of them are missing. If nothing failed, the last line is 'all as it should
+# be' and the status 0; else the status is 1.
 set -eu
 cd "$(dirname "$0")"
 rounds=${1:-100000}
@@ -23,10 +26,15 @@ done >out/filter.txt
 cmp out/filter.txt tests/filter.txt || bad=1
 # The names that are visible, with their version, are those of the package's symbols file.
 nm -D --defined-only out/libcapkit.so.0 | sed 's/.* [AT] / /; s/@@.*//; s/$/@libcapkit.so.0/' | sort >out/symbols.txt
-sed 1d ../packaging/libcapkit0.symbols | cut -d ' ' -f 1-2 | sort | cmp - out/symbols.txt || { echo 'other names are visible'; bad=1; }
+sed 1d ../packaging/libcapkit0.symbols | cut -d ' ' -f 1-2 | sort | cmp - out/symbols.txt ||
+    { echo 'other names are visible'; bad=1; }
 if have c++; then
-    printf '#include <capkit.h>\nint main() { size_t most; return capkit_bound("tcp", 3, &most) != CAPKIT_OK; }\n' >out/plus.cc
-    c++ -std=c++11 -Wall -Wextra -pedantic -Werror -Iinclude -o out/plus out/plus.cc out/libcapkit.a && out/plus || bad=1
+    {
+        echo '#include <capkit.h>'
+        echo 'int main() { size_t most; return capkit_bound("tcp", 3, &most) != CAPKIT_OK; }'
+    } >out/plus.cc
+    c++ -std=c++11 -Wall -Wextra -pedantic -Werror -Iinclude -o out/plus out/plus.cc out/libcapkit.a &&
+        out/plus || bad=1
 fi
 grep -q "CAPKIT_VERSION \"$(cat ../packaging/version)\"" include/capkit.h || { echo 'another version'; bad=1; }
 # shellcheck disable=SC2046,SC2183  # three numbers
@@ -37,13 +45,18 @@ grep -q "CAPKIT_VERSION_NUMBER $(printf '0x%02x%02x%02x' $(tr . ' ' <../packagin
 sed -n '/^    #include <capkit.h>/,/^    }/s/^    //p' ../docs/LIBRARY.md >out/count.c
 cc -O2 -Wall -Wextra -Iinclude -o out/count out/count.c out/libcapkit.a || bad=1
 test "$(out/count 'tcp port 80' <../samples/day.pcap)" = '9 packets match' || { echo 'the page: count'; bad=1; }
-test "$(out/count tcp 2>&1 >/dev/null </dev/null)" = 'count: not a capture file' || { echo 'the page: no reason'; bad=1; }
+test "$(out/count tcp 2>&1 >/dev/null </dev/null)" = 'count: not a capture file' ||
+    { echo 'the page: no reason'; bad=1; }
 sed -n '/^    static uint32_t keep(/,/^    }/s/^    //p' ../docs/LIBRARY.md >out/page.c
 sed -n '/^static uint32_t keep(/,/^}/p' examples/keep.c | cmp - out/page.c || bad=1
 
 # The examples of capkit(3): one counts the packets of a capture in memory, one reads a pipe.
 example() { # NUMBER
-    awk -v wanted="$1" '/^\.Sh EXAMPLES/ { on = 1 } /^\.Ed/ { inside = 0 } inside && n == wanted; on && /^\.Bd/ { n++; inside = 1 }' man/capkit.3
+    awk -v wanted="$1" '
+        /^\.Sh EXAMPLES/ { on = 1 }
+        /^\.Ed/ { inside = 0 }
+        inside && n == wanted
+        on && /^\.Bd/ { n++; inside = 1 }' man/capkit.3
 }
 {
     printf '#include <capkit.h>\n#include <string.h>\n#include <unistd.h>\n'
@@ -65,14 +78,15 @@ test $status = 44 || { echo 'capkit(3): a pipe'; bad=1; }
 
 for name in day.pcap two-sections.pcapng comments.pcapng damaged.pcap; do
     if have valgrind; then
-        valgrind -q --error-exitcode=99 --leak-check=full --show-leak-kinds=definite out/filter 'tcp or udp' "../samples/$name" \
-            >/dev/null 2>out/valgrind.txt || test $? != 99 || { cat out/valgrind.txt; bad=1; }
+        valgrind -q --error-exitcode=99 --leak-check=full --show-leak-kinds=definite \
+            out/filter 'tcp or udp' "../samples/$name" >/dev/null 2>out/valgrind.txt ||
+            test $? != 99 || { cat out/valgrind.txt; bad=1; }
     fi
 done
 # A stream is read through a buffer to the same packets.
 for name in day.pcap nanoseconds.pcap two-sections.pcapng comments.pcapng; do
-    test "$(out/stream <"../samples/$name" | wc -l)" = "$(out/filter tcp "../samples/$name" | sed -n 's/.* of \([0-9]*\) packets match/\1/p')" ||
-        { echo "stream: $name"; bad=1; }
+    want=$(out/filter tcp "../samples/$name" | sed -n 's/.* of \([0-9]*\) packets match/\1/p')
+    test "$(out/stream <"../samples/$name" | wc -l)" = "$want" || { echo "stream: $name"; bad=1; }
 done
 # A live pipe gives a packet 0.2 s after its last byte came, or earlier. The header and the first packet have 100 bytes.
 rm -f out/live && mkfifo out/live
@@ -96,7 +110,8 @@ for text in 'tcp port 80 or 443 and host 10.0.0.1' "$meaning"; do
 done
 status=0
 out/explain 'tcp prt 80' 2>out/explain.txt || status=$?
-{ test $status = 2 && grep -q '^explain: unknown word (at byte 5)$' out/explain.txt; } || { echo 'explain: no refusal'; bad=1; }
+{ test $status = 2 && grep -q '^explain: unknown word (at byte 5)$' out/explain.txt; } ||
+    { echo 'explain: no refusal'; bad=1; }
 tests/two_versions.sh || bad=1
 tests/fuzz.sh "$inputs" || bad=1
 ./check_packages.sh || bad=1
@@ -105,7 +120,8 @@ if [ -e /usr/include/pcap/pcap.h ]; then
     # libpcap runs capkit's programs, on Ethernet, cooked and raw captures.
     for name in day.pcap cooked.pcap four.pcap truncated.pcap; do
         want=$(out/filter 'tcp or udp' "../samples/$name" 2>/dev/null | sed -n 's/^\([0-9]*\) of .*/\1 packets match/p')
-        test "$(out/pcap_filter 'tcp or udp' "../samples/$name" 2>/dev/null)" = "$want" || { echo "libpcap: $name"; bad=1; }
+        test "$(out/pcap_filter 'tcp or udp' "../samples/$name" 2>/dev/null)" = "$want" ||
+            { echo "libpcap: $name"; bad=1; }
     done
     out/fuzz 1 "$rounds" ../samples/*.pcap ../samples/*.pcapng || bad=1
     out/writes 1 "$rounds" || bad=1

@@ -1,9 +1,11 @@
 #!/bin/sh
-# Tests libcapkit's packages for C, Python, Rust and Go as a user has them: builds them, installs them into out/packages, runs
-# their tests, uses them from programs elsewhere, compares the examples of the four, runs the code of their READMEs, and removes
-# them again. It needs no network. It reports missing compilers. The status is 1 if something isn't as it should be.
+# Tests libcapkit's packages for C, Python, Rust and Go as a user has them: builds them, installs
+# them into out/packages, runs their tests, uses them from programs elsewhere, compares the examples
+# of the four, runs the code of their READMEs, and removes them again. check.sh calls it.
 #
-# usage: library/check_packages.sh       check.sh calls it
+# usage: library/check_packages.sh
+#
+# It needs no network, and reports missing compilers. The status is 1 if something is wrong.
 #
 # shellcheck disable=SC2317  # the functions of a language are called by names that are put together
 set -eu
@@ -54,7 +56,8 @@ check_python() {
     make -s python PYTHON="$python"
     "$python" -m venv "$packages/venv"
     "$packages/venv/bin/pip" -q --disable-pip-version-check install --no-index out/python/capkit-*.whl
-    (cd "$packages" && CAPKIT_SAMPLES=$samples venv/bin/python -I -W error -m unittest discover -q -s "$library/python/tests") ||
+    (cd "$packages" &&
+        CAPKIT_SAMPLES=$samples venv/bin/python -I -W error -m unittest discover -q -s "$library/python/tests") ||
         wrong 'Python: tests'
     # Only the source package, and a folder without a library.
     tar -C "$packages" -xzf out/python/capkit-"$version".tar.gz
@@ -70,10 +73,12 @@ check_python() {
         chmod +x "$packages/python-$example"
     done
     page_code python 1 >"$packages/page.py"
-    printf '#!/bin/sh\nunset LD_LIBRARY_PATH\nexec "%s/venv/bin/python" -I page.py\n' "$packages" >"$packages/python-page"
+    printf '#!/bin/sh\nunset LD_LIBRARY_PATH\nexec "%s/venv/bin/python" -I page.py\n' "$packages" \
+        >"$packages/python-page"
     chmod +x "$packages/python-page"
     if have mypy; then
-        MYPYPATH=python/src mypy --cache-dir "$packages/mypy" --strict --no-error-summary python/src/capkit python/tests/typed.py || wrong 'Python: types'
+        MYPYPATH=python/src mypy --cache-dir "$packages/mypy" --strict --no-error-summary \
+            python/src/capkit python/tests/typed.py || wrong 'Python: types'
     fi
 }
 remove_python() {
@@ -85,9 +90,11 @@ check_rust() {
     make -s rust
     (cd rust && linked cargo test -q --offline --target-dir "$library/out/cargo") >"$packages/rust.txt" 2>&1 ||
         { cat "$packages/rust.txt"; wrong 'Rust: tests'; }
-    (cd rust && RUSTDOCFLAGS='-D warnings' cargo doc -q --no-deps --offline --target-dir "$library/out/cargo") || wrong 'Rust: pages'
+    (cd rust && RUSTDOCFLAGS='-D warnings' cargo doc -q --no-deps --offline --target-dir "$library/out/cargo") ||
+        wrong 'Rust: pages'
     if cargo clippy --version >/dev/null 2>&1; then
-        (cd rust && cargo clippy -q --offline --all-targets --target-dir "$library/out/cargo" -- -D warnings) || wrong 'Rust: clippy'
+        (cd rust && cargo clippy -q --offline --all-targets --target-dir "$library/out/cargo" -- -D warnings) ||
+            wrong 'Rust: clippy'
     fi
     mkdir -p "$packages/rust/src/bin"
     tar -C "$packages" -xzf out/rust/capkit-"$version".crate
@@ -129,7 +136,9 @@ check_go() {
     {
         printf 'package main\nimport ("fmt"; "io"; "log"; "os"; "time"; "example.com/capkit")\n'
         printf 'func put(output io.Writer, packet capkit.Packet) {\n%s\n}\n' "$(page_code go 2)"
-        printf 'func main() {\nput(io.Discard, capkit.Packet{Time: time.Unix(1, 0), LinkType: 1, Data: make([]byte, 60)})\n%s\n}\n' "$(page_code go 1)"
+        printf 'func main() {\n'
+        printf 'put(io.Discard, capkit.Packet{Time: time.Unix(1, 0), LinkType: 1, Data: make([]byte, 60)})\n'
+        printf '%s\n}\n' "$(page_code go 1)"
     } >"$packages/go/page/main.go"
     cp -r go/examples/filter go/examples/keep "$packages/go/"
     for program in filter keep packets page; do
@@ -137,7 +146,8 @@ check_go() {
     done
 }
 
-# Runs an example in a language. What it writes is left in two files, and its status in a variable.
+# Runs an example in a language. Its output and messages are in two files afterwards, and its status
+# in a variable.
 run() { # LANGUAGE EXAMPLE WORD..
     program=$packages/$1-$2
     shift 2
@@ -160,7 +170,8 @@ expect() { # STATUS MESSAGE OUTPUT WORD..
 }
 
 check_filter() {
-    for name in big-endian.pcap cooked.pcap day.pcap four.pcap mirror.pcap nanoseconds.pcap comments.pcapng two-sections.pcapng; do
+    for name in big-endian.pcap cooked.pcap day.pcap four.pcap mirror.pcap nanoseconds.pcap \
+        comments.pcapng two-sections.pcapng; do
         counts=$(linked "$packages/c-filter" 'tcp or udp' "$samples/$name" | tail -n 1)
         expect 0 '' "$counts" filter 'tcp or udp' "$samples/$name"
     done
@@ -178,7 +189,8 @@ check_filter() {
     # What can't be printed is an error, and any bytes are a name.
     status=0
     linked "$packages/$language-filter" tcp "$samples/day.pcap" >/dev/full 2>"$packages/err.txt" || status=$?
-    { test $status = 1 && grep -q 'o space left on device' "$packages/err.txt"; } || wrong "$language: filter: a full output: $status"
+    { test $status = 1 && grep -q 'o space left on device' "$packages/err.txt"; } ||
+        wrong "$language: filter: a full output: $status"
     ln -f "$samples/day.pcap" "$packages/$odd" 2>/dev/null || cp "$samples/day.pcap" "$packages/$odd"
     expect 0 '' '34 of 44 packets match' filter tcp "$packages/$odd"
     # A file that is redirected, and a pipe.
@@ -208,7 +220,8 @@ check_keep() {
         test "$(counts_of "$kept")" = "$(counts_of "$samples/$name")" || wrong "$language: keep: $name"
     done
     expect 1 'too long' '' keep tcp "$samples/damaged.pcap" "$kept"
-    test "$(linked "$packages/c-filter" '' "$kept" | tail -n 1)" = '22 of 22 packets match' || wrong "$language: not all are kept"
+    test "$(linked "$packages/c-filter" '' "$kept" | tail -n 1)" = '22 of 22 packets match' ||
+        wrong "$language: not all are kept"
     linked "$packages/c-keep" tcp "$samples/day.pcap" "$packages/c.pcapng"
     expect 0 '' '' keep tcp "$samples/day.pcap" "$packages/$odd.kept"
     cmp "$packages/c.pcapng" "$packages/$odd.kept" || bad=1
@@ -227,15 +240,16 @@ check_keep() {
     expect 1 'irectory' '' keep tcp "$samples/day.pcap" "$packages"
 }
 
-# Of captures that are damaged at random a package gives what the library's calls give, up to the same fault or past what
-# is refused, in pieces of any length, and with few files open.
+# Of captures that are damaged at random a package gives what the library's calls give, up to the
+# same fault or past what is refused, in pieces of any length, and with few files open.
 check_damaged() {
     for mode in all skip; do
         for text in '' 'tcp or len > 100'; do
             linked "$packages/c-packets" $mode "$text" "$packages"/damaged/* >"$packages/want.txt"
             for most in 1 7 100000000; do
                 # shellcheck disable=SC3045  # every shell of Linux has it
-                (ulimit -n 32 && linked "$packages/$language-packets" $mode "$text" $most "$packages"/damaged/*) >"$packages/got.txt" ||
+                (ulimit -n 32 && linked "$packages/$language-packets" $mode "$text" $most "$packages"/damaged/*) \
+                    >"$packages/got.txt" ||
                     wrong "$language: packets $mode '$text' $most"
                 cmp "$packages/want.txt" "$packages/got.txt" || wrong "$language: damaged captures: $mode '$text' $most"
             done
@@ -246,16 +260,19 @@ check_damaged() {
 check_usage() {
     for example in filter keep; do
         run "$language" "$example"
-        { test "$status" = 2 && grep -q "^usage: $example" "$packages/err.txt"; } || wrong "$language: $example: no usage"
+        { test "$status" = 2 && grep -q "^usage: $example" "$packages/err.txt"; } ||
+            wrong "$language: $example: no usage"
     done
 }
 
 # The program of the README prints or writes the 9 packets of TCP port 80.
 check_page() {
     cp "$samples/day.pcap" "$packages/"
-    (cd "$packages" && linked "./$language-page" <day.pcap >page.txt) || wrong "$language: the program of the README fails"
+    (cd "$packages" && linked "./$language-page" <day.pcap >page.txt) ||
+        wrong "$language: the program of the README fails"
     if [ "$language" != python ]; then
-        test "$(grep -c ': TCP, length' "$packages/page.txt")" = 9 || wrong "$language: the program of the README prints something else"
+        test "$(grep -c ': TCP, length' "$packages/page.txt")" = 9 ||
+            wrong "$language: the program of the README prints something else"
     fi
     if [ "$language" != go ]; then
         test "$(linked "$packages/c-filter" '' "$packages/web.pcapng" | tail -n 1)" = '9 of 9 packets match' ||
@@ -264,7 +281,11 @@ check_page() {
     fi
 }
 
-if have "$python"; then languages="$languages python"; else echo 'without a python3 with pip, setuptools, wheel and venv'; fi
+if have "$python"; then
+    languages="$languages python"
+else
+    echo 'without a python3 with pip, setuptools, wheel and venv'
+fi
 if have cargo; then languages="$languages rust"; else echo 'without cargo'; fi
 if have go; then languages="$languages go"; else echo 'without go'; fi
 if have python3; then
@@ -276,7 +297,8 @@ else
 fi
 check_trace() {
     expect 0 '' 'it returns 262144' trace 'tcp port 80' "$samples/day.pcap" 7
-    grep -q '^(010) jeq  *#0x50  *jt 18 jf 19  *A is 0x50, X is 0x14$' "$packages/out.txt" || wrong 'Python: trace: A is something else'
+    grep -q '^(010) jeq  *#0x50  *jt 18 jf 19  *A is 0x50, X is 0x14$' "$packages/out.txt" ||
+        wrong 'Python: trace: A is something else'
     expect 0 '' 'it returns 0' trace 'tcp port 80' "$samples/day.pcap" 1
     expect 1 'no packet 99' '' trace tcp "$samples/day.pcap" 99
     expect 1 'too long' '' trace tcp "$samples/damaged.pcap" 40
@@ -303,7 +325,9 @@ for language in $languages; do
     check_keep
     check_usage
     if [ "$language" != c ]; then check_page; fi
-    if [ -e "$packages/$language-packets" ] && [ -d "$packages/damaged" ] && [ "$language" != c ]; then check_damaged; fi
+    if [ -e "$packages/$language-packets" ] && [ -d "$packages/damaged" ] && [ "$language" != c ]; then
+        check_damaged
+    fi
     if [ "$language" = python ]; then check_trace; fi
     if [ "$language" = python ] && have capkit; then check_lines; fi
 done

@@ -1,6 +1,10 @@
 #!/usr/bin/env python3
-"""Tests ./capkit and build.py on small crates with a stub instead of the kit: order of proofs, changes, interrupts, failures.
-For whoever changes the launcher. The last line counts the failures. usage: check_build.py
+"""Tests ./capkit and build.py on small crates, with a stub instead of the kit.
+
+usage: check_build.py
+
+It tests the order of proofs, changes, interrupts and failures. For whoever changes the launcher.
+The last line counts the failures; the status is 1 if there is any.
 """
 import os
 import pathlib
@@ -13,7 +17,8 @@ import time
 
 ROOT = pathlib.Path(__file__).resolve().parent.parent
 CRATES = "low_a: byteorder|low_b:|middle: low_a|capkit_main: middle low_b clap|only_c: low_a|capkit_c staticlib: only_c"
-# rattle notes when it begins and ends, and wants the library of each crate below; as rattle-link does, it makes what -o names.
+# rattle notes when it begins and ends, and wants the library of each crate below; as rattle-link
+# does, it makes what -o names.
 KIT = """#!/bin/sh
 name=$3; [ "$1" != build ] || { echo "begin $name" >>"$NOTES"; sleep "${SLEEP-0.3}"; }
 for word; do case $word in *=*/out/rlib/*.rlib) [ -d "${word#*=}" ] || exit 9 ;; esac; done
@@ -25,19 +30,22 @@ case $made in *.rlib) mkdir -p "$made" ;; *) printf '#!/bin/sh\\necho "runs $*"\
 
 
 def begin(*command, user=None, **words):
+    """Starts a command, by default the program, with these variables of the environment."""
     how = {"env": {**os.environ, "PATH": f"{at}/bin:{os.environ['PATH']}", "NOTES": str(notes), **words}, "text": True}
     how.update(stdout=subprocess.PIPE, stderr=subprocess.PIPE, user=user)
     return subprocess.Popen(command or [top / "capkit", "infos"], **how)
 
 
-def end(process):  # its status and output, its messages, and what was noted until it ended
+def end(process):
+    """Waits for a process, and returns its status and output, its messages, and what was noted until then."""
     out, messages = process.communicate(timeout=60)
     noted = notes.read_text().splitlines() if notes.exists() else []
     notes.unlink(missing_ok=True)
     return (process.returncode, out), messages, noted
 
 
-def changed(name, **words):  # a call after a crate has changed, once something is being proved
+def changed(name, **words):
+    """Changes a crate and calls the program; returns the call once something is being proved."""
     (top / "crates" / name / "src/lib.rt").write_text(f"// {time.monotonic()}\n")
     process = begin(**words)
     while process.poll() is None and not notes.exists():
@@ -45,8 +53,14 @@ def changed(name, **words):  # a call after a crate has changed, once something 
     return process
 
 
+def logs():
+    """Returns the logs of failed proofs."""
+    return [*top.glob("out/build-*.log")]
+
+
 def tries():
-    runs, logs = (0, "runs infos\n"), lambda: [*top.glob("out/build-*.log")]
+    """Yields what is tested, each with whether it is true."""
+    runs = (0, "runs infos\n")
     done, messages, noted = end(begin())
     yield "the program runs, of each crate that it needs", done == runs and len(noted) == 8
     yield "none begins before those that it needs", noted.index("end low_a") < noted.index("begin middle")
@@ -55,15 +69,25 @@ def tries():
     yield "it is built once", end(begin()) == (runs, "", [])
     library = sys.executable, top / "packaging/build.py", "capkit_c", top / "library/out/it.a"
     done, _, noted = end(begin(*library))
-    yield "the library is built, of its own crates", done == (0, "") and noted[::2] == ["begin only_c", "begin capkit_c"]
+    yield (
+        "the library is built, of its own crates", done == (0, "") and noted[::2] == ["begin only_c", "begin capkit_c"]
+    )
     yield "it is built once too, and the program stays", end(begin(*library))[2] + end(begin())[2] == []
     module = *library[:3], top / "out/it.wasm", "wasm64-unknown-unknown"
     done, _, noted = end(begin(*module))
-    yield "a module is built of the same crates", done == (0, "") and noted[::2] == ["begin capkit_c"] and module[3].exists()
+    yield (
+        "a module is built of the same crates",
+        done == (0, "") and noted[::2] == ["begin capkit_c"] and module[3].exists(),
+    )
     copy = top / "out/wasm64-unknown-unknown/capkit_c/src"
-    yield "without the calls of malloc", [(it.name, it.read_text()) for it in copy.iterdir()] == [("lib.rt", "mod other;\n")]
+    yield (
+        "without the calls of malloc",
+        [(it.name, it.read_text()) for it in copy.iterdir()] == [("lib.rt", "mod other;\n")],
+    )
     first = changed("low_b", SLEEP="2")
-    is_free = [not subprocess.run(["flock", "-n", top / "crates" / it, "true"]).returncode for it in ("low_b", "only_c")]
+    is_free = [
+        not subprocess.run(["flock", "-n", top / "crates" / it, "true"]).returncode for it in ("low_b", "only_c")
+    ]
     yield "runs of rt wait for what is proved, and for nothing else", is_free == [False, True]
     done, messages, noted = end(begin())
     yield "a second call waits, says so and runs", done == runs and "this one waits" in messages
@@ -85,20 +109,24 @@ def tries():
 
 with tempfile.TemporaryDirectory() as scratch:
     at, top, notes = pathlib.Path(scratch), pathlib.Path(scratch, "checkout"), pathlib.Path(scratch, "notes")
-    for it in CRATES.split("|"):
-        (top / "crates" / it.split(":")[0].split()[0] / "src").mkdir(parents=True)
+    for crate in CRATES.split("|"):
+        (top / "crates" / crate.split(":")[0].split()[0] / "src").mkdir(parents=True)
     (top / "crates/capkit_main/src/main.rt").touch()
     for name, text in (("lib", "mod allocating;\nmod other;\n"), ("allocating", "")):
         (top / "crates/capkit_c/src" / f"{name}.rt").write_text(text)
-    for it in ("capkit", "HANDLES", "packaging/build.py"):
-        (top / it).parent.mkdir(exist_ok=True)
-        shutil.copy(ROOT / it, top / it)
+    for path in ("capkit", "HANDLES", "packaging/build.py"):
+        (top / path).parent.mkdir(exist_ok=True)
+        shutil.copy(ROOT / path, top / path)
     (top / "crates.txt").write_text(CRATES.replace("|", "\n"))
     (at / "bin").mkdir()
     for name in ("rt", "rattle", "rattle-link"):
         (at / "bin" / name).write_text(KIT)
         (at / "bin" / name).chmod(0o755)
     at.chmod(0o755)
-    results = [is_so or print(f"not so: {what}") for what, is_so in tries()]
-print(f"{len(results) - results.count(None)} passed, {results.count(None)} failed")
-sys.exit(None in results)
+    passed = failed = 0
+    for what, is_true in tries():
+        passed, failed = passed + is_true, failed + (not is_true)
+        if not is_true:
+            print(f"not so: {what}")
+print(f"{passed} passed, {failed} failed")
+sys.exit(failed > 0)

@@ -1,7 +1,8 @@
 # shellcheck shell=sh disable=SC2034,SC2154  # the scripts that read it set and use these names
-# The common part of make_deb.sh and make_library_deb.sh. They set root and architecture (arm64, or empty for the machine's own), and
-# read this file. It sets release, version, architecture, name, email, built, SOURCE_DATE_EPOCH and a scratch folder work, and for
-# another processor cross (the prefix of its tools) and target (rattle's name for it).
+# The common part of make_deb.sh and make_library_deb.sh. They set root and architecture (arm64, or
+# empty for the machine's own), and read this file. It sets release, version, architecture, name,
+# email, built, SOURCE_DATE_EPOCH and a scratch folder work, and for another processor cross (the
+# prefix of its tools) and target (rattle's name for it).
 
 release=$(cat "$root/packaging/version")
 # This revision sorts before -1, that of the first package that a distribution makes.
@@ -19,7 +20,7 @@ if [ "$architecture" != "$own" ]; then
     PATH=$root/out/arm64/cross/bin:$PATH
     cross=aarch64-linux-gnu- target=aarch64-unknown-linux-gnu
 fi
-# A tarball may be unpacked in another repository.
+# Without .git this is a tarball, even if it is unpacked in another repository.
 if [ -e "$root/.git" ]; then
     made=$(git -C "$root" log -1 --format=%ct)
     built="As built from the sources at $(git -C "$root" rev-parse --short=12 HEAD)."
@@ -33,7 +34,7 @@ export SOURCE_DATE_EPOCH
 work=$(mktemp -d)
 trap 'rm -rf "$work"' EXIT
 
-# A link of a page to a file that isn't there becomes its text.
+# Replaces each link of a page to a missing file by the link's text.
 drop_dead_links() { # PAGE
     python3 - "$1" <<'END'
 import pathlib, re, sys
@@ -48,12 +49,14 @@ page.write_text(re.sub(r"\[([^][]*)\]\(([^)]*)\)", kept, page.read_text()))
 END
 }
 
-# Strips a program or a shared library, and prints what its package depends on. dpkg-shlibdeps knows only the machine's own
-# packages; for another one the newest version of glibc whose symbols the file takes says it.
+# Strips a program or a shared library, and prints what its package depends on. dpkg-shlibdeps knows
+# only packages of this machine's architecture; for another one the dependency is the newest version
+# of glibc whose symbols the file uses.
 strip_for() { # FILE
     "${cross}strip" --strip-unneeded --remove-section=.comment --remove-section=.note "$1"
     if [ -n "$cross" ]; then
-        "${cross}readelf" --version-info "$1" | grep -o 'GLIBC_[0-9.]*' | sort -uV | sed -n '$s/GLIBC_\(.*\)/libc6 (>= \1)/p'
+        "${cross}readelf" --version-info "$1" | grep -o 'GLIBC_[0-9.]*' | sort -uV |
+            sed -n '$s/GLIBC_\(.*\)/libc6 (>= \1)/p'
         return
     fi
     mkdir -p "$work/debian"
@@ -61,8 +64,8 @@ strip_for() { # FILE
     (cd "$work" && dpkg-shlibdeps -O "$1" | sed -n 's/^shlibs:Depends=//p')
 }
 
-# Makes a package of a tree with its name, with copyright and changelogs. Standard input has the fields of its control
-# file that these are not.
+# Makes a package of a tree, which has the package's name, and adds copyright and changelogs.
+# Standard input has the remaining fields of its control file.
 pack() { # TREE ARCHITECTURE
     documents=$1/usr/share/doc/${1##*/}
     install -D -m 644 -t "$documents" "$root/packaging/copyright"

@@ -1,16 +1,17 @@
 #!/bin/sh
-# Makes a folder with what a build for Linux on ARM64 needs: Debian's cross compiler and C library, unpacked but not installed, and
-# made of them a toolchain for rattle's linker. make_deb.sh calls it. It needs apt-get and dpkg-deb, but not root.
+# Makes a folder with what a build for Linux on ARM64 needs: Debian's cross compiler and C library,
+# unpacked but not installed, and a toolchain for rattle's linker, made of them. common.sh calls it.
+# It needs apt-get and dpkg-deb, but not root.
 #
 # usage: packaging/cross_arm64.sh FOLDER
 #
-# FOLDER/bin has aarch64-linux-gnu-gcc and its tools, and FOLDER/toolchain what rattle and rattle-link take. A folder that is
-# complete is left as it is.
+# FOLDER/bin has aarch64-linux-gnu-gcc and its tools, and FOLDER/toolchain what rattle and
+# rattle-link need. A complete folder is unchanged.
 
 set -eu
 
-packages='binutils-aarch64-linux-gnu cpp-12-aarch64-linux-gnu gcc-12-aarch64-linux-gnu libc6-arm64-cross libc6-dev-arm64-cross
-    libgcc-12-dev-arm64-cross libgcc-s1-arm64-cross linux-libc-dev-arm64-cross'
+packages='binutils-aarch64-linux-gnu cpp-12-aarch64-linux-gnu gcc-12-aarch64-linux-gnu
+    libc6-arm64-cross libc6-dev-arm64-cross libgcc-12-dev-arm64-cross libgcc-s1-arm64-cross linux-libc-dev-arm64-cross'
 here=$(CDPATH='' cd -- "$(dirname -- "$0")" && pwd -P)
 kit=$(dirname "$(dirname "$(readlink -f "$(command -v rt)")")")
 mkdir -p "$1"

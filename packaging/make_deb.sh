@@ -95,7 +95,7 @@ pack "$tree" "$architecture" <<END
 Depends: $needs
 Suggests: python3-capkit
 Section: net
-Description: workbench for saved packet captures
+Description: edit, merge, filter and print saved packet captures
  Edits, merges, reports on and filters saved packet captures (pcap and
  pcapng), and compiles expressions such as those of tcpdump to listings of a
  packet-filter machine. It is meant to be trusted with damaged and hostile

@@ -5,10 +5,12 @@
 #
 # usage: packaging/make_library_deb.sh [arm64]
 #
-# The packages go to out/. The library is proved and built first, if that was not done yet; for arm64 only the last crate is proved
-# again, and Debian's cross packages are fetched and unpacked in out/. The maintainer is DEBFULLNAME and DEBEMAIL, or git's user, or
-# else the user of the machine. Their time is SOURCE_DATE_EPOCH, or that of the commit, or of CHANGELOG.md if there is no commit, as
-# in a tarball. It needs dpkg-dev, binutils and a C compiler, and no rights of root.
+# The packages go to out/, and their names to standard output. The library is proved and built
+# first, if that was not done yet; for arm64 only the last crate is proved again, and Debian's cross
+# packages are fetched and unpacked in out/. The maintainer is DEBFULLNAME and DEBEMAIL, or git's
+# user, or else the user of the machine. Their time is SOURCE_DATE_EPOCH, or that of the commit, or
+# of CHANGELOG.md if there is no commit, as in a tarball. It needs dpkg-dev, binutils and a C
+# compiler, and no rights of root.
 
 set -eu
 umask 022

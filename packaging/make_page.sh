@@ -1,7 +1,10 @@
 #!/bin/sh
-# Makes docs/capkit.html: proves and builds the library for a browser, as a WebAssembly module, and puts the page around it.
+# Makes docs/capkit.html: proves and builds the library for a browser, as a WebAssembly module, and
+# puts the page around it.
 #
-# usage: packaging/make_page.sh [MODULE.wasm]      with a module that is built, only the page is made
+# usage: packaging/make_page.sh [MODULE.wasm]
+#
+# With a MODULE that is built already, only the page is made. The last line is the page's size.
 
 set -eu
 

@@ -1,12 +1,14 @@
 #!/usr/bin/env python3
-"""Writes the manual pages and completions of capkit into a folder, for packages and for installing by hand.
+"""Writes the manual pages and completions of capkit into a folder.
 
 usage: packaging/pages.py FOLDER           (needs python3-jinja2)
 
-A page is a template of packaging/pages/. Its usage and examples are those of the help texts, which the table
-crates/cap_cases/data/lines has: cases in which words ask for help or for the version, with the lines that are printed. The gate
-compares these with the program. A page describes each argument and option of its command once (`help.item`): this script refuses
-one that misses some. capkit-filter(7) is docs/FILTER.md in the form of a manual page.
+make_deb.sh calls it for packages; docs/INSTALL.md, for installing by hand. A page is a template of
+packaging/pages/. Its usage and examples are those of the help texts, which the table
+crates/cap_cases/data/lines has: cases in which words ask for help or for the version, with the
+lines that are printed. The gate compares these with the program. A page describes each argument and
+option of its command once (`help.item`): this script refuses one that misses some. capkit-filter(7)
+is docs/FILTER.md in the form of a manual page.
 """
 import pathlib
 import re
@@ -21,8 +23,10 @@ STORED = ROOT / "crates/cap_cases/data/lines"
 COLUMNS = 80
 TEMPLATES = ROOT / "packaging/pages"
 LANGUAGE = ROOT / "docs/FILTER.md"
-# The left margin of a manual page, and that of a display in it, in columns.
-MARGIN, DISPLAY = 5, 6
+# The left margin of a manual page, in columns.
+MARGIN = 5
+# The left margin of a display in it.
+DISPLAY = 6
 # The values and arguments that name files.
 FILES = {"IN", "OUT", "FILE", "LISTING", "MORE"}
 # What precedes the values that an option may have, at the end of its line or on the next line.
@@ -47,7 +51,7 @@ class Entry:
 
     @property
     def tag(self):
-        """How a manual page writes it, in mdoc(7)."""
+        """Returns the tag of an argument or option in mdoc(7)."""
         names = " , ".join(f"Fl {name[1:]}" for name in self.names)
         value = f"Ar {self.value}" if self.value else ""
         return f"{names} {value}".strip() or f"Cm {self.form}"
@@ -78,12 +82,12 @@ class Help:
 
 
     def item(self, name):
-        """The tag of an argument or option, which a manual page describes once, in the text after it."""
+        """Returns the tag of an argument or option, and records that the page describes it."""
         return f".It {self.undescribed.pop(name).tag}"
 
 
 def folded(line):
-    """A command line of a display as lines that a shell joins."""
+    """Returns a command line of a display, folded into lines that a shell joins."""
     line, most = line.strip(), COLUMNS - MARGIN - DISPLAY
     if len(line) <= most:
         return line
@@ -91,7 +95,7 @@ def folded(line):
 
 
 def narrow(name, text, start=0):
-    """The text, if its lines fit on a terminal from this column on; else it ends the script."""
+    """Returns a text if its lines fit on a terminal from this column on; else ends the script."""
     for line in text.splitlines():
         if start + len(line) > COLUMNS:
             sys.exit(f"over {COLUMNS} columns in {name}: {line}")
@@ -99,7 +103,7 @@ def narrow(name, text, start=0):
 
 
 def stored_texts():
-    """What is stored of the command line: its help by the names of commands, and its version."""
+    """Returns the stored texts of the command line: its help by the names of commands, and its version."""
     helps, version = {}, ""
     for case in STORED.read_text().split("\n\n"):
         words = re.search(r"^run (?:(\w+) )?(-h|--help|--version)$", case, re.MULTILINE)
@@ -114,24 +118,24 @@ def stored_texts():
 # ---- the forms of texts
 
 def roff(text):
-    """The text with the signs that roff would change written as what they are."""
+    """Returns a text in which the characters that roff would change are escaped."""
     return text.translate(str.maketrans({"\\": r"\e", "'": r"\(aq", "-": r"\-"}))
 
 
 def zsh(text):
-    """The text as it is between single quotes, brackets and colons."""
+    """Returns a text as zsh needs it between single quotes, brackets and colons."""
     return re.sub(r"[][:\\]", r"\\\g<0>", text).replace("'", r"'\''")
 
 
 def fish(text):
-    """The text as it is between single quotes."""
+    """Returns a text as fish needs it between single quotes."""
     return re.sub(r"['\\]", r"\\\g<0>", text)
 
 
 # ---- the language, from Markdown
 
 def roff_text(text):
-    """A text of Markdown: code and what is bold in bold, what is stressed in italics, links by their text."""
+    """Returns a text of Markdown in roff: code and bold text in bold, emphasis in italics, links by their text."""
     text = re.sub(r"\[([^]`]*)\]\([^`)]*\)", r"\1", roff(text))
     text = re.sub(r"`([^`]+)`|\*\*([^*]+)\*\*", r"\\fB\1\2\\fP", text)
     text = re.sub(r"(?<![\w*])\*([^* ][^*]*)\*(?!\w)", r"\\fI\1\\fP", text)
@@ -139,12 +143,13 @@ def roff_text(text):
 
 
 def header(lines):
+    """Returns the header of a section."""
     mark, _, name = lines[0].partition(" ")
     return [".Ss " + roff(name) if len(mark) == 3 else ".Sh " + roff(name.upper())]
 
 
 def table(lines):
-    """A table as a list of its first cells, each with the others: by their names, if there are several."""
+    """Returns a table as a list of its first cells, each with the others, which are named if there are several."""
     rows = [[cell.strip().replace("\\|", "|") for cell in re.split(r"(?<!\\)\|", line)[1:-1]] for line in lines]
     names, _, *rows = rows
     shown = [".Bl -tag -width Ds"]
@@ -156,11 +161,12 @@ def table(lines):
 
 
 def code(lines):
+    """Returns a display of code."""
     return [".Bd -literal", *(r"\&" + roff(line) for line in lines), ".Ed"]
 
 
 def points(lines):
-    """A list; an indented line continues its point."""
+    """Returns a list; an indented line continues its item."""
     shown = [".Bl -bullet"]
     for line in lines:
         shown += [".It"] * line.startswith("- ") + [roff_text(line[2:].strip())]
@@ -168,11 +174,12 @@ def points(lines):
 
 
 def paragraph(lines):
+    """Returns a paragraph."""
     return [".Pp", *map(roff_text, lines)]
 
 
 def language():
-    """The sections of the page on the filter language."""
+    """Returns the sections of the page on the filter language."""
     shapes, shown = {"#": header, "|": table, "-": points}, []
     page = LANGUAGE.read_text().partition("\n")[2]
     for fenced, lines in re.findall(r"^```\n((?:.*\n)*?)```$|^((?:.+\n)+)", page, re.MULTILINE):
@@ -184,8 +191,11 @@ def language():
 # ---- all pages
 
 def undescribed(help, page):
-    """The arguments and options that the page has no item for, and the values of options that it doesn't name."""
-    return [*help.undescribed, *(value for option in help.options for value in option.choices if not re.search(rf"\b{value}\b", page))]
+    """Returns the arguments and options without an item on the page, and the values of options that it doesn't name."""
+    return [
+        *help.undescribed,
+        *(value for option in help.options for value in option.choices if not re.search(rf"\b{value}\b", page)),
+    ]
 
 
 def pages():

@@ -31,14 +31,14 @@ def arguments_of(arguments):
 
 
 def picture(program):
-    """The picture as a file of its own."""
+    """Returns the picture as a file of its own."""
     text = pictures.flow_picture(program, "The ways through a program")
     start = text.index(">") + 1
     return text[:start] + STYLE + text[start:] + "\n"
 
 
 def graph(program):
-    """The graph in the language of Graphviz."""
+    """Returns the graph in the language of Graphviz."""
     lines = ["digraph listing {", '  node [shape=box fontname="monospace"];']
     for place, (insn, text) in enumerate(zip(program.instructions, program.texts())):
         lines.append(f'  {place} [label="{pictures.short_text(text)}"];')

@@ -1,6 +1,7 @@
-"""The package `capkit` for Python, which reads and checks a listing by the proved library.
+"""Loads the package `capkit` for Python, by which the proved library reads and checks a listing.
 
-It is the package that is installed, or that of the checkout, with the library that `make` in library/ builds.
+It is the package that is installed, or that of the checkout, with the library that `make` in
+library/ builds.
 """
 import os
 import pathlib
@@ -43,5 +44,5 @@ class Program:
         self.instructions = program.instructions
 
     def texts(self):
-        """Each instruction as `tcpdump -d` prints it."""
+        """Returns each instruction as `tcpdump -d` prints it."""
         return [self.filter.text(place) for place in range(len(self.instructions))]

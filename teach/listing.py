@@ -1,4 +1,4 @@
-"""Programs as listings: what `capkit compile` and `tcpdump -ddd` print; and what all tools read and write."""
+"""Reads programs as listings, which `capkit compile` and `tcpdump -ddd` print, and opens files."""
 import sys
 
 import library
@@ -13,7 +13,7 @@ class Bad(Exception):
 
 
 def why_wrong(lines, place):
-    """What is wrong in the first wrong line of a text, counted from 1."""
+    """Returns what is wrong in the first wrong line of a text; lines are counted from 1."""
     words = lines[place - 1].split() if place <= len(lines) else []
     for word in words:
         if not word.isdigit():
@@ -33,7 +33,7 @@ def why_wrong(lines, place):
 
 
 def program_of(text):
-    """The program of a listing in ASCII, read and checked by the library; other spaces are blanks."""
+    """Returns the program of a listing in ASCII, read and checked by the library; any other white space is a blank."""
     lines = [" ".join(line.split()) for line in text.rstrip().split("\n")]
     if lines == [""]:
         raise Bad(f"it is empty; {FORM}")
@@ -49,7 +49,7 @@ def program_of(text):
 
 
 def read(file):
-    """The program that a file of bytes lists."""
+    """Returns the program in a file of bytes."""
     contents = file.read(MOST_BYTES + 1)
     if len(contents) > MOST_BYTES:
         raise Bad(f"longer than {MOST_BYTES} bytes")
@@ -60,7 +60,7 @@ def read(file):
 
 
 def opened(name):
-    """A file to read; `-` is standard input."""
+    """Returns a file to read; `-` is standard input."""
     return open(0, "rb", closefd=False) if name == "-" else open(name, "rb")
 
 
@@ -78,7 +78,7 @@ def write(command, data):
 
 
 def read_or_exit(command, name):
-    """The program that a file lists, or standard input if none is named; else a message."""
+    """Returns the program in a file, or in standard input if none is named; otherwise ends with a message."""
     try:
         with opened(name or "-") as file:
             return read(file)

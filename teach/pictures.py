@@ -1,7 +1,11 @@
-"""A picture of the ways through a program, as SVG. Nothing is drawn by another program."""
+"""Draws the ways through a program as SVG, without other programs. For draw.py."""
 import html
 
-CLASS, JUMP, RETURN, GO_ON = 7, 5, 6, 5
+# The bits of a code that are its class, two classes, and the code of the jump without a condition.
+CLASS = 7
+JUMP = 5
+RETURN = 6
+GO_ON = 5
 # Sizes in pixels: the width of a letter of the fixed-width font, the height of a row, and a box.
 LETTER = 7.9
 ROW = 26
@@ -11,11 +15,12 @@ MARGIN = 8
 
 
 def width_of(text):
+    """Returns the width of a text."""
     return round(LETTER * len(text) + 12)
 
 
 def svg(width, height, name, parts):
-    """A picture with a name, which a screen reader says."""
+    """Returns a picture with a name for screen readers."""
     return (
         f'<svg xmlns="http://www.w3.org/2000/svg" role="img"'
         f' aria-label="{html.escape(name)}" viewBox="0 0 {width} {height}"'
@@ -24,7 +29,7 @@ def svg(width, height, name, parts):
 
 
 def box(x, y, width, text, attributes):
-    """A box with a text, whose middle is at a height."""
+    """Returns a box with a text, whose middle is at this height."""
     return (
         f'<g {attributes}><rect x="{x}" y="{y - BOX / 2:g}" width="{width}"'
         f' height="{BOX}" rx="4"/><text x="{x + 6}" y="{y + 4.5:g}">{html.escape(text)}</text></g>'
@@ -35,7 +40,7 @@ def box(x, y, width, text, attributes):
 
 
 def ways_of(insn, place):
-    """The ways from an instruction: (the index there, "yes", "no" or "next")."""
+    """Returns the ways from an instruction: (the index there, "yes", "no" or "next")."""
     code, jt, jf, k = insn
     if code & CLASS == RETURN:
         return []
@@ -47,7 +52,7 @@ def ways_of(insn, place):
 
 
 def lanes_of(instructions):
-    """The jumps past the next instruction, gathered by their kind and their target, each in a lane.
+    """Returns the jumps past the next instruction, gathered by their kind and their target, each in a lane.
 
     A lane is next to others that it overlaps with: {(kind, target): (lane, first place, sources)}.
     """
@@ -76,15 +81,17 @@ def side_of(kind):
 
 
 def fits(spans, first, last):
+    """Returns whether a span overlaps with none of these."""
     return all(last < start or end < first for start, end in spans)
 
 
 def y_of(place):
+    """Returns the height of the middle of a row."""
     return MARGIN + BOX / 2 + ROW * place
 
 
 def short_text(text):
-    """An instruction's text without its targets, which the lines show."""
+    """Returns an instruction's text without its targets, which the lines show."""
     return " ".join(text.split("jt")[0].split())
 
 
@@ -101,7 +108,7 @@ class Flow:
         self.width = self.end + LANE * (right + 1) + 4 + MARGIN
 
     def parts(self):
-        """The lines, and a box for each instruction."""
+        """Returns the lines, and a box for each instruction."""
         parts = [self.jumps(*key, *lane) for key, lane in self.lanes.items()]
         for place, (insn, text) in enumerate(zip(self.instructions, self.texts)):
             parts.append(self.steps(place))
@@ -109,7 +116,7 @@ class Flow:
         return parts
 
     def steps(self, place):
-        """The short lines from an instruction to the one right below."""
+        """Returns the short lines from an instruction to the one right below."""
         x, y = self.x + self.box_width / 2, y_of(place) + BOX / 2
         return "".join(
             f'<path class="{kind}" d="M{x:g} {y:g}v{ROW - BOX}"/>'
@@ -118,7 +125,7 @@ class Flow:
         )
 
     def jumps(self, kind, target, lane, start, sources):
-        """The lines of jumps to one target: each to a rail, and the rail from the first on."""
+        """Returns the lines of jumps to one target: from each to a rail, and the rail from the first on."""
         is_left = side_of(kind) == "left"
         edge = self.x if is_left else self.end
         rail = self.x - LANE * (lane + 1) - 4 if is_left else self.end + LANE * (lane + 1) + 4
@@ -130,13 +137,13 @@ class Flow:
 
 
 def flow_picture(program, name):
-    """The picture of a program's ways."""
+    """Returns the picture of a program's ways."""
     flow, count = Flow(program), len(program.instructions)
     return svg(flow.width, 2 * MARGIN + ROW * count, name, flow.parts())
 
 
 def return_class(insn):
-    """A return that keeps, and one that doesn't, look different."""
+    """Returns the style of a return: one for keeping the packet, another for not."""
     if insn.code & CLASS != RETURN or insn.code & 0x18:
         return ""
     return " keeps" if insn.k else " drops"

@@ -1,5 +1,5 @@
 #!/usr/bin/env python3
-"""Tests of draw.py on listings, above all bad ones: each gives a message.
+"""Tests draw.py on listings, above all on bad ones: each must give a message.
 
 usage: python3 -m unittest test_tools.py            (in this folder)
 """
@@ -30,7 +30,7 @@ class Listings(unittest.TestCase):
         )  # fmt: skip
 
     def refused(self, *arguments, given=b"", told, status=2):
-        """A message on standard error, no traceback, nothing written, a status."""
+        """Checks a refused call: a message on standard error, no traceback, nothing written, a status."""
         done = self.run_tool(*arguments, given=given)
         said = done.stderr.decode()
         self.assertIn(told, said)
@@ -65,7 +65,7 @@ class Listings(unittest.TestCase):
                 self.refused(given=text, told=told)
 
     def test_ends(self):
-        """A reader that goes away, a full device, closed descriptors."""
+        """Tests a reader that goes away, a full device and closed descriptors."""
         given = library.capkit.Filter(" or ".join(f"port {it}" for it in range(1, 900, 2)), 1).listing.encode()
         (self.folder / "listing").write_bytes(given)
         for option in ("", "--dot "):
@@ -87,13 +87,13 @@ class Listings(unittest.TestCase):
         self.refused(".", told="Is a directory")
 
     def test_without_graphviz(self):
-        """No other program is called."""
+        """Tests that no other program is called."""
         listing = library.capkit.Filter("tcp port 80", 1).listing.encode()
         done = self.run_tool(given=listing, env={**library.os.environ, "PATH": ""})
         self.assertEqual((done.returncode, done.stderr), (0, b""))
 
     def test_every_code(self):
-        """Each valid instruction has a place in the picture."""
+        """Tests that each valid instruction has a place in the picture."""
         for code in range(0, 256):
             try:
                 made = library.capkit.Filter.from_instructions([(code, 0, 0, 1), (6, 0, 0, 0)])
@@ -102,7 +102,9 @@ class Listings(unittest.TestCase):
             self.assertEqual(pictures.flow_picture(library.Program(made), "x").count("<rect"), 2)
 
     def test_ways(self):
-        """Each way of a test is a line to its instruction: here yes is the next one, and no the one after it."""
+        """Tests that each way of a test is a line to its instruction: here yes leads to the next
+        one, and no to the one after it.
+        """
         made = library.capkit.Filter.from_instructions([(40, 0, 0, 12), (21, 0, 1, 2048), (6, 0, 0, 1), (6, 0, 0, 0)])
         picture = pictures.flow_picture(library.Program(made), "x")
         self.assertEqual([picture.count(f'class="{kind}"') for kind in ("yes", "no", "next")], [1, 2, 1])

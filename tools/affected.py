@@ -1,10 +1,12 @@
 #!/usr/bin/env python3
-"""Prints what a change of crates needs before it is handed in: the crates that are proved again, with their edits and tests.
+"""Prints what a change of crates needs before it is handed in.
+
+These are the crates that are proved again, with their edits and tests.
 
 usage: affected.py CRATE..
 
-Each crate that depends on a changed one is proved again, since it uses its contracts. `rt ci CRATE` proves a crate from nothing with
-those below it; `.ci/run` does all.
+Each crate that depends on a changed one is proved again, since it uses its contracts. `rt ci CRATE`
+proves a crate from nothing with those below it; `.ci/run` does all. The status is 1 if there is no such crate.
 """
 import pathlib
 import re
@@ -14,13 +16,13 @@ ROOT = pathlib.Path(__file__).resolve().parent.parent
 
 
 def needs():
-    """What each crate of crates.txt stands on, in the order of the file: each after those that it needs."""
+    """Returns the crates that each crate of crates.txt needs, in the order of the file: lowest first."""
     lines = re.findall(r"^(\w+)[^:#\n]*:(.*)$", (ROOT / "crates.txt").read_text(), re.M)
     return {name: named.split() for name, named in lines}
 
 
 def below(name, crates):
-    """All crates that one stands on."""
+    """Returns all crates that one needs."""
     return {it for need in crates[name] if need in crates for it in (need, *below(need, crates))}
 
 

@@ -1,7 +1,10 @@
 #!/usr/bin/env python3
-"""Prints the path of the program that the launcher built last. Scripts call it directly, since the launcher takes 40 to 80 ms.
+"""Prints the path of the program that the launcher built last.
 
 usage: built.py
+
+Scripts call that program directly, since the launcher takes 40 to 80 ms. The status is 1 if no
+program is built.
 """
 import os
 import pathlib

@@ -1,10 +1,15 @@
 #!/usr/bin/env python3
-"""Compares what the tables of cap_cases state with what the scripts in tools/cases/ compute of the same cases, and the numbers on
-pages with what is counted. tools/cases/ shares nothing with capkit's code.
+"""Compares the tables of cap_cases with what tools/cases/ computes, and numbers on pages with counts.
 
-usage: check_cases.py [--all] [TABLE..]     the table `hostile`, of files of up to a million blocks, only with --all: it takes minutes
-       check_cases.py --write [TABLE..]     writes the tables that scripts write; without TABLE also the numbers on pages
-       check_cases.py --numbers             prints what is counted
+tools/cases/ shares nothing with capkit's code. The gate runs this script.
+
+usage: check_cases.py [--all] [TABLE..]
+       check_cases.py --write [TABLE..]
+       check_cases.py --numbers
+
+Without --all the table `hostile`, with files of up to a million blocks, is left out: it takes
+minutes. --write writes the tables that scripts write; without TABLE, also the numbers on pages.
+--numbers prints what is counted.
 
 The status is 1 if a table or a page differs.
 """
@@ -35,23 +40,27 @@ SLOW = {"hostile"}
 
 
 def faults_of(name):
-    """How a table differs from what is computed, and how many of its cases could be."""
+    """Returns the faults of a table, its number of cases, and how many of them are computed here."""
     stored = (DATA / name).read_text()
     cases = notation.Table(stored).cases
     decided = [case for case in cases if commands.is_decided(case)]
     if name in WRITERS:
-        faults = [f"{name}: tools/cases/ writes another table: check_cases.py --write {name}"] * (WRITERS[name](stored) != stored)
+        differs = WRITERS[name](stored) != stored
+        faults = [f"{name}: tools/cases/ writes another table: check_cases.py --write {name}"] * differs
     else:
         faults = [f"{name}: {case.title}: {fault}" for case in decided if (fault := fault_of(case))]
     return faults, len(cases), len(decided)
 
 
 def fault_of(case):
-    """How a case differs from what is computed, or None."""
+    """Returns how a case differs from what is computed; None if it doesn't."""
     outcome = commands.outcome_of(case)
     if (outcome.written, outcome.messages, outcome.status) == (case.written, case.messages, case.status):
         return None
-    return f"status {outcome.status} is computed, with {len(outcome.written)} bytes written, and: {outcome.messages.strip()}"
+    return (
+        f"status {outcome.status} is computed, with {len(outcome.written)} bytes written, and: "
+        f"{outcome.messages.strip()}"
+    )
 
 
 def write(names, numbers):
@@ -63,7 +72,9 @@ def write(names, numbers):
 
 
 def main():
-    options, names = [[word for word in sys.argv[1:] if word.startswith("--") == is_option] for is_option in (True, False)]
+    options, names = [
+        [word for word in sys.argv[1:] if word.startswith("--") == is_option] for is_option in (True, False)
+    ]
     tables = (DATA / "tables").read_text().split()
     known = WRITERS if "--write" in options else tables
     if not set(options) <= {"--all", "--write", "--numbers"} or not set(names) <= set(known):
@@ -80,7 +91,8 @@ def main():
         results = pool.map(faults_of, chosen, chunksize=1)
     faults = [fault for found, _, _ in results for fault in found] + list(page_numbers.differing(numbers))
     cases, computed = [sum(result[place] for result in results) for place in (1, 2)]
-    print("\n".join([*faults, f"{cases} cases of {len(chosen)} tables, {computed} of them computed, {len(faults)} differ"]))
+    summary = f"{cases} cases of {len(chosen)} tables, {computed} of them computed, {len(faults)} differ"
+    print("\n".join([*faults, summary]))
     return bool(faults)
 
 

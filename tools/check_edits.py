@@ -1,5 +1,5 @@
 #!/usr/bin/env python3
-"""Lists the must-fail edits, of the gate and of edits/, that don't apply: an old text must be in its file exactly once.
+"""Lists the must-fail edits that don't apply: an old text must be in its file exactly once.
 
 usage: check_edits.py      the status is 1 if any edit doesn't apply
 """
@@ -10,7 +10,7 @@ ROOT = pathlib.Path(__file__).resolve().parent.parent
 
 
 def fault_of(crate, edit):
-    """Why an edit of a crate doesn't apply, or None."""
+    """Returns why an edit of a crate doesn't apply; None if it does."""
     texts, path, old = {}, None, None
     for line in edit.read_text().splitlines():
         word, _, rest = line.partition(": ")
@@ -27,7 +27,7 @@ def fault_of(crate, edit):
 
 
 def main():
-    edits = [(crate, edit) for crate in sorted((ROOT / "crates").iterdir()) for folder in ("must-fail", "edits") for edit in sorted((crate / folder).glob("*.edit"))]
+    edits = [(edit.parent.parent, edit) for edit in sorted(ROOT.glob("crates/*/must-fail/*.edit"))]
     faults = [f"{edit.relative_to(ROOT)}: {fault}" for crate, edit in edits if (fault := fault_of(crate, edit))]
     print("\n".join([*faults, f"{len(edits)} edits, {len(faults)} don't apply"]))
     return bool(faults)

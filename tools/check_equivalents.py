@@ -1,12 +1,15 @@
 #!/usr/bin/env python3
-"""Checks the tables of docs/FROM_TCPDUMP.md: runs each row's line of the other tool and its line of capkit, and compares what
-they write as the last cell claims. For whoever changes that page or what capkit does.
+"""Checks the tables of docs/FROM_TCPDUMP.md, by running both lines of each row.
+
+It compares what the other tool's line and capkit's line write, as the row's last cell claims. For
+whoever changes that page or what capkit does.
 
 usage: check_equivalents.py [--capkit PROGRAM]
 
-Each line runs in its own folder with a copy of samples/, with TZ=UTC. What it writes is the file OUT, or else its standard
-output. editcap compares times and lengths of packets. Both lines must end with the same status, unless the claim names it: "the
-status is 1 here and 2 there", "both end with status 1". The last line counts the rows that aren't true.
+Each line runs in its own folder with a copy of samples/, with TZ=UTC. What it writes is the file
+OUT, or else its standard output. editcap compares times and lengths of packets. Both lines must end
+with the same status, unless the claim names it: "the status is 1 here and 2 there", "both end with
+status 1". The last line counts the rows that aren't true.
 """
 import argparse
 import pathlib
@@ -22,7 +25,8 @@ from built import ROOT, built_program, folder_with
 TOOLS = ["tcpdump", "editcap", "mergecap", "capinfos"]
 # Rows of these are left out if they aren't installed.
 OTHER_TOOLS = ["captype", "reordercap", "text2pcap", "tcpslice", "pcapfix"]
-# Packets that the samples lack: the bytes after the addresses of Ethernet, and the original length if it isn't the captured one.
+# Packets that the samples lack: the bytes after the addresses of Ethernet, and the original length
+# if it isn't the captured one.
 ODD = [
     # SCTP to port 80.
     ("0800 45000020 00000000 40840000 c0a80101 c0a80102 00050050 12340000 00000000", None),
@@ -49,7 +53,7 @@ MADE = [
 
 
 def rows():
-    """The lines of both sides and the claim, of each row whose first cell is a line of code."""
+    """Yields the two lines and the claim of each row whose first cell is a line of code."""
     for line in (ROOT / "docs" / "FROM_TCPDUMP.md").read_text().split("\n"):
         cells = [cell.strip() for cell in re.split(r"(?<!\\)\|", line)[1:-1]]
         if len(cells) == 3 and cells[0].startswith("`") and re.match("`(capkit|.*; capkit)", cells[1]):
@@ -58,7 +62,10 @@ def rows():
 
 def write_capture(path, link, packets):
     """Writes a pcap file of packets with their original lengths, one per second."""
-    records = (struct.pack("<IIII", second, 0, len(data), size or len(data)) + data for second, (data, size) in enumerate(packets, 1))
+    records = (
+        struct.pack("<IIII", second, 0, len(data), size or len(data)) + data
+        for second, (data, size) in enumerate(packets, 1)
+    )
     path.write_bytes(struct.pack("<IHHIIII", 0xA1B2C3D4, 2, 4, 0, 0, 262144, link) + b"".join(records))
 
 
@@ -84,14 +91,16 @@ class Outcome:
         self.written = out.read_bytes() if out.exists() else None
 
     def packets(self):
-        """The packets with their times and lengths, as a pcap file with nanoseconds without its header."""
+        """Returns the packets with their times and lengths: a pcap file in nanoseconds without its header."""
         name = self.folder / "compared"
-        subprocess.run(["editcap", "-F", "nsecpcap", "OUT", str(name)], cwd=self.folder, check=True, capture_output=True)
+        subprocess.run(
+            ["editcap", "-F", "nsecpcap", "OUT", str(name)], cwd=self.folder, check=True, capture_output=True
+        )
         return name.read_bytes()[24:]
 
 
 def ends_as_told(claim, theirs, ours):
-    """Whether the statuses are those that the claim names, or else equal; a difference may be one of statuses."""
+    """Returns whether the statuses are those that the claim names, or equal if it names none."""
     if found := re.search(r"status is (\d) here and (\d) there", claim):
         return (ours.status, theirs.status) == (int(found.group(1)), int(found.group(2)))
     if found := re.search(r"both end with status (\d)", claim):
@@ -100,7 +109,9 @@ def ends_as_told(claim, theirs, ours):
 
 
 def is_true(claim, theirs, ours, plain):
-    """Whether a claim is true; `plain` is what the other line does without `-O`, if the claim is about that."""
+    """Returns whether a claim is true; `plain` is the result of the other line without `-O`, if the
+    claim is about that.
+    """
     if not ends_as_told(claim, theirs, ours):
         return False
     if claim.startswith("same file"):

@@ -1,20 +1,23 @@
 #!/usr/bin/env python3
-"""Runs the examples of the pages and of the manual pages, and compares what they print with what the pages show. For whoever
-changes a page, a sample or what capkit prints.
+"""Runs the examples of pages and manual pages, and compares their output with what the pages show.
+
+For whoever changes a page, a sample or what capkit prints.
 
 usage: check_examples.py [--capkit PROGRAM] [--update] [PAGE..]
 
-- An example is a fenced block whose first line begins with "$ ". A line that begins with "> " continues the command above
-  it. Standard output and standard error are shown together.
-- The examples of one section run one after another in one shell, in their own folder, after the line of docs/RECIPES.md that
-  sets up a checkout. Its line for a package must make the same files.
-- The examples of the manual pages (if jinja2 is installed), and indented lines of pages that call capkit, must succeed on copies of
-  samples/day.pcap.
+- An example is a fenced block whose first line begins with "$ ". A line that begins with "> "
+  continues the command above it. Standard output and standard error are shown together.
+- The examples of one section run one after another in one shell, in their own folder, after the
+  line of docs/RECIPES.md that sets up a checkout. Its line for a package must make the same files.
+- The examples of the manual pages (if jinja2 is installed), and indented lines of pages that call
+  capkit, must succeed on copies of samples/day.pcap.
 - The expressions of the cookbook in docs/FILTER.md must compile.
-- any.sh must write the IP packets, and only these, of frames of each kind that `tcpdump -i any` has.
+- any.sh must write the IP packets, and only these, of frames of each kind that `tcpdump -i any`
+  has.
 
-A section whose programs aren't all installed, or that needs the library (`make -C library`), is left out with a message.
---update writes what is printed into the pages: read the changes before you commit them.
+A section whose programs aren't all installed, or that needs the library (`make -C library`), is
+left out with a message. --update writes what is printed into the pages: read the changes before you
+commit them. The status is 1 if an example differs or fails.
 """
 import argparse
 import os
@@ -47,7 +50,7 @@ NEEDS_LIBRARY = re.compile(r"\.\./teach/|import capkit")
 
 
 def sections_of(page):
-    """The examples of each section, by its title."""
+    """Returns the examples of each section by its title."""
     sections, heading = {}, ""
     for part in PART.finditer(page):
         if part[0].startswith("#"):
@@ -58,7 +61,7 @@ def sections_of(page):
 
 
 def set_up(where):
-    """The line that RECIPES has for the set-up in a checkout, or with an installed package."""
+    """Returns the line of RECIPES that sets up the files, in a checkout or with an installed package."""
     found = re.search(rf"^\| {where} \| `(.*)` \|$", (ROOT / "docs" / "RECIPES.md").read_text(), re.MULTILINE)
     return found[1]
 
@@ -77,7 +80,7 @@ def checkout(folder, capkit):
 
 
 def run(commands, capkit):
-    """What each of the commands prints, in one shell and a new folder."""
+    """Returns what each command prints. They run in one shell and a new folder."""
     script = set_up("in a checkout") + "\n"
     for command in commands:
         # What is called by ./ is called at the top.
@@ -90,28 +93,37 @@ def run(commands, capkit):
 
 
 def same_set_up(capkit):
-    """Whether both lines of the set-up make the same files; that of a package reads its own folder instead of /usr/share."""
+    """Returns whether both set-up lines make the same files; that of a package reads its own folder
+    instead of /usr/share.
+    """
     shown = []
     for where in ("in a checkout", "installed as a package"):
         with tempfile.TemporaryDirectory() as temporary:
             how = checkout(pathlib.Path(temporary), capkit)
             line = set_up(where).replace(INSTALLED, temporary)
             script = f"mkdir new; cd new; {line}" if where.startswith("installed") else line
-            done = subprocess.run(["bash", "-c", f"{script}\n test ${{PWD##*/}} = samples && cd .. && find . | sort"], **how)
+            done = subprocess.run(
+                ["bash", "-c", f"{script}\n test ${{PWD##*/}} = samples && cd .. && find . | sort"], **how
+            )
             shown.append((done.returncode, done.stdout))
     return shown[0] == shown[1] and shown[0][0] == 0
 
 
 IPV4 = bytes.fromhex("4500001c000040004011f4860a0000050a0000350009000900080000")
 IPV6 = bytes.fromhex("6000000000083a40" + "20010db8000000000000000000000005" * 2 + "8000000000000000")
-# The EtherTypes of Linux's cooked frames, and what follows: STP, ARP, LLDP, a VLAN tag, PPPoE, loopback, frames of 802.2.
+# The EtherTypes of Linux's cooked frames, and what follows: STP, ARP, LLDP, a VLAN tag, PPPoE,
+# loopback, frames of 802.2.
 FRAMES = [(0x0800, IPV4), (0x86DD, IPV6), (4, bytes.fromhex("424203000000000080010011223344550000000080010011")),
-          (0x0806, bytes.fromhex("0001080006040001") + bytes(20)), (0x88CC, bytes.fromhex("0207040011223344550404050102")),
-          (0x8100, bytes.fromhex("00070800") + IPV4), (0x8864, bytes.fromhex("11000001001e0021") + IPV4), (0x9000, IPV4), (0, b"")]
+          (0x0806, bytes.fromhex("0001080006040001") + bytes(20)),
+          (0x88CC, bytes.fromhex("0207040011223344550404050102")),
+          (0x8100, bytes.fromhex("00070800") + IPV4), (0x8864, bytes.fromhex("11000001001e0021") + IPV4),
+          (0x9000, IPV4), (0, b"")]
 
 
 def only_ip(capkit):
-    """Whether any.sh writes the IP packets of a capture of `tcpdump -i any`, only these, and none of another link type."""
+    """Returns whether any.sh writes exactly the IP packets of a capture of `tcpdump -i any`, and
+    nothing for another link type.
+    """
     def capture(link, frames, chopped=0):
         records = (struct.pack("<IIII", 1, 0, len(it), len(it) + chopped) + it for it in frames)
         return struct.pack("<IHHIIII", 0xA1B2C3D4, 2, 4, 0, 0, 262144, link) + b"".join(records)
@@ -121,12 +133,15 @@ def only_ip(capkit):
         how = checkout(pathlib.Path(temporary), capkit)
         how.update(stderr=subprocess.DEVNULL, env={**how["env"], "PATH": f"{temporary}:{os.environ['PATH']}"})
         del how["stdin"]
-        done = [subprocess.run(["bash", "examples/any.sh", "-"], input=capture(link, frames), **how) for link in (276, 1)]
+        done = [
+            subprocess.run(["bash", "examples/any.sh", "-"], input=capture(link, frames), **how) for link in (276, 1)
+        ]
     shown = [(it.returncode, it.stdout) for it in done]
     return shown == [(0, capture(101, [IPV4, IPV6], 20)), (1, b"")]
 
 
 def missing_program(commands):
+    """Returns a program or the library that commands need and that isn't there, or None."""
     if NEEDS_LIBRARY.search("\n".join(commands)) and not LIBRARY.exists():
         return LIBRARY.name
     for program in OTHER_PROGRAMS:
@@ -164,12 +179,16 @@ def check_page(name, capkit, is_update):
 
 
 def commands_without_output():
-    """Indented lines of pages that call capkit, and the examples of the manual pages if jinja2 can make them; each with its page."""
+    """Yields indented lines of pages that call capkit, and the examples of the manual pages if
+    jinja2 can make them, each with its page.
+    """
     for name in ["docs/RECIPES.md", "docs/RELIABILITY.md"]:
         for line in LINE_WITHOUT_OUTPUT.findall((ROOT / name).read_text()):
             yield name, line
     with tempfile.TemporaryDirectory() as temporary:
-        made = subprocess.run([sys.executable, ROOT / "packaging" / "pages.py", temporary], stderr=subprocess.PIPE, text=True)
+        made = subprocess.run(
+            [sys.executable, ROOT / "packaging" / "pages.py", temporary], stderr=subprocess.PIPE, text=True
+        )
         if made.returncode:
             print(f"manual pages: left out, packaging/pages.py fails: {made.stderr.strip().splitlines()[-1]}")
         for page in sorted(pathlib.Path(temporary).glob("*.[17]")):
@@ -178,13 +197,19 @@ def commands_without_output():
 
 
 def check_successes(capkit):
-    """Runs examples whose output isn't shown, over copies of day.pcap with the names that they use; returns how many fail."""
+    """Runs examples whose output isn't shown, over copies of day.pcap with the names that they use;
+    returns how many fail.
+    """
     count = failed = 0
     for name, example in commands_without_output():
         with tempfile.TemporaryDirectory() as temporary:
             how = checkout(pathlib.Path(temporary), capkit)
             names = " ".join(set(CAPTURE.findall(example)))
-            script = f"{set_up('in a checkout')}\nfor name in {names}; do test -e ${{name%.gz}} || cp day.pcap ${{name%.gz}}; done\ngzip -k day.pcap\n"
+            script = (
+                f"{set_up('in a checkout')}\n"
+                f"for name in {names}; do test -e ${{name%.gz}} || cp day.pcap ${{name%.gz}}; done\n"
+                "gzip -k day.pcap\n"
+            )
             done = subprocess.run(["bash", "-e", "-c", script + example], **how)
         count, failed = count + 1, failed + bool(done.returncode)
         if done.returncode:
@@ -197,9 +222,18 @@ def check_cookbook(capkit):
     """Compiles the expressions of FILTER's cookbook; returns how many are refused."""
     page = (ROOT / "docs" / "FILTER.md").read_text()
     rows = re.findall(r"^\|.*?(?<!\\)\|(.*)\|$", page.partition("## Cookbook\n")[2].partition("\n## ")[0], re.MULTILINE)
-    expressions = [it.replace(r"\|", "|") for row in rows for it in re.findall("`([^`]+)`", row) if not it.startswith(("tcpdump ", "print "))]
-    refused = [it for it in expressions if subprocess.run([capkit, "compile", it], stdout=subprocess.DEVNULL).returncode]
-    print("\n".join([*refused, f"docs/FILTER.md: {len(expressions)} expressions of the cookbook, {len(refused)} refused"]))
+    expressions = [
+        it.replace(r"\|", "|")
+        for row in rows
+        for it in re.findall("`([^`]+)`", row)
+        if not it.startswith(("tcpdump ", "print "))
+    ]
+    refused = [
+        it for it in expressions if subprocess.run([capkit, "compile", it], stdout=subprocess.DEVNULL).returncode
+    ]
+    print(
+        "\n".join([*refused, f"docs/FILTER.md: {len(expressions)} expressions of the cookbook, {len(refused)} refused"])
+    )
     return len(refused)
 
 

@@ -1,13 +1,15 @@
 #!/usr/bin/env python3
-"""Runs capkit in a shell over real files, devices, pipes and terminals, and compares the files afterwards with what they must be.
-For whoever changes how files are opened, written or removed: contracts can't see that.
+"""Runs capkit in a shell over real files, devices, pipes and terminals, and compares the files
+afterwards with what they must be. For whoever changes how files are opened, written or removed:
+contracts can't see that.
 
 usage: check_files.py [--capkit PROGRAM]
 
-Each case runs in its own folder with a copy of samples/. It has a shell line, its status, its standard error, and files with
-their contents: bytes, the name of a sample (unchanged), or None (no such file). A case on a terminal has a line over an input
-that takes three seconds, the terminal's name, and whether progress must be shown. Each mistake is tried with each kind of
-output, which must be unchanged.
+Each case runs in its own folder with a copy of samples/. It has a shell line, its status, its
+standard error, and files with their contents: bytes, the name of a sample (unchanged), or None (no
+such file). A case on a terminal has a line over an input that takes three seconds, the terminal's
+name, and whether progress must be shown. Each mistake is tried with each kind of output, which must
+be unchanged.
 """
 import argparse
 import fcntl
@@ -41,17 +43,23 @@ CASES = [
     ("capkit edit nowhere out", 1, "capkit: nowhere: cannot open\n", {"out": None}),
     ("printf keep > out; echo text > in; capkit edit in out", 1,
      "capkit: in: offset 0: not a capture file\n", {"out": b"keep"}),
-    ("printf keep > out; capkit edit -F pcap damaged.pcap whole 2> message; capkit edit -F pcap damaged.pcap out; s=$?; "
+    ("printf keep > out; capkit edit -F pcap damaged.pcap whole 2> message; capkit edit -F pcap damaged.pcap out; "
+     "s=$?; "
      "cmp whole out && exit $s", 1, "capkit: damaged.pcap: offset 2631: too long\n", {}),
-    ("printf keep > out; capkit print -w out --format pcap -c 1 day.pcap 'len = 1'; wc -c < out > size", 0, "", {"size": b"24\n"}),
+    ("printf keep > out; capkit print -w out --format pcap -c 1 day.pcap 'len = 1'; wc -c < out > size",
+     0, "", {"size": b"24\n"}),
     # What others do meanwhile with the file that a run created isn't undone.
-    *[(f"mkfifo in; {{ until test -e out; do sleep 0.01; done; {others}; echo text; }} > in & capkit edit in out; s=$?; wait; "
+    *[(f"mkfifo in; {{ until test -e out; do sleep 0.01; done; {others}; echo text; }} > in & capkit edit in out; "
+       "s=$?; wait; "
        "exit $s", 1, "capkit: in: offset 0: not a capture file\n", files)
-      for others, files in [("rm out; : > out", {"out": b""}), ("rm out", {"out": None}), ("printf more > out", {"out": b"more"}),
-                            ("mv out moved; ln -s moved out", {"moved": None}), ("mv out moved; mkfifo out", {"moved": b""})]],
+      for others, files in [("rm out; : > out", {"out": b""}), ("rm out", {"out": None}),
+                            ("printf more > out", {"out": b"more"}),
+                            ("mv out moved; ln -s moved out", {"moved": None}),
+                            ("mv out moved; mkfifo out", {"moved": b""})]],
     ("cat day.pcap day.pcap > out; capkit edit -F pcap day.pcap out", 0, "", {"out": "day.pcap"}),
     ("printf keep > kept; ln -s kept out; capkit edit -F pcap day.pcap out", 0, "", {"kept": "day.pcap"}),
-    ("mkfifo pipe; cat pipe > out & capkit edit -F pcap day.pcap pipe; s=$?; wait; exit $s", 0, "", {"out": "day.pcap"}),
+    ("mkfifo pipe; cat pipe > out & capkit edit -F pcap day.pcap pipe; s=$?; wait; exit $s",
+     0, "", {"out": "day.pcap"}),
     ("capkit print -w /dev/null day.pcap", 0, "", {}),
     ("capkit print -w /dev/full day.pcap", 1, "capkit: /dev/full: write failed\n", {}),
     ("capkit print -w . day.pcap", 1, "capkit: .: cannot create\n", {}),
@@ -64,17 +72,21 @@ CASES = [
     ("capkit infos mirror.pcap day.pcap >> day.pcap", 2, TWICE, {"day.pcap": "day.pcap"}),
     ("capkit merge -w - mirror.pcap day.pcap >> day.pcap", 2, TWICE, {"day.pcap": "day.pcap"}),
     ("capkit print day.pcap 1<> day.pcap", 2, TWICE, {"day.pcap": "day.pcap"}),
-    ("capkit compile tcp > code; cp code before; capkit print --code code day.pcap >> code; s=$?; cmp code before && exit $s",
+    ("capkit compile tcp > code; cp code before; capkit print --code code day.pcap >> code; s=$?; "
+     "cmp code before && exit $s",
      2, TWICE, {}),
     ("capkit edit -F pcap day.pcap - > out", 0, "", {"out": "day.pcap", "day.pcap": "day.pcap"}),
     ("capkit edit -F pcap - - < day.pcap | cat > out", 0, "", {"out": "day.pcap"}),
     ("capkit print - < /dev/null > /dev/null", 1, "capkit: -: offset 0: not a capture file\n", {}),
-    # What is known of a pipe is written to a pipe before more is waited for: lines, packets, and reports of files before.
+    # What is known of a pipe is written to a pipe before more is waited for: lines, packets, and
+    # reports of files before.
     (f"{WAITING} | capkit print - | {FIRST} > out", 0, "", {"out": b"1\n"}),
     (f"{WAITING} | capkit edit -F pcap - - | capkit print - | {FIRST} > out", 0, "", {"out": b"1\n"}),
-    (f"mkfifo in; {WAITING} > in & capkit merge -F pcap -w - in | capkit print - | {FIRST} > out", 0, "", {"out": b"1\n"}),
+    (f"mkfifo in; {WAITING} > in & capkit merge -F pcap -w - in | capkit print - | {FIRST} > out",
+     0, "", {"out": b"1\n"}),
     (f"{WAITING} | capkit infos day.pcap - | {FIRST} > out", 0, "", {"out": b"1\n"}),
-    ("(cat day.pcap; sleep 1; tail -c +25 day.pcap; sleep 1; tail -c +25 day.pcap) | capkit print - | head -n 1 | wc -l > out",
+    ("(cat day.pcap; sleep 1; tail -c +25 day.pcap; sleep 1; tail -c +25 day.pcap) "
+     "| capkit print - | head -n 1 | wc -l > out",
      0, "", {"out": b"1\n"}),
     # If a run is stopped while it waits, the output has all decided packets, complete, even in a file.
     *[(f"{WAITING} | timeout -s {signal} 1 capkit edit -F pcap - out", 124, "", {"out": "day.pcap"})
@@ -83,7 +95,8 @@ CASES = [
     (f"exec 2> /dev/null; {WAITING} | timeout -s KILL 1 capkit edit -F pcap - out", 137, "", {"out": "day.pcap"}),
     ("head -c 3000 day.pcap > part; capkit edit -F pcap part whole 2> /dev/null; (cat part; sleep 3) "
      "| timeout -s TERM 1 capkit edit -F pcap - out; s=$?; cmp out whole && exit $s", 124, "", {}),
-    (f"capkit print day.pcap > lines; {WAITING} | timeout 1 capkit print - > out; s=$?; cmp out lines && exit $s", 124, "", {}),
+    (f"capkit print day.pcap > lines; {WAITING} | timeout 1 capkit print - > out; s=$?; cmp out lines && exit $s",
+     124, "", {}),
     # What was asked for and can't be written is a fault.
     ("capkit --help > /dev/full", 1, "capkit: -: write failed\n", {}),
     ("capkit --version > /dev/full", 1, "capkit: -: write failed\n", {}),
@@ -101,7 +114,10 @@ CASES = [
     *[(f"capkit edit -F pcap damaged.pcap whole 2> message; printf keep > kept; "
        f"capkit edit -F pcap damaged.pcap out {closed}; s=$?; "
        f"capkit print -w kept day.pcap 'prot 80' {closed}; cmp out whole; test $? = 0 && exit $s", 1,
-       "" if "2>&-" in closed else "capkit: damaged.pcap: offset 2631: too long\ncapkit: expression: unknown word at 1\n",
+       "" if "2>&-" in closed else (
+           "capkit: damaged.pcap: offset 2631: too long\n"
+           "capkit: expression: unknown word at 1\n"
+       ),
        {"kept": b"keep"})
       for closed in CLOSED],
     # A stream that is closed stays so: what is written to it fails, and what is read of it too.
@@ -111,7 +127,8 @@ CASES = [
 
 NOT_A_CAPTURE = (1, "capkit: wrong: offset 0: not a capture file\n")
 TRUNCATED = (1, "capkit: wrong: offset 24: truncated\n")
-INPUT = ["edit wrong OUT", "merge -w OUT wrong day.pcap", "merge -w OUT day.pcap wrong", "merge -a -w OUT wrong day.pcap",
+INPUT = ["edit wrong OUT", "merge -w OUT wrong day.pcap", "merge -w OUT day.pcap wrong",
+         "merge -a -w OUT wrong day.pcap",
          "print -w OUT wrong", "print --code listing -w OUT wrong", "print -c 1 -w OUT wrong tcp port 80"]
 
 # What makes the mistake, the status and the message, and the commands that make it.
@@ -124,13 +141,15 @@ MISTAKES = [
     ("ln -s nowhere wrong", 1, "capkit: wrong: cannot open\n", INPUT),
     ("echo text > wrong", 2, "capkit: code: not a listing at line 1\n", ["print --code wrong -w OUT day.pcap"]),
     ("ln -s nowhere wrong", 1, "capkit: wrong: cannot open\n", ["print --code wrong -w OUT day.pcap"]),
-    ("exec 0< /dev/null", 1, "capkit: -: offset 0: not a capture file\n", ["edit - OUT", "merge -w OUT -", "print -w OUT -"]),
+    ("exec 0< /dev/null", 1, "capkit: -: offset 0: not a capture file\n",
+     ["edit - OUT", "merge -w OUT -", "print -w OUT -"]),
     ("exec 0<&-", 1, "capkit: -: offset 0: read failed\n", ["edit - OUT", "merge -w OUT -", "print -w OUT -"]),
     ("(head -c 20 day.pcap; printf '\\24\\1\\0\\0'; tail -c +25 day.pcap) > wrong", 1,
      "capkit: wrong: offset 24: link type not filtered\n", ["print -w OUT wrong tcp"]),
     ("true", 1, "capkit: day.pcap: offset 24: time out of range\n", ["edit -F pcap --later 4294967295 day.pcap OUT"]),
     ("true", 1, "capkit: damaged.pcap: offset 2631: too long\n",
-     ["edit -A 4000000000 damaged.pcap OUT", "print -w OUT damaged.pcap tcp port 9", "print -w OUT damaged.pcap len = 1"]),
+     ["edit -A 4000000000 damaged.pcap OUT", "print -w OUT damaged.pcap tcp port 9",
+      "print -w OUT damaged.pcap len = 1"]),
     ("true", 2, "capkit: expression: unknown word at 1\n", ["print -w OUT day.pcap prot 80"]),
     ("true", 2, "capkit: usage: bad range\n", ["edit day.pcap OUT 1-x"]),
 ]
@@ -157,7 +176,7 @@ OUTPUTS = [
 
 
 def differences_after_mistake(program, make, status, message, command, output):
-    """What differs after a command that makes a mistake was run with an output."""
+    """Yields the differences after a command that makes a mistake was run with an output."""
     name, make_output, as_it_was, may_be_refused = output
     command = command.replace("OUT", name)
     line = f"capkit compile tcp > listing; {make_output}; {make}; capkit {command}; s=$?; {as_it_was} || exit 99; exit $s"
@@ -168,7 +187,7 @@ def differences_after_mistake(program, make, status, message, command, output):
 
 
 def differences_without_memory(program):
-    """What differs if memory runs out at any place of a run."""
+    """Yields the differences if memory runs out at any place of a run."""
     with tempfile.TemporaryDirectory() as folder:
         out = pathlib.Path(folder) / "out"
         ends = {}
@@ -199,7 +218,7 @@ TERMINAL_CASES = [
 
 
 def differences_on_terminal(program, line, name, is_shown):
-    """What differs on a terminal of that name, which is the line's standard error and its controlling terminal."""
+    """Yields the differences on a terminal of that name, which is standard error and the controlling terminal."""
     with tempfile.TemporaryDirectory() as folder:
         here = pathlib.Path(folder)
         variables = folder_with(here, program)
@@ -221,11 +240,12 @@ def differences_on_terminal(program, line, name, is_shown):
 
 
 def differences(program, line, status, message, files):
-    """What differs after the line was run."""
+    """Yields the differences between the files that a line wrote and those that it should write."""
     with tempfile.TemporaryDirectory() as folder:
         here = pathlib.Path(folder)
         variables = folder_with(here, program)
-        run = subprocess.run(["bash", "-c", line], cwd=here, env=variables, capture_output=True, stdin=subprocess.DEVNULL,
+        run = subprocess.run(["bash", "-c", line], cwd=here, env=variables, capture_output=True,
+                             stdin=subprocess.DEVNULL,
                              timeout=60)
         if run.returncode != status:
             yield f"status {run.returncode}, not {status}"

@@ -1,12 +1,13 @@
 #!/usr/bin/env python3
-"""Filters random packets by random lists of hosts, networks, ports, protocols, MAC addresses, bytes and flows. For whoever
-changes how lists are compiled.
+"""Filters random packets by random lists, and compares what capkit keeps with what it should.
 
 usage: check_lists.py [--capkit PROGRAM] [COUNT [FIRST]]
 
-The script evaluates each list member by member, as docs/FILTER.md defines it; `capkit print -w` must write the same packets.
-Packets have numbers of the list, numbers next to them, or others; most are cut. COUNT lists (10,000) have the seeds FIRST (1)
-and up. The status is 1 if anything differs.
+For whoever changes how lists are compiled. Lists have hosts, networks, ports, protocols, MAC
+addresses, bytes or flows. The script evaluates each list member by member, as docs/FILTER.md
+defines it; `capkit print -w` must write the same packets. Packets have numbers of the list, numbers
+next to them, or others; most are cut. COUNT lists (10,000) have the seeds FIRST (1) and up. The
+status is 1 if anything differs.
 """
 import argparse
 import contextlib
@@ -51,7 +52,10 @@ DIRECTIONS = ["", "", "", "src or dst", "dst or src", "src", "dst", "src and dst
 
 
 def is_in(data, at, size, mask, low, high):
-    """Whether a field under a mask is in a range. Its words of 4 bytes are loaded in turn, as long as they are."""
+    """Returns whether a field under a mask is in a range.
+
+    Its words of 4 bytes are loaded one after another, as long as they are equal.
+    """
     for end in [*range(4, size, 4), size]:
         rest = 8 * (size - end)
         if at + end > len(data):
@@ -62,7 +66,10 @@ def is_in(data, at, size, mask, low, high):
 
 
 class Maker(random.Random):
-    """Makes a list for a link, and packets. A condition is a text, a function that reads a packet, and a member's number."""
+    """Makes a list for a link, and packets.
+
+    A condition is a text, a function that reads a packet, and a member's number.
+    """
 
     def __init__(self, seed):
         super().__init__(seed)
@@ -70,14 +77,14 @@ class Maker(random.Random):
         self.numbers = {kind: [] for kind in KINDS}
 
     def number(self, kind):
-        """A number, often one of the list or next to one."""
+        """Returns a number, often one of the list or next to one."""
         bits = 8 * KINDS[kind][0]
         step = self.choice([0, 0, 0, 1, -1, self.randrange(-999, 999), 1 << self.randrange(bits)])
         near = (self.choice(self.numbers[kind] or [0]) + step) % (1 << bits)
         return near if self.random() < 0.7 else self.getrandbits(bits)
 
     def member(self, kind, protocol, direction, what):
-        """A member. Some bits of a network or a range are free."""
+        """Returns a member of the list. Some bits of a network or a range are arbitrary."""
         (size, _, _, places), bits = KINDS[kind], 8 * KINDS[kind][0]
         ones, free = (1 << bits) - 1, min(self.randint(0, bits) for _ in range(3))
         prefix = ones >> free << free
@@ -93,6 +100,7 @@ class Maker(random.Random):
         carried = {"tcp": [6], "udp": [17]}.get(protocol[:3], [6, 17])
 
         def reads(data, frame):
+            """Returns whether a packet in this frame has the member's field."""
             at, (place, *field) = self.start, FRAMES[self.link][frame]
             if not is_in(data, at + place, *field, field[-1]):
                 return False
@@ -137,7 +145,10 @@ class Maker(random.Random):
         return self.joined(lists, ["and", "or"], ["", "", "not "])
 
     def packet(self):
-        """The bytes of a packet of some kind, whole or cut. One in a VLAN, or of another EtherType, is else like IPv4."""
+        """Returns the bytes of a packet of some kind, whole or cut.
+
+        One in a VLAN, or with another EtherType, is like IPv4 otherwise.
+        """
         frame, words = self.choice(["ip"] * 4 + ["ip6"] * 2 + ["arp", "rarp", "typed"]), self.choice([5, 5, 5, 6, self.randrange(16)])
         data, cuts = bytearray(self.randbytes(96)), [96, self.randint(16 - self.start, 96)]
         first, ethertype = {"ip6": 0x60, "arp": 0, "rarp": 0}.get(frame, 0x40 | words), self.choice([0x8100, self.number("type")])

@@ -1,15 +1,20 @@
 #!/usr/bin/env python3
-"""Compares pages with the sources, and lists each statement that is out of date with its page and line. The gate runs it.
+"""Compares pages with the sources, and lists each statement that is out of date with its page and
+line. The gate runs it.
 
 usage: check_model.py [CRATE..]      the first check only for these crates
 
-1. Each definition that a public function's contract cites has a comment. A function is public if other crates or C can name it.
-   A definition is in specs/ or specs/inside/ as meaning.py states, and CONTRACTS.md's table of lines is about right.
-2. A contract in a fenced block of a page, and a clause in backquotes, is in src/ as it is shown; `..` is text that was left out.
-3. A field `Name.field` and a file exist; `path::name` is an item, in CONTRACTS' tables a public one; the clauses that
-   CONTRACTS' rows name are those of the row's functions; and any other name in backquotes is a word of some source, edit or
-   script. Words in capitals, such as NAME, are placeholders.
-4. No line of a proof file has over 160 columns, and each file of src/, specs/ and proofs/ begins with a comment on what it is for.
+1. Each definition that a public function's contract cites has a comment. A function is public if
+   other crates or C can name it. A definition is in specs/ or specs/inside/ as meaning.py states,
+   and CONTRACTS.md's table of lines is about right.
+2. A contract in a fenced block of a page, and a clause in backquotes, is in src/ as it is shown;
+   `..` is text that was left out.
+3. A field `Name.field` and a file exist; `path::name` is an item, in CONTRACTS' tables a public
+   one; the clauses that CONTRACTS' rows name are those of the row's functions; and any other name
+   in backquotes is a word of some source, edit or script. Words in capitals, such as NAME, are
+   placeholders.
+4. No line of a proof file has over 160 columns, and each file of src/, specs/ and proofs/ begins
+   with a comment on what it is for.
 5. Each link of a page leads to a file, and to a section of a page if it names one.
 
 The status is 1 if something is listed.
@@ -42,13 +47,14 @@ def uncommented_definitions(sources, crates):
                 spec = sources.items[use]
                 text = lines.setdefault(spec.path, spec.path.read_text().split("\n"))
                 if not text[spec.line - 1].startswith("--") and not text[spec.line - 2].startswith("--"):
-                    found[use] = f"{spec.path.relative_to(ROOT)}:{spec.line}: {use[2]}, which {key[2]} cites, has no comment"
+                    place = f"{spec.path.relative_to(ROOT)}:{spec.line}"
+                    found[use] = f"{place}: {use[2]}, which {key[2]} cites, has no comment"
     yield from found.values()
 
 
 def misplaced_definitions(sources):
-    """Yields the definitions of specs/ that no promise rests on, those of specs/inside/ that one does, and numbers of CONTRACTS.md
-    that are over 2 % off."""
+    """Yields the definitions of specs/ that no promise rests on, those of specs/inside/ that one
+    does, and numbers of CONTRACTS.md that are over 2 % off."""
     meaning = Meaning(sources)
     for spec, name, is_believed in meaning.misplaced():
         what = "must be believed" if is_believed else "only helps proofs"
@@ -77,14 +83,16 @@ def headless_files():
 
 
 def sections_of(page):
-    """The names by which links call the sections of a page."""
+    """Returns the names of a page's sections as links spell them."""
     titles = re.findall(r"^#+ (.*)$", FENCED.sub("", page.read_text()), re.MULTILINE)
     return {re.sub(r"[^\w -]", "", title.lower()).replace(" ", "-") for title in titles}
 
 
 def broken_links():
     """Yields the links of pages that lead nowhere."""
-    for page in [it for pattern in ("*.md", "docs/**/*.md", "*/*.md", "*/*/README.md") for it in sorted(ROOT.glob(pattern))]:
+    for page in [
+        it for pattern in ("*.md", "docs/**/*.md", "*/*.md", "*/*/README.md") for it in sorted(ROOT.glob(pattern))
+    ]:
         for link in re.findall(r"\]\((?!https?:)([^)\s]+)\)", FENCED.sub("", page.read_text())):
             path, _, section = link.partition("#")
             to = page.parent / path if path else page
@@ -127,7 +135,7 @@ class Names:
                       if not left_out(inner) for name in names]
 
     def private_paths(self):
-        """The paths of all items, variants and modules, as code inside their crate could write them."""
+        """Yields the paths of all items, variants and modules, as code inside their crate could write them."""
         for (crate, module, name), item in self.sources.items.items():
             path = "::".join([crate, *filter(None, module.removeprefix("src").split(".")), name])
             yield path
@@ -136,17 +144,18 @@ class Names:
 
     @functools.cached_property
     def words(self):
-        """The words of all sources, scripts and headers, but the pages."""
+        """Returns the words of all sources, scripts and headers, but the pages."""
         files = [name for name in self.files if not re.match(r"docs/.*md|[^/]*\.md", name)]
         files = [name for name in files if os.path.getsize(ROOT / name) < 1 << 20]
         texts = [*files, *((ROOT / name).read_text(errors="replace") for name in files)]
         return {word for text in texts for word in re.findall(r"[A-Za-z_]\w*", text)}
 
     def fields(self, name):
-        """The fields of the definitions and types of a name."""
+        """Returns the fields of the definitions and types of a name."""
         return {field for item in self.by_name.get(name, ()) for field in FIELD.findall(item.text())}
 
     def clauses(self, functions):
+        """Returns the names of the clauses of functions."""
         return {clause for item in functions for clause in CLAUSE.findall(item.text())}
 
 
@@ -156,7 +165,7 @@ def left_out(folders):
 
 
 def ends(path):
-    """The path, and what remains without its first parts, up to its last two."""
+    """Returns a path, and its ends: without its first parts, down to its last two."""
     parts = path.split("::")
     return ["::".join(parts[at:]) for at in range(len(parts) - 1)]
 
@@ -200,7 +209,7 @@ def line_faults(names, line, is_row):
 
 
 def is_ours(names, path):
-    """Whether a path begins with a crate, module or type of the sources."""
+    """Returns whether a path begins with a crate, module or type of the sources."""
     first = path.split("::")[0]
     return first in names.sources.crates or any(it.startswith(f"{first}::") for it in names.all)
 

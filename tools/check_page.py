@@ -1,12 +1,16 @@
 #!/usr/bin/env python3
-"""Opens docs/capkit.html in Chromium and in Firefox, uses it as a person does, and compares what it shows and saves.
+"""Tests docs/capkit.html in Chromium and in Firefox: uses it, and compares what it shows and saves.
+
+For whoever changes the page or the library.
 
 usage: check_page.py [--page FILE] [--capkit PROGRAM] [--only WORD] [--calls FILE..] [--pictures FOLDER]
 
-Lines, bytes, verdicts, steps and registers are compared with tools/cases/, which shares nothing with capkit's code; listings and
-saved files with the program. --calls makes the calls that tools/port/calls.py wrote in the page's module, and compares every byte of
-every buffer. --pictures writes pictures of the page to a folder. --only runs the parts whose name has a word. It needs gcc, and
-Debian's packages chromium, chromium-driver and firefox-esr. The last line counts what is wrong; if it isn't 0 the status is 1.
+Lines, bytes, verdicts, steps and registers are compared with tools/cases/, which shares nothing
+with capkit's code; listings and saved files with the program. --calls makes the calls that
+tools/port/calls.py wrote in the page's module, and compares every byte of every buffer. --pictures
+writes pictures of the page to a folder. --only runs the parts whose name has a word. It needs gcc,
+and Debian's packages chromium, chromium-driver and firefox-esr. The last line counts what is wrong;
+if it isn't 0 the status is 1.
 """
 import argparse
 import base64
@@ -33,25 +37,41 @@ import machine
 import make_page
 import printing
 
-SAMPLES, HERE = ROOT / "samples", ROOT / "tools" / "page"
-MOST_BYTES, MANY, MOST_DRAWN = 200_000, 1_000_000, 300
+SAMPLES = ROOT / "samples"
+HERE = ROOT / "tools" / "page"
+# The most bytes of the page.
+MOST_BYTES = 200_000
+# The number of packets in the large capture.
+MANY = 1_000_000
+# The most instructions of a program that the page draws.
+MOST_DRAWN = 300
+# The filter with which the page opens.
 FIRST = "tcp port 80 or 443 and host 10.0.0.5"
 MARKUP = [
     b"<script>document.title = 'taken'</script>", b"</script><script>document.title = 'taken'</script>",
-    b"<img src=x onerror=\"document.title = 'taken'\">", b"<!-- <script> -->", b"]]>&lt;b&gt;", b"\"' onmouseover=alert(1) x='",
-    b"\x1b[31mred\x07\x00", "\u202etxt.exe\u2028\u200b".encode(), b"\xff\xfe not UTF-8", b"javascript:document.title='taken'",
+    b"<img src=x onerror=\"document.title = 'taken'\">", b"<!-- <script> -->", b"]]>&lt;b&gt;",
+    b"\"' onmouseover=alert(1) x='",
+    b"\x1b[31mred\x07\x00", "\u202etxt.exe\u2028\u200b".encode(), b"\xff\xfe not UTF-8",
+    b"javascript:document.title='taken'",
     b"${document.title = 'taken'}", b"{{constructor.constructor('document.title=1')()}}",
 ]  # fmt: skip
 ANY = len(files.Capture((SAMPLES / "any.pcap").read_bytes()).packets)
-KEPT, NOT_KEPT, REJECTED = "matches", "doesn't match", "is rejected"
+# The verdicts of an expression on a packet.
+KEPT = "matches"
+NOT_KEPT = "doesn't match"
+REJECTED = "is rejected"
 
+# Scripts that run in the page. This one puts a text into an element.
 FILL = """((id, text) => {
   const it = document.getElementById(id);
   it.value = text;
   it.dispatchEvent(new Event(it.tagName === "SELECT" ? "change" : "input"));
 })(arguments[0], arguments[1])"""
 TEXTS = "[...document.querySelectorAll(arguments[0])].map((it) => it.textContent)"
-ROWS = """[...document.querySelectorAll(arguments[0] + " tr.ran")].map((row) => [...row.cells].map((cell) => cell.textContent))"""
+ROWS = (
+    """[...document.querySelectorAll(arguments[0] + " tr.ran")]"""
+    """.map((row) => [...row.cells].map((cell) => cell.textContent))"""
+)
 # The places of the bytes that are marked.
 MARKED = """[...document.querySelectorAll(arguments[0])].map((mark) => {
   const range = document.createRange();
@@ -60,8 +80,14 @@ MARKED = """[...document.querySelectorAll(arguments[0])].map((mark) => {
   const rows = range.toString().split("\\n");
   return 16 * (rows.length - 1) + Math.floor((rows[rows.length - 1].length - 6) / 3);
 })"""
-PARTS = """[...document.querySelectorAll("#tree-0 li")].map((it) => [it.children[0].textContent, it.children[1].textContent])"""
-PROGRAM = """[...document.querySelectorAll("#rows-0 tr")].map((row) => `${row.cells[1].textContent} ${row.cells[2].textContent}`)"""
+PARTS = (
+    """[...document.querySelectorAll("#tree-0 li")]"""
+    """.map((it) => [it.children[0].textContent, it.children[1].textContent])"""
+)
+PROGRAM = (
+    """[...document.querySelectorAll("#rows-0 tr")]"""
+    """.map((row) => `${row.cells[1].textContent} ${row.cells[2].textContent}`)"""
+)
 # The marked boxes of a picture of ways, and the line of the marked ways.
 PICTURE = """[[...document.querySelectorAll(arguments[0] + " .on-way text")].map((it) => it.textContent.slice(0, 5)),
   document.querySelector(arguments[0] + " path.on-way").getAttribute("d")]"""
@@ -84,15 +110,19 @@ TRIED = """(async (address) => {
   return refused.sort();
 })(arguments[0])"""
 # A page that may do so.
-OTHER = f"""<script>fetch("{browser.NOWHERE}").catch(() => {{ document.title = "asked"; }});</script><script>nothing();</script>"""
+OTHER = (
+    f"""<script>fetch("{browser.NOWHERE}").catch(() => {{ document.title = "asked"; }});</script>"""
+    "<script>nothing();</script>"
+)
 
 
 def register(value):
+    """Returns the text that the page shows for a register."""
     return str(value) if value < 10 else f"{value:#x} = {value}"
 
 
 def steps_of(listing, packet):
-    """Before each step of a run: the index, A and X; and how the run ends."""
+    """Returns the index, A and X before each step of a run, and how the run ends."""
     run = machine.Machine(packet.data, packet.original)
     try:
         verdict = KEPT if run.run(machine.program_of(listing)) else NOT_KEPT
@@ -102,7 +132,7 @@ def steps_of(listing, packet):
 
 
 def drawn_ways(line):
-    """The ways that a line of the picture has: from which row to which, by the pixels of web/ways.js."""
+    """Returns the jumps that a line of the picture shows, as pairs of rows, by the coordinates in web/ways.js."""
     ways = []
     for piece in line.split("M")[1:]:
         start, down, end = re.match(r"[\d.]+ ([\d.]+)(?:(v6)|H[\d.]+V([\d.]+)H)", piece).groups()
@@ -112,7 +142,7 @@ def drawn_ways(line):
 
 
 def goes_of(listing, steps):
-    """Which way each step of a run goes, if there are two."""
+    """Returns the branch that each step of a run takes, if it has two."""
     program, goes = machine.program_of(listing), []
     for (index, _, _), (after, _, _) in zip(steps, steps[1:]):
         code, jt, jf, _ = program[index]
@@ -121,10 +151,14 @@ def goes_of(listing, steps):
 
 
 def verdict_of(text, packet):
-    """What an expression says of a packet, by its definition."""
+    """Returns the verdict of an expression on a packet, by its definition."""
     try:
         tree = filters.tree_of(text)
-        return KEPT if tree == ("all",) or filters.Reading(packet.link, packet.data, packet.original).holds(tree) else NOT_KEPT
+        return (
+            KEPT
+            if tree == ("all",) or filters.Reading(packet.link, packet.data, packet.original).holds(tree)
+            else NOT_KEPT
+        )
     except filters.Rejected:
         return REJECTED
 
@@ -135,7 +169,7 @@ LOADED = {"ld": 4, "ldh": 2, "ldb": 1, "ldxb": 1}
 
 
 def places_of(text, x):
-    """The places of the bytes that an instruction loads."""
+    """Returns the offsets of the bytes that an instruction loads."""
     if not (load := LOAD.match(text)):
         return range(0)
     start = int(load[3]) + (x if load[2] else 0)
@@ -154,6 +188,7 @@ class Page:
         driver.wait("document.querySelector('#reasons .reason') || document.querySelector('#about.bad')")
 
     def equal(self, what, shown, expected):
+        """Counts a comparison, and prints it if what the page shows differs."""
         Page.count += 1
         if shown != expected:
             Page.wrong += 1
@@ -163,6 +198,7 @@ class Page:
         self.equal(what, bool(holds), True)
 
     def texts(self, selector):
+        """Returns the texts of the elements of a selector."""
         return self.value(TEXTS, selector)
 
     def text(self, selector):
@@ -173,14 +209,16 @@ class Page:
         self.value(FILL, f"{name}-{place}" if name in ("text", "kind") else name, text)
 
     def show(self, which):
+        """Chooses the packets that the list shows."""
         self.fill(which, name="show")
 
     def packets(self, which):
-        """The numbers of the packets that the list has at a choice of `Show`."""
+        """Returns the numbers of the packets in the list under a choice of `Show`."""
         self.show(which)
         return self.value("[...document.querySelectorAll('[role=option]')].map((it) => Number(it.id.slice(7)))")
 
     def sample(self, name):
+        """Opens a sample, and waits until it is read."""
         self.fill(name, name="sample")
         self.driver.wait("document.getElementById('about').textContent.startsWith(arguments[0])", f"{name}:")
 
@@ -188,16 +226,17 @@ class Page:
         """Gives the page a file; waits until its packets are counted."""
         self.value("document.getElementById('about').textContent = ''")
         self.driver.type("#file", path)
-        self.driver.wait("/packets?/.test(document.getElementById('about').textContent) && document.getElementById('message-0').textContent.includes(arguments[0])",
+        self.driver.wait("/packets?/.test(document.getElementById('about').textContent) && "
+                         "document.getElementById('message-0').textContent.includes(arguments[0])",
                          f"of {count:,} packet" if count is not None else "")
 
     def run(self, *words):
-        """What the program writes."""
+        """Returns the output of the program."""
         done = subprocess.run([self.capkit, *words], capture_output=True, check=False, cwd=self.folder)
         return done.stdout
 
     def saved(self, place=0):
-        """The file that the page saves."""
+        """Returns the file that the page saves."""
         before = set(self.folder.iterdir())
         self.driver.click(f"#save-{place}")
         end = time.monotonic() + 60
@@ -211,7 +250,9 @@ class Page:
         return None
 
     def same_file(self, capture, text, *words):
-        """Compares what is saved with what `capkit print -w` writes; that writes no file if it fails before the first match."""
+        """Compares a saved file with the output of `capkit print -w`, which writes no file if it
+        fails before the first match.
+        """
         made, what = self.folder / "made", f"saved: {pathlib.Path(capture).name} {text[:60]!r}"
         made.unlink(missing_ok=True)
         self.run("print", *words, "-w", made, capture, *([text] if text else []))
@@ -236,37 +277,52 @@ def check_packet(page, number, packet, listings):
     shown = bytes.fromhex("".join(line[6:55] for line in lines))
     page.equal(f"{what}: bytes", shown, packet.data[:4096])
     sizes = [f"{it:,} byte{'' if it == 1 else 's'}" for it in (len(packet.data), packet.original)]
-    page.equal(f"{what}: facts", page.texts("#facts dd")[:3], [*sizes, LINKS.get(packet.link, f"link type {packet.link}")])
+    page.equal(
+        f"{what}: facts", page.texts("#facts dd")[:3], [*sizes, LINKS.get(packet.link, f"link type {packet.link}")]
+    )
     reasons, read = page.texts("#reasons .reason"), set()
     for place, (listing, reason) in enumerate(zip(listings, reasons)):
         steps, verdict = steps_of(listing, packet)
         rows, goes = page.value(ROWS, f"#rows-{place}"), goes_of(listing, steps)
-        expected = [[str(at), f"({index:03})", register(a), register(x), way] for at, ((index, a, x), way) in enumerate(zip(steps, goes), 1)]
+        expected = [
+            [str(at), f"({index:03})", register(a), register(x), way]
+            for at, ((index, a, x), way) in enumerate(zip(steps, goes), 1)
+        ]
         page.equal(f"{what}: rows", [[row[0], row[1], *row[4:7]] for row in rows], expected)
         if len(machine.program_of(listing)) <= MOST_DRAWN:
             indexes = [index for index, _, _ in steps]
             boxes, line = page.value(PICTURE, f"#picture-{place}")
             page.equal(f"{what}: boxes", boxes, [f"({it:03})" for it in sorted(set(indexes))])
             page.equal(f"{what}: ways", drawn_ways(line), list(zip(indexes, indexes[1:])))
-        page.true(f"{what}: {reason}", reason.startswith("It " + verdict) and reason.endswith(f" {len(steps):,} step{'s' * (len(steps) > 1)}."))
+        page.true(
+            f"{what}: {reason}",
+            reason.startswith("It " + verdict) and reason.endswith(f" {len(steps):,} step{'s' * (len(steps) > 1)}."),
+        )
         for (_, _, x), row in zip(steps, rows):
             read.update(places_of(row[2], x))
-    page.equal(f"{what}: marks", page.value(MARKED, "#bytes mark"), sorted(it for it in read if it < min(len(packet.data), 4096)))
+    page.equal(
+        f"{what}: marks",
+        page.value(MARKED, "#bytes mark"),
+        sorted(it for it in read if it < min(len(packet.data), 4096)),
+    )
 
 
 def check_parts(page, number, packet):
-    """Each part of the tree says of a packet what its definition says, unless it isn't evaluated."""
+    """Compares the result of each part of the tree with its definition, if the part was evaluated."""
     for text, outcome in page.value(PARTS):
         if text not in ("and", "or", "not") and outcome != "not evaluated":
             page.equal(f"packet {number}: {text}", outcome[2:], verdict_of(text, packet))
 
 
 def listing_of(page, text, *words):
+    """Returns the listing that the program prints for an expression."""
     return page.run("compile", *words, text)
 
 
 def check_picture(page, listing):
-    """Each way of a program is in the picture: the first jump to an instruction as a whole line, and later ones up to that line."""
+    """Checks that the picture has each branch of a program: the first jump to an instruction as a
+    whole line, later ones up to that line.
+    """
     wanted = set()
     for index, (code, jt, jf, k) in enumerate(machine.program_of(listing)):
         if code & 7 == 5:
@@ -274,7 +330,10 @@ def check_picture(page, listing):
             wanted |= {(way, index, index + 1 + by) for way, by in ways}
         elif code & 7 != 6:
             wanted.add(("next", index, index + 1))
-    lines = page.value("[...document.querySelectorAll('#picture-0 path:not(.on-way)')].map((it) => [it.getAttribute('class'), it.getAttribute('d')])")
+    lines = page.value(
+        "[...document.querySelectorAll('#picture-0 path:not(.on-way)')].map((it) => "
+        "[it.getAttribute('class'), it.getAttribute('d')])"
+    )
     shown, rails = set(), []
     for way, line in lines:
         if "H" not in line or "V" in line:
@@ -285,14 +344,22 @@ def check_picture(page, listing):
         if "H" in line and "V" not in line:
             start, rail = re.fullmatch(r"M[\d.]+ ([\d.]+)H([\d.]+)", line).groups()
             source = (float(start) - 21) / 26
-            shown |= {(way, source, target) for *known, first, target in rails if known == [way, rail] and first < source < target}
+            shown |= {
+                (way, source, target)
+                for *known, first, target in rails
+                if known == [way, rail] and first < source < target
+            }
     page.equal("ways", shown, wanted)
 
 
 def check_day(page):
-    """Each packet of a capture: its line, bytes, run, marks, parts and reason."""
+    """Checks each packet of a capture: its line, bytes, run, marks, parts and reason."""
     page.fill(FIRST)
-    page.equal("meaning", page.text("#meaning-0"), "((tcp src or dst port 80) or (tcp src or dst port 443)) and (src or dst host 10.0.0.5)")
+    page.equal(
+        "meaning",
+        page.text("#meaning-0"),
+        "((tcp src or dst port 80) or (tcp src or dst port 443)) and (src or dst host 10.0.0.5)",
+    )
     page.equal("all", len(page.packets("all")), 44)
     check_picture(page, listing_of(page, FIRST))
     day = files.Capture((SAMPLES / "day.pcap").read_bytes())
@@ -314,15 +381,19 @@ def check_day(page):
     page.packets("all")
     page.driver.click("#packet-1")
     outcomes = dict(page.value(PARTS))
-    page.equal("an ARP packet", [outcomes[it][0] for it in ("and", "or", "ip", "arp", "tcp")], ["✗", "✓", "✗", "✓", "✗"])
+    page.equal(
+        "an ARP packet", [outcomes[it][0] for it in ("and", "or", "ip", "arp", "tcp")], ["✗", "✓", "✗", "✓", "✗"]
+    )
     page.fill("")
     page.true("the empty expression", "every packet matches" in page.text("#meaning-0"))
     page.equal("the empty expression", len(page.packets("+")), 44)
 
 
 REFUSED = [
-    ("tcp prt 80", "unknown word (at byte 5)", "prt"), ("tcp ?", "unknown character (at byte 5)", "?"), ("é", "unknown character (at byte 1)", "é"),
-    ("ip host 10.0.0.1 or ü", "unknown character (at byte 21)", "ü"), ("len > 5000000000", "number too large (at byte 7)", "5000000000"),
+    ("tcp prt 80", "unknown word (at byte 5)", "prt"), ("tcp ?", "unknown character (at byte 5)", "?"),
+    ("é", "unknown character (at byte 1)", "é"),
+    ("ip host 10.0.0.1 or ü", "unknown character (at byte 21)", "ü"),
+    ("len > 5000000000", "number too large (at byte 7)", "5000000000"),
     ("tcp port", "not an expression", "tcp port"), ("(" * 101 + "tcp" + ")" * 101, "nested too deep", None),
     ("host 80", "qualifiers do not fit", "host 80"), ("port 70000", "value out of range", "port 70000"),
     ("net 10.0.0.1/8", "bits set past the mask", "net 10.0.0.1/8"), ("len / 0 = 1", "division by zero", "len / 0 = 1"),
@@ -332,7 +403,7 @@ REFUSED = [
 
 
 def check_refused(page):
-    """Refused expressions: why, and underlined where; the results of the one before stay, as such."""
+    """Checks refused expressions: the reason, and the underlined place. Earlier results remain, marked as such."""
     page.fill("tcp port 80")
     for text, message, part in REFUSED:
         page.fill(text)
@@ -341,13 +412,20 @@ def check_refused(page):
         page.equal(f"{text[:30]!r}", told, message)
         page.equal(f"{text[:30]!r}: underlined", page.text("#mirror-0 u"), text if part is None else part)
         page.equal("as it is written", page.text("#mirror-0"), text + " ")
-        page.true("marked as such", page.value("document.body.classList.contains('refused') && document.getElementById('save-0').disabled"))
+        page.true(
+            "marked as such",
+            page.value("document.body.classList.contains('refused') && document.getElementById('save-0').disabled"),
+        )
         page.fill("tcp port 80")
         page.driver.wait("!document.getElementById('message-0').className.includes('bad')")
     page.equal("read again", len(page.packets("+")), 9)
     page.fill("tcp prt")
     page.sample("cooked.pcap")
-    page.equal("another capture while it is refused", [page.packets("+"), page.packets("all"), page.text("#packet")], [[], [1, 2], "Packet 1"])
+    page.equal(
+        "another capture while it is refused",
+        [page.packets("+"), page.packets("all"), page.text("#packet")],
+        [[], [1, 2], "Packet 1"],
+    )
     page.driver.click("#second")
     page.driver.click("#packet-2")
     page.fill("tcp", 1)
@@ -357,7 +435,8 @@ def check_refused(page):
 
 
 LISTINGS = [
-    ("", "not a listing (line 1)", ""), ("two\n", "not a listing (line 1)", "two"), ("2\n6 0 0 0\n", "not a listing", None),
+    ("", "not a listing (line 1)", ""), ("two\n", "not a listing (line 1)", "two"),
+    ("2\n6 0 0 0\n", "not a listing", None),
     ("1\n6 0 256 0\n", "not a listing (line 2)", "6 0 256 0"), ("0\n", "empty: no packet is run on it", None),
     ("2\n5 0 0 7\n6 0 0 0\n", "jump out (instruction 0): no packet is run on it", "5 0 0 7"),
     ("2\n0 0 0 1\n200 0 0 0\n", "unknown code (instruction 1): no packet is run on it", "200 0 0 0"),
@@ -387,13 +466,25 @@ def check_listing(page):
     for text, message, part in LISTINGS:
         page.fill(text)
         told = page.text("#message-0")
-        page.true(f"{text!r}: {told}", told.startswith(message) and page.value("document.getElementById('message-0').className.includes('bad')"))
+        page.true(
+            f"{text!r}: {told}",
+            told.startswith(message) and page.value("document.getElementById('message-0').className.includes('bad')"),
+        )
         if part is not None:
             page.equal(f"{text!r}: underlined", page.text("#mirror-0 u"), part)
-    for text in ("tcp port 80", "ip6 host ::1 or arp", "len > 9 and ether[0] & 1 = 0", "vlan") if shutil.which("tcpdump") else ():
-        theirs, expected = (subprocess.run(["tcpdump", "-y", "EN10MB", it, text], capture_output=True, check=True).stdout for it in ("-ddd", "-d"))
+    for text in (
+        "tcp port 80", "ip6 host ::1 or arp", "len > 9 and ether[0] & 1 = 0", "vlan"
+    ) if shutil.which("tcpdump") else ():
+        theirs, expected = (
+            subprocess.run(["tcpdump", "-y", "EN10MB", it, text], capture_output=True, check=True).stdout
+            for it in ("-ddd", "-d")
+        )
         page.fill(theirs.decode())
-        page.equal(f"as tcpdump -d shows {text}", page.value(PROGRAM), [" ".join(line.split()) for line in expected.decode().splitlines()])
+        page.equal(
+            f"as tcpdump -d shows {text}",
+            page.value(PROGRAM),
+            [" ".join(line.split()) for line in expected.decode().splitlines()],
+        )
     every = b"2\n%d 0 0 0\n6 0 0 1\n"
     for code in range(256):
         page.fill((every % code).decode())
@@ -403,12 +494,13 @@ def check_listing(page):
 
 
 def write(page, name, data):
+    """Writes a file into the folder of the page, and returns its path."""
     (page.folder / name).write_bytes(data)
     return page.folder / name
 
 
 def check_beside(page):
-    """Two filters side by side: on which packets they differ, and the runs of both."""
+    """Checks two filters side by side: the packets on which they differ, and the runs of both."""
     other = "tcp port 80 or (443 and host 10.0.0.6)"
     page.fill(FIRST)
     page.driver.click("#second")
@@ -425,7 +517,9 @@ def check_beside(page):
     page.run("print", "-w", made, SAMPLES / "day.pcap", other)
     page.true("filter B is saved", page.saved(1) == made.read_bytes())
     page.show("all")
-    page.equal("marked", page.value("[...document.querySelectorAll('.differs')].map((it) => Number(it.id.slice(7)))"), differ)
+    page.equal(
+        "marked", page.value("[...document.querySelectorAll('.differs')].map((it) => Number(it.id.slice(7)))"), differ
+    )
     page.driver.click("#second")
     page.equal("one again", page.texts("h2")[1], "Filter")
 
@@ -441,15 +535,26 @@ def check_steps(page):
             page.driver.click(button)
             page.equal(f"{button}: row", page.texts("tr.here > :first-child"), [number])
             end = "" if words.endswith("?") else "."
-            page.equal(f"{button}: told", page.text("#step"), f"Step {number}. {index} {text}: {words}{end} Before it A is {a} and X is {x}.")
-            page.equal(f"{button}: in the picture", page.texts("#picture-0 .here text"), [f"{index} {text.split(' jt ')[0]}"])
-            page.equal(f"{button}: framed", page.value(MARKED, "#bytes mark.now"), [*places_of(text, int(x.split("= ")[-1]))])
+            page.equal(
+                f"{button}: told",
+                page.text("#step"),
+                f"Step {number}. {index} {text}: {words}{end} Before it A is {a} and X is {x}.",
+            )
+            page.equal(
+                f"{button}: in the picture", page.texts("#picture-0 .here text"), [f"{index} {text.split(' jt ')[0]}"]
+            )
+            page.equal(
+                f"{button}: framed", page.value(MARKED, "#bytes mark.now"), [*places_of(text, int(x.split("= ")[-1]))]
+            )
 
 
 def check_captures(page):
-    """Damaged and cut captures, an empty one, link types without filters, and several link types."""
+    """Checks captures that are damaged, cut or empty, without known link types, or with several."""
     page.fill("tcp")
-    for name, count, told in (("damaged.pcap", 30, "it is damaged at byte 2631 (too long)"), ("truncated.pcap", 1, "it is damaged at byte 82 (truncated)")):
+    for name, count, told in (
+        ("damaged.pcap", 30, "it is damaged at byte 2631 (too long)"),
+        ("truncated.pcap", 1, "it is damaged at byte 82 (truncated)"),
+    ):
         page.load(SAMPLES / name, count)
         about = page.text("#about")
         page.true(about, about.startswith(name) and told in about)
@@ -458,7 +563,10 @@ def check_captures(page):
     page.true(page.text("#about"), page.text("#about").endswith("24 bytes, 0 packets"))
     page.equal("its program", len(page.texts("#rows-0 tr")) > 3, True)
     page.same_file(page.folder / "empty.pcap", "tcp")
-    for name, data, told in (("none", b"", "it is damaged at byte 0"), ("text", b"this isn't a capture", "it is damaged at byte 0 (not a capture file)")):
+    for name, data, told in (
+        ("none", b"", "it is damaged at byte 0"),
+        ("text", b"this isn't a capture", "it is damaged at byte 0 (not a capture file)"),
+    ):
         page.load(write(page, name, data), 0)
         page.true(page.text("#about"), told in page.text("#about"))
     page.load(SAMPLES / "any.pcap", ANY)
@@ -478,12 +586,20 @@ def check_captures(page):
         page.true("program", page.text("#count-0").endswith(f"instructions, for {link}"))
     chance = random.Random(96)
     for place in range(20):
-        data = bytearray((SAMPLES / chance.choice(["day.pcap", "comments.pcapng", "two-sections.pcapng", "mirror.pcap"])).read_bytes())
+        data = bytearray(
+            (
+                SAMPLES / chance.choice(["day.pcap", "comments.pcapng", "two-sections.pcapng", "mirror.pcap"])
+            ).read_bytes()
+        )
         data[chance.randrange(len(data))] ^= 1 << chance.randrange(8)
         capture = files.Capture(bytes(data))
         page.load(write(page, f"flipped-{place}", data), len(capture.packets))
         about = page.text("#about")
-        fault = f"; it is damaged at byte {capture.at} ({capture.fault}), so nothing is read from there on" if capture.fault else ""
+        fault = (
+            f"; it is damaged at byte {capture.at} ({capture.fault}), so nothing is read from there on"
+            if capture.fault
+            else ""
+        )
         page.true(f"{about}: {fault}", about.endswith(f"packet{'' if len(capture.packets) == 1 else 's'}{fault}"))
         page.fill("")
         shown = [re.search(r"\d+  (.*)", line)[1] for line in page.texts("[role=option]")]
@@ -491,7 +607,9 @@ def check_captures(page):
 
 
 def check_mixed(page):
-    """A packet of a link type without filters between two others: `capkit print` stops there, and the page goes on."""
+    """Checks a packet of an unknown link type between two others: `capkit print` stops there, and
+    the page continues.
+    """
     first, other, last = files.Capture((SAMPLES / "day.pcap").read_bytes()).packets[4:7]
     captures = {"mixed.pcapng": [first, dataclasses.replace(other, link=276), last], "others.pcapng": [first, last]}
     for name, packets in captures.items():
@@ -514,8 +632,9 @@ def check_mixed(page):
 
 
 def check_saved(page):
-    """Saved files are those of `capkit print -w`, byte for byte."""
-    for name in ("day.pcap", "comments.pcapng", "two-sections.pcapng", "damaged.pcap", "truncated.pcap", "nanoseconds.pcap", "big-endian.pcap",
+    """Checks that saved files are those of `capkit print -w`, byte for byte."""
+    for name in ("day.pcap", "comments.pcapng", "two-sections.pcapng", "damaged.pcap", "truncated.pcap",
+                 "nanoseconds.pcap", "big-endian.pcap",
                  "four.pcap", "cooked.pcap", "mirror.pcap", "tagged.pcap"):  # fmt: skip
         page.load(SAMPLES / name, len(files.Capture((SAMPLES / name).read_bytes()).packets))
         for text in ("", "tcp port 80", "not tcp", "len < 60", "arp or ip[8] > 63"):
@@ -527,7 +646,7 @@ def check_saved(page):
 
 
 def check_hostile(page):
-    """Markup and control characters of a capture are text, and the page fetches nothing."""
+    """Checks that markup and control characters of a capture are shown as text, and that the page fetches nothing."""
     writer = files.Writer("pcapng")
     for text in MARKUP:
         writer.put(files.Packet(1, 0, text, 10**9, len(text), text, text))
@@ -558,7 +677,7 @@ def tab_to(page, name):
 
 
 def check_keys(page):
-    """Only the keyboard: an expression, the list, steps, a second filter, saving."""
+    """Checks what needs only the keyboard: an expression, the list, steps, a second filter, saving."""
     page.value("document.querySelector('.skip').focus()")
     tab_to(page, "text-0")
     page.value("document.getElementById('text-0').select()")
@@ -579,10 +698,14 @@ def check_keys(page):
     page.driver.keys("a")
     page.equal("all", page.value("document.getElementById('show').value"), "all")
     tab_to(page, "list")
-    for key, number in (("Home", 1), ("ArrowDown", 2), ("PageDown", 12), ("ArrowUp", 11), ("End", 44), ("ArrowDown", 44), ("PageUp", 34)):
+    for key, number in (
+        ("Home", 1), ("ArrowDown", 2), ("PageDown", 12), ("ArrowUp", 11), ("End", 44), ("ArrowDown", 44), ("PageUp", 34)
+    ):
         page.driver.keys(key)
         page.equal(key, page.text("#packet"), f"Packet {number}")
-    page.equal("active", page.value("document.getElementById('list').getAttribute('aria-activedescendant')"), "packet-34")
+    page.equal(
+        "active", page.value("document.getElementById('list').getAttribute('aria-activedescendant')"), "packet-34"
+    )
     for key, step in (("n", "1"), ("n", "2"), ("n", "3"), ("p", "2")):
         page.driver.keys(key)
         page.equal(key, page.texts("tr.here > :first-child"), [step])
@@ -596,10 +719,14 @@ def check_keys(page):
 
 
 def check_address(page):
-    """What the address of the page names is opened."""
+    """Checks that the page opens what its address names."""
     page = Page(page.driver, "#filter=tcp+port+80&with=not+tcp+port+80&sample=short.pcap&packet=7")
     page.equal("packet", page.text("#packet"), "Packet 7")
-    page.equal("filters", page.value("[...document.querySelectorAll('textarea')].map((it) => it.value)"), ["tcp port 80", "not tcp port 80"])
+    page.equal(
+        "filters",
+        page.value("[...document.querySelectorAll('textarea')].map((it) => it.value)"),
+        ["tcp port 80", "not tcp port 80"],
+    )
     page.true("sample", page.text("#about").startswith("short.pcap"))
     page.value("location.hash = '#packet=8'")
     page.driver.wait("document.getElementById('packet').textContent === 'Packet 8'")
@@ -607,7 +734,8 @@ def check_address(page):
     page.driver.click("#packet-4")
     link = page.value("document.getElementById('address').hash")
     page = Page(page.driver, link)
-    page.equal("the link to what is shown", [page.text("#packet"), page.value("[...document.querySelectorAll('textarea')].map((it) => it.value)")],
+    page.equal("the link to what is shown",
+               [page.text("#packet"), page.value("[...document.querySelectorAll('textarea')].map((it) => it.value)")],
                ["Packet 4", ["udp or ip[8]=1", "not tcp port 80"]])
     page.true("its sample", page.text("#about").startswith("short.pcap"))
     page.load(SAMPLES / "day.pcap", 44)
@@ -615,18 +743,23 @@ def check_address(page):
 
 
 LESSONS = {
-    "day.pcap": {"tcp port 80": 9, "arp": 2, "udp": 4, "icmp": 4, "tcp": 34, "ip6": 2, "ip6 and udp": 2, "not port 53": 40,
+    "day.pcap": {"tcp port 80": 9, "arp": 2, "udp": 4, "icmp": 4, "tcp": 34, "ip6": 2, "ip6 and udp": 2,
+                 "not port 53": 40,
                  "not port 53 and not tcp and not udp": 6, "host 10.0.0.5 and tcp port 80 or 443": 18,
                  "host 10.0.0.5 and (tcp port 80 or 443)": 9, "tcp[13] & 2 = 0": 22, "not tcp[13] & 2 != 0": 32},
-    "short.pcap": {"tcp port 80": 0, "not tcp port 80": 10, "tcp port 80 or len < 60": 4, "len < 60 or tcp port 80": 34, "tcp": 34},
+    "short.pcap": {"tcp port 80": 0, "not tcp port 80": 10, "tcp port 80 or len < 60": 4,
+                   "len < 60 or tcp port 80": 34, "tcp": 34},
 }  # fmt: skip
 
 
 def check_lessons(page):
-    """What docs/TEACHING.md has students find, and the program that it shows."""
+    """Checks the results that docs/TEACHING.md has students find, and the program that it shows."""
     shown = re.search(r"```text\n(\(000\).*?)```", (ROOT / "docs" / "TEACHING.md").read_text(), re.DOTALL)[1]
     page.fill("tcp port 80")
-    rows = page.value("[...document.querySelectorAll('#rows-0 tr')].map((row) => [...row.cells].slice(1, 4).map((it) => it.textContent))")
+    rows = page.value(
+        "[...document.querySelectorAll('#rows-0 tr')].map((row) => [...row.cells].slice(1, "
+        "4).map((it) => it.textContent))"
+    )
     page.equal("the program", [" ".join(line.split()) for line in shown.splitlines()], [" ".join(row) for row in rows])
     page.packets("all")
     for number, steps in ((1, 4), (3, 5), (5, 12), (6, 10)):
@@ -642,7 +775,8 @@ def check_lessons(page):
     for sample, one, other, differ in (
         ("day.pcap", "host 10.0.0.5 and tcp port 80 or 443", "host 10.0.0.5 and (tcp port 80 or 443)", 9),
         ("day.pcap", "not host 10.0.0.5 and tcp", "not (host 10.0.0.5 and tcp)", ten),
-        ("day.pcap", "tcp[13] & 2 = 0", "not tcp[13] & 2 != 0", ten), ("short.pcap", "tcp port 80 or len < 60", "len < 60 or tcp port 80", 30),
+        ("day.pcap", "tcp[13] & 2 = 0", "not tcp[13] & 2 != 0", ten),
+        ("short.pcap", "tcp port 80 or len < 60", "len < 60 or tcp port 80", 30),
         ("short.pcap", "tcp port 80", "not tcp port 80", 10),
     ):  # fmt: skip
         page.sample(sample)
@@ -662,13 +796,17 @@ def check_lessons(page):
 
 
 def check_third_lesson(page):
-    """Listings side by side: tcpdump's before its optimizer and after it, and one without the test for later fragments."""
+    """Checks listings side by side: tcpdump's before and after its optimizer, and one without the
+    test for later fragments.
+    """
     page.sample("day.pcap")
     for place in (0, 1):
         page.fill("listing", place, "kind")
     for text, differ in (("tcp port 80", 0), ("ip[100] = 1 or ip[100] != 1", 37)) if shutil.which("tcpdump") else ():
         for place, options in enumerate((["-O"], [])):
-            theirs = subprocess.run(["tcpdump", "-y", "EN10MB", *options, "-ddd", text], capture_output=True, check=True).stdout
+            theirs = subprocess.run(
+                ["tcpdump", "-y", "EN10MB", *options, "-ddd", text], capture_output=True, check=True
+            ).stdout
             page.fill(theirs.decode(), place)
         page.equal(f"the listings of {text}", len(page.packets("differ")), differ)
     lines = listing_of(page, "tcp port 80").decode().splitlines()
@@ -683,21 +821,24 @@ def check_third_lesson(page):
 
 
 WORDS = [
-    ("udp dst port 53", ["A is the EtherType (2 bytes from byte 12)", "is the EtherType IPv4?", "is it a later fragment?",
+    ("udp dst port 53", ["A is the EtherType (2 bytes from byte 12)", "is the EtherType IPv4?",
+                         "is it a later fragment?",
                          "is the destination port 53?", "keep the packet", "don't keep it"]),
-    ("arp host 10.0.0.1", ["is the sender's IPv4 address 10.0.0.1?"]), ("net 10.0.0.0/8", ["is the source network 10.0.0.0/8?"]),
+    ("arp host 10.0.0.1", ["is the sender's IPv4 address 10.0.0.1?"]),
+    ("net 10.0.0.0/8", ["is the source network 10.0.0.0/8?"]),
     ("ip6 host ::1 or icmp[0] = 8 or len / 3 > 5", ["divide A by 3", "is the ICMP type 8?"]),
 ]  # fmt: skip
 
 
 def check_words(page):
-    """Instructions and reasons in words."""
+    """Checks instructions and reasons in words."""
     for text, wanted in WORDS:
         page.fill(text)
         words = page.texts("#rows-0 td:nth-child(4)")
         page.equal(f"{text}: in words", [it for it in wanted if it not in words], [])
     for text, number, told in (
-        ("net 10.0.0.0/8", 3, "is the source network 10.0.0.0/8? Yes, it is 10.0.0.5."), ("ether[0] = 255", 1, "Yes, it is 255 (0xff)."),
+        ("net 10.0.0.0/8", 3, "is the source network 10.0.0.0/8? Yes, it is 10.0.0.5."),
+        ("ether[0] = 255", 1, "Yes, it is 255 (0xff)."),
         ("len > 1000", 1, "is the length above 1000? No, it is 60."),
     ):  # fmt: skip
         page.fill(text)
@@ -707,7 +848,7 @@ def check_words(page):
 
 
 def check_many(page):
-    """1,000,000 packets: counts, times, the list, and what is saved."""
+    """Checks a capture of 1,000,000 packets: counts, times, the list, and the saved file."""
     capture = pathlib.Path(page.folder, "many.pcap")
     if not capture.exists():
         subprocess.run([sys.executable, ROOT / "bench" / "make_capture.py", capture, str(MANY)], check=True)
@@ -744,11 +885,15 @@ def check_many(page):
         start = time.monotonic()
         page.driver.keys(key)
         times.append(time.monotonic() - start)
-    print(f"{type(page.driver).__name__}: a packet is chosen in {1000 * sorted(times)[10]:.0f} ms (median), the driver's time included", flush=True)
+    print(
+        f"{type(page.driver).__name__}: a packet is chosen in {1000 * sorted(times)[10]:.0f} ms "
+        "(median), the driver's time included",
+        flush=True,
+    )
 
 
 def blocks(data):
-    """The enhanced packet blocks of a little-endian pcapng file."""
+    """Yields the enhanced packet blocks of a little-endian pcapng file."""
     place = 0
     while place < len(data):
         kind, size = struct.unpack_from("<II", data, place)
@@ -792,13 +937,15 @@ def check_long(page):
 
 
 def check_drop(page):
-    """Captures are dropped on the page: one, a damaged one, two at once; or not dropped."""
+    """Checks captures that are dropped on the page: one, a damaged one, two at once; or none."""
     where = page.value("location.href")
     for dragged in (["cooked.pcap"], ["damaged.pcap"], ["tagged.pcap", "day.pcap"]):
         paths, name = [SAMPLES / it for it in dragged], dragged[0]
         page.value("document.getElementById('about').textContent = ''")
         page.driver.drag("dragover", *paths)
-        page.equal("it is seen that it can be dropped", page.value("document.body.classList.contains('dropping')"), True)
+        page.equal(
+            "it is seen that it can be dropped", page.value("document.body.classList.contains('dropping')"), True
+        )
         page.driver.drag("drop", *paths)
         page.driver.wait("document.getElementById('about').textContent.includes('packet')")
         about = page.text("#about")
@@ -808,7 +955,9 @@ def check_drop(page):
         page.equal("no mark is left", page.value("document.body.classList.contains('dropping')"), False)
     page.driver.drag("dragover", SAMPLES / "day.pcap")
     page.value("document.body.dispatchEvent(new DragEvent('dragleave', { bubbles: true, cancelable: true }))")
-    page.equal("taken away", [page.text("#about"), page.value("document.body.classList.contains('dropping')")], [about, False])
+    page.equal(
+        "taken away", [page.text("#about"), page.value("document.body.classList.contains('dropping')")], [about, False]
+    )
     page.equal("the page stays", page.value("location.href"), where)
 
 
@@ -816,7 +965,7 @@ TRAP = "guarded(() => capkit.calls.capkit_text(1, 1n << 40n, 9n))()"
 
 
 def check_trap(page):
-    """A module that trapped is replaced."""
+    """Checks that a module which trapped is replaced."""
     page.driver.inside(TRAP)
     page.driver.wait("document.getElementById('about').className.includes('bad')")
     page.true(page.text("#about"), page.text("#about").endswith("open the capture again"))
@@ -834,11 +983,16 @@ FOCUSABLE = 'a[href],select,input,textarea,button:not(:disabled),[tabindex="0"]'
 SEEN = """(({ scrollWidth, clientWidth }) => [innerWidth, matchMedia("(prefers-color-scheme: dark)").matches, scrollWidth - clientWidth])(
   document.documentElement)"""
 # The names of those that are shown, and "" for each other one.
-REACHED = """[...document.querySelectorAll(arguments[0])].map((it) => (it.getClientRects().length ? it.id || it.className : ""))"""
+REACHED = (
+    """[...document.querySelectorAll(arguments[0])]"""
+    """.map((it) => (it.getClientRects().length ? it.id || it.className : ""))"""
+)
 
 
 def check_forms(page):
-    """Light and dark, 320 to 1,300 pixels, on paper; names, order, focus and contrast of its elements."""
+    """Checks light and dark, widths of 320 to 1,300 pixels, and paper; names, order, focus and
+    contrast of the elements.
+    """
     driver, script = page.driver, (HERE / "access.js").read_text()
     for text, beside in ((FIRST, None), (FIRST, "ip[2:2] - ((ip[0] & 0xf) << 2) > tcp[12] >> 2")):
         page.fill(text)
@@ -871,13 +1025,21 @@ def check_forms(page):
             page.true(f"the focus is seen: {name}", is_seen)
         page.equal("the order of Tab", met, wanted)
         driver.media("print")
-        page.equal("on paper", page.value("['.control', '.list'].filter((it) => getComputedStyle(document.querySelector(it)).display !== 'none')"), [])
+        page.equal(
+            "on paper",
+            page.value(
+                "['.control', '.list'].filter((it) => getComputedStyle(document.querySelector(it)).display !== 'none')"
+            ),
+            [],
+        )
         page.true("pages", len(driver.printed()) > 10_000)
         driver.media("")
 
 
 def check_quiet(page):
-    """Nothing was fetched, and no page had an error or a warning, in all that went before; what another page does is noticed."""
+    """Checks that nothing was fetched, and no page had an error or a warning so far; what another
+    page does is noticed.
+    """
     page.equal("fetched", page.driver.fetched(), [])
     expected = re.compile("Content.Security.Policy|violates the following")
     page.equal("faults", [it for it in page.driver.faults() if not expected.search(it)], [])
@@ -891,21 +1053,29 @@ def check_quiet(page):
 
 
 def check_layout(page_text):
-    """The offsets and numbers of capkit.js are those of capkit.h; returns how many are compared, and which differ."""
+    """Compares the offsets and numbers of capkit.js with those of capkit.h; returns how many there
+    are, and which differ.
+    """
     script = (ROOT / "web" / "capkit.js").read_text()
     layout = re.search(r"const LAYOUT = \{(.*?)\n\};", script, re.DOTALL)[1]
     numbers = re.search(r"const CAPKIT = \{(.*?)\};", script, re.DOTALL)[1]
     lines, claimed = [], []
     for struct_name, fields in re.findall(r"(\w+): \{ ([^}]*) \}", layout):
         for field, value in re.findall(r"(\w+): (\d+)", fields):
-            expression = f"sizeof(struct {struct_name})" if field == "bytes" else f"offsetof(struct {struct_name}, {field})"
+            expression = (
+                f"sizeof(struct {struct_name})" if field == "bytes" else f"offsetof(struct {struct_name}, {field})"
+            )
             claimed.append((f"{struct_name}.{field}", int(value), expression))
-    claimed += [(f"CAPKIT_{name}", int(value, 0), f"CAPKIT_{name}") for name, value in re.findall(r"(\w+): (\w+)", numbers)]
+    claimed += [
+        (f"CAPKIT_{name}", int(value, 0), f"CAPKIT_{name}") for name, value in re.findall(r"(\w+): (\w+)", numbers)
+    ]
     lines = "".join(f'printf("%llu\\n", (unsigned long long){expression});' for _, _, expression in claimed)
     with tempfile.TemporaryDirectory() as folder:
         program = pathlib.Path(folder, "layout")
         source = f"#include <stdio.h>\n#include <capkit.h>\nint main(void) {{ {lines} }}\n"
-        subprocess.run(["gcc", f"-I{ROOT}/library/include", "-x", "c", "-o", program, "-"], input=source.encode(), check=True)
+        subprocess.run(
+            ["gcc", f"-I{ROOT}/library/include", "-x", "c", "-o", program, "-"], input=source.encode(), check=True
+        )
         values = map(int, subprocess.run([program], capture_output=True, check=True).stdout.split())
     differ = [f"{name} is {value}, not {claim}" for (name, claim, _), value in zip(claimed, values) if claim != value]
     return len(claimed), differ
@@ -915,16 +1085,23 @@ PACKED = re.compile(r'(?<=<script type="text/plain" id=)("[^"]*">)([^<]*)')
 
 
 def unpacked(page):
-    """What a page's packed parts are, by their names, and the page without them: another zlib packs them in another way."""
+    """Returns the unpacked parts of a page by name, and the page without them: another version of
+    zlib packs them differently.
+    """
     parts = {name: gzip.decompress(base64.b64decode(text)) for name, text in PACKED.findall(page)}
     return parts, PACKED.sub(r"\1", page)
 
 
 def check_file(path):
-    """The page is small, its policy has only its own digests, and web/ makes it from its module; returns the faults."""
+    """Checks that the page is small, that its policy has only its own digests, and that web/ makes
+    it from its module; returns the faults.
+    """
     page = path.read_text()
     policy = re.search(r'Content-Security-Policy"\s+content="([^"]*)"', page)[1]
-    wanted = "default-src 'none'; script-src 'wasm-unsafe-eval' DIGEST; style-src DIGEST; base-uri 'none'; form-action 'none'"
+    wanted = (
+        "default-src 'none'; script-src 'wasm-unsafe-eval' DIGEST; style-src DIGEST; base-uri 'none'; "
+        "form-action 'none'"
+    )
     found = [f"{path.stat().st_size} bytes"] if path.stat().st_size >= MOST_BYTES else []
     found += [f"policy: {policy}"] if re.sub(r"'sha256-[A-Za-z0-9+/=]*'", "DIGEST", policy) != wanted else []
     made = make_page.page_of(unpacked(page)[0]['"module">'])
@@ -943,7 +1120,8 @@ def check_calls(page, path):
     page.equal("calls that differ", differ[:5], [])
 
 
-PARTS_OF_IT = [check_day, check_refused, check_listing, check_beside, check_steps, check_captures, check_saved, check_hostile, check_keys, check_address,
+PARTS_OF_IT = [check_day, check_refused, check_listing, check_beside, check_steps, check_captures, check_saved,
+               check_hostile, check_keys, check_address,
                check_lessons, check_long, check_drop, check_trap, check_forms, check_many, check_quiet]  # fmt: skip
 
 
@@ -956,7 +1134,9 @@ def main():
     parser.add_argument("--pictures", type=pathlib.Path, metavar="FOLDER")
     parser.add_argument("--browser", choices=["Chromium", "Firefox"], help="only this one")
     words = parser.parse_args()
-    Page.path, Page.capkit, Page.pictures = words.page.resolve(), pathlib.Path(words.capkit or built_program()).resolve(), words.pictures
+    Page.path, Page.capkit, Page.pictures = (
+        words.page.resolve(), pathlib.Path(words.capkit or built_program()).resolve(), words.pictures
+    )
     count, differ = check_layout(Page.path)
     found = differ + check_file(Page.path)
     print(*found, f"layout and file: {count + 3} looked at", sep="\n", flush=True)
@@ -972,7 +1152,11 @@ def main():
                 for part in [it for it in PARTS_OF_IT if words.only in it.__name__ and not words.calls]:
                     before, start = Page.count, time.monotonic()
                     part(Page(driver))
-                    print(f"{kind.__name__}: {part.__name__[6:]}: {Page.count - before} looked at, {time.monotonic() - start:.1f} s", flush=True)
+                    print(
+                        f"{kind.__name__}: {part.__name__[6:]}: {Page.count - before} looked at, "
+                        f"{time.monotonic() - start:.1f} s",
+                        flush=True,
+                    )
     print(f"{Page.count} looked at, {Page.wrong} wrong")
     return 1 if Page.wrong else 0
 

@@ -49,8 +49,10 @@ SCRIPT = "salvage.py"
 
 
 class Capture:
-    """A capture: its bytes, and the places of its packets. Packets of pcapng have two interfaces, one
-    with microseconds and one with nanoseconds."""
+    """A capture with its bytes and the places of its packets.
+
+    A pcapng capture has two interfaces: one in microseconds and one in nanoseconds.
+    """
 
     def __init__(self, packets, form, snap=262144):
         self.form, (self.kind, self.order) = form, form.split()
@@ -82,14 +84,16 @@ class Capture:
         return struct.pack(self.order + "II", kind, size) + body + struct.pack(self.order + "I", size)
 
     def packets(self, ranges=()):
-        """The packets, each with whether a byte of it, or of what is before all, is in a range."""
+        """Returns the packets, each with whether one of its bytes, or of the bytes before the first
+        packet, is in a range.
+        """
         is_all = any(begin < self.first for begin, end in ranges)
         return [(packet, is_all or any(low < end and begin < high for low, high in ranges))
                 for begin, end, packet in self.units]
 
 
 def packets_of(path):
-    """The packets of a pcap file with nanoseconds, lowest byte first."""
+    """Returns the packets of a little-endian pcap file in nanoseconds."""
     data = path.read_bytes() if path.exists() else b""
     packets, at = [], 24
     while at + 16 <= len(data):
@@ -102,17 +106,19 @@ def packets_of(path):
 # ---- captures
 
 def plain(chance, pool):
+    """Returns packets of a capture in a row."""
     packets = chance.choice(pool)
     begin = chance.randrange(max(1, len(packets) - 3000))
     return packets[begin : begin + chance.choice((20, 100, 500, 1000, 3000))]
 
 
 def snapped(chance, pool):
+    """Returns packets with a snap length of 96."""
     return [(when, original, data[:96]) for when, original, data in plain(chance, pool)]
 
 
 def jumping(chance, pool):
-    """A clock that is set: some times, each time, or once from 1970."""
+    """Changes times as if the clock had been set: some times, each time, or once from 1970."""
     packets, odds, found = plain(chance, pool), chance.choice((0.01, 0.3, 1)), []
     shift = -packets[0][0]
     for when, *rest in packets:
@@ -122,7 +128,7 @@ def jumping(chance, pool):
 
 
 def merged(chance, pool):
-    """Captures of other years, in turn."""
+    """Returns captures of several years, merged in turn."""
     packets, years = plain(chance, pool), [chance.randrange(10**9, 17 * 10**8) for _ in range(5)]
     return [(when % 10**15 + years[chance.randrange(5)] * 10**9, *rest) for when, *rest in packets]
 
@@ -135,7 +141,7 @@ def texts(chance, pool):
 
 
 def unset(chance, pool):
-    """A clock that wasn't set: all times are 0, or from 1970 on."""
+    """Changes times as if the clock had never been set: all are 0, or begin in 1970."""
     maker, begin = chance.choice((plain, snapped, numbers)), chance.choice((0, 0, chance.randrange(10**6)))
     packets, is_zero = maker(chance, pool), chance.random() < 0.5
     first = packets[0][0] - begin * 10**9
@@ -164,15 +170,17 @@ def capture(chance, forms=FORMS, makers=ALL):
 # ---- damages: each returns the bytes and the packets, with whether they are damaged
 
 def replaced(one, begin, end, what):
+    """Replaces a range of bytes; the packets in it are damaged."""
     return one.data[:begin] + what + one.data[end:], one.packets([(begin, max(end, begin + 1))])
 
 
 def whole(one):
+    """Returns a capture without damage."""
     return one.data, one.packets()
 
 
 def place(chance, one):
-    """A place in a capture, for some in its packets' headers."""
+    """Returns a random offset in a capture, for some inside a packet's header."""
     if chance.random() < 0.3:
         return chance.choice(one.units)[0] + chance.randrange(16)
     return chance.randrange(len(one.data))
@@ -192,17 +200,20 @@ def fractions(chance):
 
 
 def to_crlf(chance):
+    """Replaces each line feed by a carriage return and a line feed, as a transfer as text does."""
     one = capture(chance)
     packets = [(packet, b"\n" in one.data[begin:end]) for begin, end, packet in one.units]
     return one.data.replace(b"\n", b"\r\n"), packets
 
 
 def to_lf(chance):
+    """Removes the carriage returns before line feeds."""
     one = capture(chance)
     return one.data.replace(b"\r\n", b"\n"), one.packets([it.span() for it in re.finditer(b"\r\n", one.data)])
 
 
 def zeros_at_end(chance):
+    """Appends zeros to a capture, or to a prefix of it."""
     one = capture(chance)
     size = chance.randrange(1, len(one.data))
     end = chance.choice((size, len(one.data)))
@@ -211,26 +222,28 @@ def zeros_at_end(chance):
 
 
 def page(chance, one):
-    """The start and the end of a page of a capture."""
+    """Returns the start and the end of a page of a capture."""
     size = chance.choice((512, 4096, 16384))
     begin = chance.randrange(len(one.data)) // size * size
     return begin, min(begin + size, len(one.data))
 
 
 def paged(chance, new):
-    """Other bytes in place of a page."""
+    """Replaces a page by other bytes."""
     one = capture(chance)
     begin, end = page(chance, one)
     return replaced(one, begin, end, new(end - begin))
 
 
 def page_twice(chance):
+    """Repeats a page."""
     one = capture(chance)
     begin, end = page(chance, one)
     return one.data[:end] + one.data[begin:], one.packets([(begin, begin + 1), (end, end + 1)])
 
 
 def two_writers(chance):
+    """Mixes the pages of two captures, as if two programs wrote one file."""
     form = [chance.choice(FORMS[:4])]
     ones, size, data = [capture(chance, form), capture(chance, form)], chance.choice((4096, 65536)), b""
     for begin in range(0, max(len(it.data) for it in ones), size):
@@ -241,7 +254,7 @@ def two_writers(chance):
 
 
 def changed(chance, most, mask):
-    """Some bytes with other bits."""
+    """Changes bits in some bytes."""
     one, ranges = capture(chance), []
     for _ in range(chance.randrange(1, most)):
         at = place(chance, one)
@@ -251,13 +264,14 @@ def changed(chance, most, mask):
 
 
 def truncated(chance):
+    """Cuts off the end of a capture."""
     one = capture(chance)
     size = chance.randrange(4, len(one.data))
     return one.data[:size], one.packets([(size, len(one.data))])
 
 
 def length_broken(chance):
-    """One of the length fields of one to three packets."""
+    """Changes one of the length fields of one to three packets."""
     one, ranges = capture(chance), []
     for _ in range(chance.randrange(1, 4)):
         begin, end, _ = chance.choice(one.units)
@@ -270,6 +284,7 @@ def length_broken(chance):
 
 
 def concatenated(chance):
+    """Appends captures to each other, half of them cut."""
     data, packets = b"", []
     for _ in range(chance.randrange(2, 4)):
         one = capture(chance)
@@ -279,12 +294,14 @@ def concatenated(chance):
 
 
 def cut_out(chance):
+    """Removes some bytes."""
     one = capture(chance)
     begin = place(chance, one)
     return replaced(one, begin, min(begin + chance.randrange(1, 3000), len(one.data)), b"")
 
 
 def overwritten(chance, one=None):
+    """Overwrites some bytes."""
     one = one or capture(chance)
     begin = place(chance, one)
     end = min(begin + chance.randrange(1, 5000), len(one.data))
@@ -293,12 +310,12 @@ def overwritten(chance, one=None):
 
 
 def cuts_at(one, *places):
-    """What a cut damages: a packet, if the place isn't between two."""
+    """Returns what a cut damages: a packet, unless the cut is between two."""
     return [(place - 1, place + 1) for place in places if place < one.first or place not in one.starts]
 
 
 def in_pieces(chance, change):
-    """One to four pieces of a capture changed: how returns the new bytes, and what is damaged."""
+    """Changes one to four pieces of a capture: `change` returns the new bytes, and what is damaged."""
     one, data, damaged, at = capture(chance), b"", [], 0
     places = sorted(place(chance, one) for _ in range(2 * chance.randrange(1, 5)))
     for begin, end in zip(places[::2], places[1::2]):
@@ -345,7 +362,7 @@ def exchanged(chance):
 
 
 def start_gone(chance):
-    """The first bytes overwritten, missing, or after others."""
+    """Overwrites or removes the first bytes, or puts others before them."""
     one, size = capture(chance), chance.randrange(1, 2000)
     size = min(size, len(one.data))
     new = chance.choice((b"", bytes(size), chance.randbytes(size), one.data[:size]))
@@ -354,15 +371,16 @@ def start_gone(chance):
 
 
 def beginning_gone(chance):
-    """The first bytes missing, with another file that begins in the same way."""
+    """Removes the first bytes; returns another capture too, with the same file header, for --like."""
     one, size = capture(chance), chance.randrange(1, 3000)
     other = Capture(plain(chance, pool)[: chance.choice((0, 1, 50))], one.form)
     return one.data[size:], one.packets([(one.first, max(size, one.first))]), other.data
 
 
 def carried(chance):
-    """A capture that packets carry, of up to a day before them; damage stands right before one of those, for some
-    before that with the file header."""
+    """Makes a capture whose packets carry another capture, up to a day older; damage is right
+    before one of them, for some before one with the file header.
+    """
     form = chance.choice(FORMS)
     own = [chance.choice(pool)]
     later = 0 if own[0][0][0] > 10**17 else 15 * 10**17  # a clock that wasn't set
@@ -408,7 +426,7 @@ KINDS = {
 # ---- comparison
 
 def marks(packet, times):
-    """What a packet has that shows it, even if its bytes were damaged."""
+    """Yields marks that identify a packet, even if some of its bytes were damaged."""
     when, original, data = packet
     size = len(data)
     yield "time", when, size if times[when] > 1 else None
@@ -423,7 +441,7 @@ def marks(packet, times):
 
 
 def counts(read, packets, is_timed):
-    """How many of the packets that were read are true, again, changed and false; how many are missed."""
+    """Returns how many of the packets read are true, repeated, changed and false, and how many are missed."""
     key = (lambda it: it) if is_timed else (lambda it: it[1:])
     left = collections.Counter(key(packet) for packet, _ in packets)
     known = set(left)
@@ -487,8 +505,10 @@ def run_script(words, said):
 
 
 def try_file(data, packets, is_timed, like=b""):
-    """Runs the programs on one file: their counts, and what salvage.py did wrong, if it gets a file that
-    begins in the same way with that one."""
+    """Runs the programs on one file; returns their counts, and the faults of salvage.py.
+
+    `like` is a capture with the same file header, which salvage.py gets by --like.
+    """
     faults, results = [], {}
     with tempfile.TemporaryDirectory() as temporary:
         source = pathlib.Path(temporary) / "damaged"
@@ -535,12 +555,13 @@ def try_one(number, given):
 
 
 def keep(faults, given, name, data):
+    """Writes the bytes of a run with faults to the folder of --keep."""
     if faults and given.keep:
         (pathlib.Path(given.keep) / name).write_bytes(data)
 
 
 def try_sample(name, given):
-    """A sample whole in each format, as capkit's edit writes it, and its first 0 to 200 bytes."""
+    """Runs a sample whole in each format, as capkit's edit writes it, and without up to 200 of its first bytes."""
     data, faults = (ROOT / "samples" / name).read_bytes(), []
     with tempfile.TemporaryDirectory() as temporary:
         source, own, edited = (pathlib.Path(temporary) / it for it in ("in", "own", "edited"))
@@ -566,7 +587,7 @@ def try_sample(name, given):
 
 
 def captures_in(folder, path):
-    """The packets of each capture in a folder that has eight or more, each of a length."""
+    """Yields the packets of each capture in a folder that has eight or more, of various lengths."""
     for name in sorted(pathlib.Path(folder).iterdir()):
         done = subprocess.run(["capkit", "edit", "-F", "nsecpcap", name, path], capture_output=True)
         packets = packets_of(path) if done.returncode == 0 else []

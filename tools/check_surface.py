@@ -1,5 +1,7 @@
 #!/usr/bin/env python3
-"""Compares the public calls and types of the sources with tools/surface.txt, the list of those that other programs are written to.
+"""Compares the public calls and types of the sources with tools/surface.txt.
+
+That file lists those that other programs use. The gate runs this script.
 
 usage: check_surface.py      prints each difference; the status is 1 if there is any
 
@@ -16,7 +18,7 @@ LIST = ROOT / "tools" / "surface.txt"
 
 
 def plain(text):
-    """The text without comments, and with single blanks."""
+    """Returns a text without comments, and with single blanks."""
     text = re.sub(r"^\s*(//|#\[).*$", "", text, flags=re.MULTILINE)
     text = re.sub(r"\s+", " ", text).strip()
     text = re.sub(r",? ([)}])", r" \1", text)
@@ -24,7 +26,7 @@ def plain(text):
 
 
 def parts(text):
-    """The parts of a list between commas, those inside of brackets left whole."""
+    """Returns the parts of a list between its commas, without splitting what is inside brackets."""
     found, depth, start = [], 0, 0
     for at, sign in enumerate(text):
         depth += (sign in "([{<") - (sign in ")]}" or sign == ">" and text[at - 1] != "-")
@@ -35,7 +37,7 @@ def parts(text):
 
 
 def function(text):
-    """A function's types: those of its arguments in order, and of its result."""
+    """Returns the types of a function: those of its arguments, in order, and of its result."""
     head = re.split(r" (?:requires|ensures|where|ghost)\b| \{", plain(text))[0]
     rest = head[re.search(r"fn \w+(<(?:[^<>]|<[^<>]*>)*>)?", head).end():]
     end = end_of_group(rest, 0)
@@ -44,7 +46,7 @@ def function(text):
 
 
 def shown(kind, text):
-    """What the list has of an item after its path."""
+    """Returns the text in the list for an item, after its path."""
     if kind == "fn":
         return function(text)
     fields = parts(re.sub(r"//.*", "", text.partition("{")[2].rpartition("}")[0]))
@@ -54,17 +56,21 @@ def shown(kind, text):
 
 
 def methods(text):
-    """The methods of a trait, by name."""
+    """Returns the methods of a trait by name."""
     return {it[1]: function(it[0]) for it in re.finditer(r"fn (\w+)[^{]*?(?=;|\{|\n\s*(?:requires|ensures))", text)}
 
 
 def surface(sources):
-    """All public items of the sources as lines of the list, by path."""
+    """Returns the lines of the list for all public items of the sources, by path."""
     found = {}
     for key, paths in sources.public_paths().items():
         item = sources.items[key]
         if item.kind == "trait":
-            found |= {f"{path}::{name}": f"fn {path}::{name}{types}" for path in paths for name, types in methods(item.text()).items()}
+            found |= {
+                f"{path}::{name}": f"fn {path}::{name}{types}"
+                for path in paths
+                for name, types in methods(item.text()).items()
+            }
         elif item.kind in ("fn", "struct", "enum"):
             found |= {path: f"{item.kind} {path}{shown(item.kind, item.text())}" for path in paths}
     return found

@@ -1,15 +1,17 @@
 #!/usr/bin/env python3
-"""Lists private words in pages, comments, help texts and identifiers, each with the word of the field to write instead. It also
-lists definitions that have the name of another one, or a participle for a name. For everyone who writes here; the gate runs it.
+"""Lists private words in pages, comments, help texts and identifiers, each with the word of the
+field to write instead. It also lists definitions that have the name of another one, or a participle
+for a name. For everyone who writes here; the gate runs it.
 
 usage: check_words.py [FILE..]
 
 Without files it reads
 
-- pages, manual pages and templates: all except code (between backticks, in fenced blocks, in indented lines);
+- pages, manual pages and templates: all except code (between backticks, in fenced blocks, in
+  indented lines);
 - code and scripts: comments and docstrings;
-- the crates' src/ and specs/: identifiers too, and for the program's own crates the texts between double quotes, such as its help
-  and its messages.
+- the crates' src/ and specs/: identifiers too, and for the program's own crates the texts between
+  double quotes, such as its help and its messages.
 
 Words are found in capitals too, and if a line ends between two of them. The status is 1 if a word is found.
 """
@@ -24,7 +26,9 @@ from source_files import ROOT, blanked
 
 # Folders of pages and scripts; the crates have pages, src/ and specs/.
 FOLDERS = ["docs", "bench", "examples", "library", "packaging", "samples", "teach", "tools", "web", ".ci"]
-FILES = ["*.md", "capkit", "try", "crates.txt", "crates/*/README.md", "crates/*/src/**/*.rt", "crates/*/specs/**/*.antt"]
+FILES = [
+    "*.md", "capkit", "try", "crates.txt", "crates/*/README.md", "crates/*/src/**/*.rt", "crates/*/specs/**/*.antt"
+]
 # What a program made, which isn't read.
 MADE = {"out", "__pycache__"}
 # The crates whose texts a user of the program reads.
@@ -44,7 +48,7 @@ TEXTS = {".md", ".1", ".3", ".7", ".html"}
 UNREAD = {"capkit.html", "expressions.txt", "filter.txt", "surface.txt"}
 # Code between backticks, which may go on in the next line.
 QUOTED = re.compile(r"`(?:[^`\n]|\n(?!\n))*`")
-# A blank of a word also matches the end of a line, and `$` the end of a paragraph.
+# Patterns of words, each with what to write instead. A blank also matches the end of a line, and `$` the end of a paragraph.
 WORDS = [
     (r"\banswers? other than 0\b|\bsays yes\b", "accepts the packet, returns non-zero"),
     (r"\banswers (it|that fault|true|false|\d|E\d)|\banswers? (it|that) again\b", "returns"),
@@ -69,21 +73,28 @@ WORDS = [
     (r"\bso many\b", "the number's name"),
     (r"\b(come|comes|came) to\b", "is, becomes, reaches"),
     (r"\b(?:is|are|was|were|be) told\b|\btells?\b", "reports, shows, states; the reader learns"),
-    (r"\bleaves?\b(?! (?:out|off|alone|a network)\b| (?:it|them|the \w+) unchanged)", "doesn't change, keeps; contains afterwards; omits"),
-    (r"(?<!place )(?<!places )(?<!point )(?<!know )(?<!shows )(?<!stands )(?<!tokens )\bwhere (?:an?|the|it|that|there|no|its|nothing|memory|all|none|this|one|they)\b", "if, when, unless"),
+    (r"\bleaves?\b(?! (?:out|off|alone|a network)\b| (?:it|them|the \w+) unchanged)",
+     "doesn't change, keeps; contains afterwards; omits"),
+    (r"(?<!place )(?<!places )(?<!point )(?<!know )(?<!shows )(?<!stands )(?<!tokens )\bwhere "
+     r"(?:an?|the|it|that|there|no|its|nothing|memory|all|none|this|one|they)\b", "if, when, unless"),
     (r"(?:^|[.;:|] )Of (?!course\b)\w+", "the subject first; on, for, among"),
     (r"(?<!left )(?<!leave )(?<!stand )(?<!stands )(?<!is )\balone\b", "only, before what it limits"),
     (r"\balso (?:where|that|of|those|one|by|from|under|if|at|after|in|when|as)\b", "even if, including, too"),
     (r"(?<!here )\b(?:is|are|was|were) no (?!longer\b|more\b)\w+", "isn't a, aren't"),
     (r"\b(?:is|are|was|were) to (?!the\b|an?\b)\w+", "must, should, will"),
-    (r"(?<!many )\b(?:unit|test|run|file|block|bytes?|instructions?|steps?|ns|two|four|one|\d[\d,.]*) an? (?:call|packet|side|second|row|thousand|subject|type)\b"
+    (r"(?<!many )\b(?:unit|test|run|file|block|bytes?|instructions?|steps?|ns|two|four|one|\d[\d,.]*) an? "
+     r"(?:call|packet|side|second|row|thousand|subject|type)\b"
      r"|\bof (?:a )?processors?\b", "per packet; CPU minutes"),
     (r"\b(?:anew|dear(?:er|est)?|mended|needless|alike|nevertheless|beside|but for|some \d[\d,]*)\b",
      "again, expensive, fixed, unnecessary, the same, next to, except, about"),
-    (r"\b(?:is|are|was|were|reads?|looks?|written|printed|refused|reported|named|ends?|left) so\b(?! that| far| long| many)", "like this"),
+    (r"\b(?:is|are|was|were|reads?|looks?|written|printed|refused|reported|named|ends?|left) "
+     r"so\b(?! that| far| long| many)", "like this"),
     (r"\b(?:that|which|what|they) (?:is|are|was|were) there\b(?! for)|\bis there\b(?! for)", "exists, present"),
 ]
-WORDS = [(re.compile(word.replace(" ", r"\s").replace("$", r"(?=\n\n|\n?\Z)"), re.IGNORECASE), better) for word, better in WORDS]
+WORDS = [
+    (re.compile(word.replace(" ", r"\s").replace("$", r"(?=\n\n|\n?\Z)"), re.IGNORECASE), better)
+    for word, better in WORDS
+]
 # Words that no identifier has among those that it joins.
 IDENTIFIERS = {
     "heading": "file_header, section_header",
@@ -116,12 +127,12 @@ def definitions():
 
 
 def words_of(identifier):
-    """The words that an identifier joins, by underscores or capitals, in small letters."""
+    """Returns the words of an identifier in lower case; underscores and capitals separate them."""
     return [word.lower() for word in re.findall(r"[A-Z]?[a-z]+|[A-Z]+(?![a-z])", identifier)]
 
 
 def only_comments(text, comment):
-    """The text of comments, each in its lines; all else is left out."""
+    """Returns the text of comments in their own lines, without the code."""
     kept, at = "", 0
     for found in comment.finditer(text):
         start, end = found.span(found.lastindex)
@@ -130,7 +141,7 @@ def only_comments(text, comment):
 
 
 def without_code(text):
-    """A page without its fenced blocks and indented lines."""
+    """Returns a page without its fenced blocks and indented lines."""
     lines, is_fenced = [], False
     for line in text.splitlines():
         is_fenced ^= line.lstrip().startswith("```")
@@ -139,13 +150,13 @@ def without_code(text):
 
 
 def printed(path):
-    """The texts between double quotes of a file of code, line by line."""
+    """Returns the texts between double quotes in a file of code, line by line."""
     lines = path.read_text().splitlines()
     return "\n".join(". ".join(re.findall(r'"((?:[^"\\]|\\.)*)"', line.partition("// ")[0])) for line in lines)
 
 
 def readable(path):
-    """The text of a file's comments, or of a page, without code: line by line, blanks at their ends left out."""
+    """Returns the text of a file's comments, or of a page, without code: line by line, without trailing blanks."""
     text = path.read_text()
     if comment := COMMENTS.get(path.suffix) if path.parent.name != "pages" else None:
         text = only_comments(text, comment)
@@ -175,10 +186,17 @@ def names(path):
 
 
 def all_files():
-    """The files that are read if none is named."""
-    for path in sorted(path for pattern in [*FILES, *(f"{name}/**/*" for name in FOLDERS)] for path in ROOT.glob(pattern)):
+    """Yields the files to read if none is named."""
+    for path in sorted(
+        path for pattern in [*FILES, *(f"{name}/**/*" for name in FOLDERS)] for path in ROOT.glob(pattern)
+    ):
         is_known = path.suffix in COMMENTS or path.suffix in TEXTS or path.parent.name == "pages"
-        if is_known and path.is_file() and path.name not in UNREAD and not MADE.intersection(path.relative_to(ROOT).parts):
+        if (
+            is_known
+            and path.is_file()
+            and path.name not in UNREAD
+            and not MADE.intersection(path.relative_to(ROOT).parts)
+        ):
             yield path
 
 

@@ -1,9 +1,11 @@
 #!/usr/bin/env python3
-"""Prints what a promise means: its contracts, and all definitions that they rest on, as one text. For whoever judges a promise.
+"""Prints what a promise means: its contracts, and all definitions that they rest on, as one text.
+For whoever judges a promise.
 
 usage: meaning.py NAME
 
-NAME is the path of a function or type, such as cap_tools::run, or a promise: edit, print, merge, infos, compile, library.
+NAME is the path of a function or type, such as cap_tools::run, or a promise: edit, print, merge,
+infos, compile, library.
 
 A contract rests on the definitions, types and constants that its clauses and its signature name, on what these name,
 and so on: its closure. A type brings along how contracts see it (its `view`), a bound its trait, with the contracts
@@ -14,10 +16,11 @@ nothing. Which these are follows from `assignment`; each text names what it leav
 
 The text begins with the contract: what a definition names follows it, or is before it in its own file.
 
-Definitions that no promise rests on help proofs, private functions and other crates; they belong in specs/inside/, all
-others in specs/. check_model.py lists those in the wrong folder. Promises are the public contracts of the crates for users
-(all except those in BETWEEN), the laws, and those in PROMISED. The status is 1 if a name wasn't found, or if an import
-seems to be unused: then this script overlooked a form of the language.
+Definitions that no promise rests on help proofs, private functions and other crates; they belong in
+specs/inside/, all others in specs/. check_model.py lists those in the wrong folder. Promises are
+the public contracts of the crates for users (all except those in BETWEEN), the laws, and those in
+PROMISED. The status is 1 if a name wasn't found, or if an import seems to be unused: then this
+script overlooked a form of the language.
 """
 import argparse
 import collections
@@ -69,7 +72,7 @@ class Cases:
         self.never, self.alive, self.impossible = never, set(self.command), set()
 
     def has(self, piece):
-        """Whether the command reaches this equation, constructor or variant."""
+        """Returns whether the command reaches this equation, constructor or variant."""
         asked = piece.patterns | (piece.uses if piece.kind == "rule" else set())
         if any(len(use) == 4 and use[:3] in CHOICES and use not in self.alive for use in asked):
             return False
@@ -85,7 +88,7 @@ class Cases:
         return bool(new)
 
     def never_holds(self, item, pieces):
-        """Whether the cases that are left of a fact never hold."""
+        """Returns whether a fact can never be true with the cases that remain of it."""
         if any(piece.kind == "field" and piece.uses & self.impossible for piece in pieces):
             return True
         equations = [piece for piece in pieces if piece.kind == "equation"]
@@ -94,7 +97,7 @@ class Cases:
 
 
 def closure(sources, roots, cases=None):
-    """The items that these rest on, each with the pieces of it that count."""
+    """Returns the items that these rest on, each with the pieces of it that count."""
     while True:
         found, grows = reached(sources, roots, cases)
         if cases is None:
@@ -108,7 +111,7 @@ def closure(sources, roots, cases=None):
 
 
 def reached(sources, roots, cases):
-    """The same by the cases that are known so far; and whether there are more."""
+    """Does the same with the cases known so far; also returns whether new ones were found."""
     found, open_keys, grows = {}, list(roots), False
     while open_keys:
         key = open_keys.pop()
@@ -128,18 +131,18 @@ class Meaning:
         self.sources, self.paths = sources, sources.public_paths()
 
     def roots(self, name):
-        """The contracts of a path: those of a function, of a type's methods and ghost members, or of a crate."""
+        """Returns the contracts that a path has: a function, a type with its methods and ghost members, or a crate."""
         keys = [key for key, paths in self.paths.items() if key in self.sources.items
                 and any(path == name or re.match(rf"{re.escape(name)}(::| as )", path) for path in paths)]
         return [key for key in keys if is_contract(self.sources.items[key]) or len(keys) == 1]
 
     def of(self, name):
-        """The roots and the closure of a path or a promise."""
+        """Returns the roots and the closure of a path or a promise."""
         roots = self.roots({"library": "capkit_c"}.get(name, "cap_tools::run" if name in COMMANDS else name))
         return roots, closure(self.sources, roots, Cases(name, COMMANDS[name]) if name in COMMANDS else None)
 
     def closure_of(self, names):
-        """What several paths and promises rest on."""
+        """Returns the closure of several paths and promises together."""
         return {key: pieces for name in names for key, pieces in self.of(name)[1].items()}
 
     def misplaced(self):
@@ -154,17 +157,20 @@ class Meaning:
 
 
 def is_contract(item):
-    """Whether an item states something of its own: a function with clauses, a trait, or ghost members."""
+    """Returns whether an item states something of its own: a function with clauses, a trait, or ghost members."""
     return item.kind in ("trait", "ghosts") or item.kind == "fn" and re.search(r"\b(requires|ensures)\b", item.text())
 
 
 def is_promise(path):
+    """Returns whether a path is promised to users."""
     is_between = path.split("::")[0] in BETWEEN or path in STEPS
     return not is_between or "::law" in path or path in PROMISED
 
 
 def figures(sources, found):
-    """How many definitions of a closure specs/ has, and their lines, without comments and blank lines."""
+    """Returns the number of definitions that a closure has in specs/, and of their lines, without
+    comments and blank lines.
+    """
     texts = [[blanked(piece.text, "--") for piece in pieces] for key, pieces in found.items()
              if sources.items[key].path.suffix == ".antt"]
     return len(texts), sum(bool(line.strip()) for text in texts for piece in text for line in piece.split("\n"))
@@ -173,7 +179,7 @@ def figures(sources, found):
 # ---- the text
 
 def in_reading_order(sources, found, roots):
-    """The files of a closure: each in front of those that it uses, as far as they use each other in one direction."""
+    """Returns the files of a closure, each before those that it uses, as far as possible."""
     uses = collections.defaultdict(dict)
     for key, pieces in found.items():
         for use in sorted(use[:3] for piece in pieces for use in piece.uses if use[:3] in found):
@@ -194,7 +200,7 @@ def in_reading_order(sources, found, roots):
 
 
 def item_text(item, pieces):
-    """An item as in its file; if cases are left out, a line names them."""
+    """Returns the text of an item; if cases are left out, a line names them."""
     text = "\n".join(piece.text.strip("\n") for piece in pieces)
     names = dict.fromkeys(name for piece in item.pieces if piece not in pieces for name in case_names(piece))
     if not names:
@@ -206,7 +212,7 @@ def item_text(item, pieces):
 
 
 def case_names(piece):
-    """How a case that is left out is named: by its constructors of what a command chooses, else by its patterns."""
+    """Returns the name of a case that is left out: the constructors that a command chooses, else its patterns."""
     if piece.kind == "rule":
         return [use[3] for use in piece.patterns]
     chosen = sorted(use[3] for use in piece.patterns if use[:3] in CHOICES)
@@ -214,7 +220,7 @@ def case_names(piece):
 
 
 def heading(sources, path):
-    """What a file is called, and what it is about."""
+    """Returns the first lines on a file: its name and its first comment."""
     name = path.relative_to(ROOT / "crates")
     spec = next((it for it in sources.specs.values() if it.path == path), None)
     about = spec.head if spec else "\n".join(re.findall(r"^//! ?.*$", path.read_text(), re.MULTILINE))
@@ -222,7 +228,7 @@ def heading(sources, path):
 
 
 def text_of(meaning, name, roots, found):
-    """A promise's meaning as one text."""
+    """Returns the meaning of a promise as one text."""
     sources = meaning.sources
     parts = ["==== the contract" + "s" * (len(roots) > 1)]
     parts += [f"// {meaning.paths[key][0]}\n{item_text(sources.items[key], found[key])}" for key in sorted(roots)]
@@ -237,7 +243,10 @@ def text_of(meaning, name, roots, found):
 
 
 def library_lines(sources, found):
-    """What a closure names of std and other crates, by their modules. Signs are explained in docs/inside/CONTRACTS.md."""
+    """Returns the names that a closure uses of std and other crates, by module.
+
+    docs/inside/CONTRACTS.md explains signs.
+    """
     names = collections.defaultdict(set)
     for key, pieces in found.items():
         item = sources.items[key]

@@ -1,4 +1,7 @@
-"""Reads the files of the crates for other scripts: imports and definitions of specs/, uses and declarations of src/."""
+"""Reads the files of the crates, for other scripts.
+
+These are the imports and definitions of specs/, and the uses and declarations of src/.
+"""
 import collections
 import dataclasses
 import pathlib
@@ -17,7 +20,7 @@ CLAUSE = re.compile(r"(requires|ensures)\*?( +\w+)? *$|ghost \w+: *$")
 
 
 def blanked(text, comment):
-    """The text with its comments and the texts between quotes as blanks, each as long as before."""
+    """Returns a text in which comments and quoted texts are blanks of the same length."""
     def blank(found):
         return re.sub(r"[^\n]", " ", found[0])
 
@@ -25,7 +28,7 @@ def blanked(text, comment):
 
 
 def end_of_group(code, at):
-    """The place after the bracket that closes the one at this place."""
+    """Returns the place after the bracket that closes the one at this place."""
     depth = 0
     for place in range(at, len(code)):
         depth += (code[place] in "({[") - (code[place] in ")}]")
@@ -77,7 +80,7 @@ class Spec:
         return (self.crate, self.module, name)
 
     def names(self):
-        """The names that other files can import, with what they are a use of."""
+        """Returns the names that other files can import, and what each is a use of."""
         found = {name: self.key(name) for name in self.parts}
         found.update({ctor: (*self.key(name), ctor) for ctor, name in self.constructors.items()})
         return found
@@ -105,6 +108,7 @@ def imports_of(line, module_of):
 
 
 def without_attributes(text):
+    """Returns a text without its lines of attributes."""
     return "\n".join(line for line in text.split("\n") if not re.match(r"\s*#\[", line))
 
 
@@ -117,12 +121,12 @@ def use_tree(text):
 
 
 def each_of(found):
-    """What `path::{one, other}` names: the path before each."""
+    """Returns the paths that `path::{one, other}` names, with commas between them."""
     return ", ".join(found[1] + part.strip() for part in found[2].split(",") if part.strip())
 
 
 def header_end(code, at):
-    """The place of the brace or semicolon after a function's signature and clauses."""
+    """Returns the place of the brace or semicolon after a function's signature and clauses."""
     start = at
     while at < len(code):
         if code[at] in "([" or code[at] == "{" and CLAUSE.search(code[start:at]):
@@ -135,7 +139,7 @@ def header_end(code, at):
 
 
 def doc_start(text, at):
-    """The start of the comment and the attributes before a place."""
+    """Returns the start of the comment and the attributes before a place."""
     while at > 0:
         before = text.rfind("\n", 0, at - 1) + 1
         line = text[before:at].strip()
@@ -193,10 +197,11 @@ class Source:
         return self.text.count("\n", 0, place) + 1
 
     def cut(self, start, end):
+        """Returns a part of the file without attributes and indentation."""
         return textwrap.dedent(without_attributes(self.text[start:end]).strip("\n"))
 
     def variants(self, block):
-        """The variants of an enum, each with its place, to the next one."""
+        """Returns the variants of an enum with their places, each up to the next one."""
         inside = self.code[block.end_of_head + 1 : block.end - 1]
         places = [it.start(1) + block.end_of_head + 1 for it in re.finditer(r"^    ([A-Z]\w*)", inside, re.MULTILINE)]
         return [(re.match(r"\w+", self.code[place:])[0], place) for place in places]

@@ -1,9 +1,11 @@
-"""Reads what the crates define and promise, for other scripts: the definitions of specs/, and the types and contracts of src/,
-each with the names that it uses.
+"""Reads what the crates define and promise, for other scripts.
 
-An item has a key: its crate, its module and its name, such as ("cap_io", "specs.Text", "text"), so two definitions with the
-same name are two items. A use is the key of an item; that of a variant or constructor has its name after it. Definitions of
-std and of other crates aren't items.
+These are the definitions of specs/, and the types and contracts of src/, each with the names that
+it uses.
+
+An item has a key: its crate, its module and its name, such as ("cap_io", "specs.Text", "text"), so
+two definitions with the same name are two items. A use is the key of an item; that of a variant or
+constructor has its name after it. Definitions of std and of other crates aren't items.
 """
 import collections
 import dataclasses
@@ -27,7 +29,7 @@ FIELD_VALUE = re.compile(rf"(?<=[{{;])(\s*){WORD}(\s*=(?!=))")
 
 @dataclasses.dataclass
 class Piece:
-    """A part of an item that stands or falls by itself: a signature, one equation, one constructor."""
+    """A part of an item that is kept or dropped as a whole: a signature, one equation, one constructor."""
 
     text: str
     uses: set
@@ -53,21 +55,24 @@ class Item:
 
 
 def bound_names(code):
-    """The names that a term binds."""
+    """Returns the names that a term binds."""
     return {name for groups in BINDERS.findall(code) for group in groups for name in re.findall(WORD, group)}
 
 
 def split_import(line):
-    """An import of names of several modules, `use P.{A.b, A.c}`, as imports of one module each, `use P.A.{b}`."""
+    """Returns an import of names from several modules, `use P.{A.b, A.c}`, as imports from one
+    module each, `use P.A.{b}`.
+    """
     found = re.match(r"(.*?use )([\w.]+)\.\{(.*)\}", line, re.DOTALL)
     names = [name.strip() for name in found[3].split(",")] if found else []
     if not any(re.match(r"\w+\.", name) for name in names):
         return [line]
-    return ["{3}{0}.{{{2}}}".format(*f"{found[2]}.{name}".rpartition("."), found[1]) for name in names]
+    modules = [f"{found[2]}.{name}".rpartition(".") for name in names]
+    return [f"{found[1]}{module}.{{{name}}}" for module, _, name in modules]
 
 
 def used_names(code, scope, bound):
-    """The items that a term names, by the names in scope; a name after a point is a field."""
+    """Returns the items that a term names, by the names in scope; a name after a point is a field."""
     code = FIELD_VALUE.sub(r"\1 \2", code)
     found = set()
     for word in WORDS.findall(code):
@@ -79,7 +84,7 @@ def used_names(code, scope, bound):
 
 
 def named_by(target, fields):
-    """The uses that a name with fields means: an item, or what a module or a type of src/ has."""
+    """Returns the uses that a name with fields means: an item, or what a module or a type of src/ has."""
     while isinstance(target, dict):
         target = target.get(fields[0] if fields else "", target.get(""))
         fields = fields[1:]
@@ -87,7 +92,7 @@ def named_by(target, fields):
 
 
 def targets_of(target):
-    """All items that a name may mean."""
+    """Returns all items that a name may mean."""
     return {key for it in target.values() for key in targets_of(it)} if isinstance(target, dict) else {target}
 
 
@@ -98,7 +103,12 @@ class Sources:
         folders = sorted((ROOT / "crates").iterdir())
         crates = [it for it in folders if it.name not in left_out and (it / "src").exists()]
         self.crates = [it.name for it in crates]
-        specs = [path for crate in crates for path in sorted((crate / "specs").glob("**/*.antt")) if path.stem not in ("Lib", "inside")]
+        specs = [
+            path
+            for crate in crates
+            for path in sorted((crate / "specs").glob("**/*.antt"))
+            if path.stem not in ("Lib", "inside")
+        ]
         self.specs = {(it.crate, it.module): it for it in map(Spec, specs)}
         self.files = {}
         for crate in crates:
@@ -121,7 +131,7 @@ class Sources:
     # ---- what names mean
 
     def module_names(self, path):
-        """The names of a module of antt with their uses; None if it isn't one of these crates."""
+        """Returns the names of a module of antt with their uses; None if it isn't in one of these crates."""
         _, crate, *rest = path.split(".") + [""] * 3
         rest = [part for part in rest if part]
         if crate not in self.crates or not rest or rest[0] != "specs":
@@ -134,7 +144,7 @@ class Sources:
         return spec.names()
 
     def declared(self, crate, rest):
-        """The names of a generated module: a type, its variants, or the constants."""
+        """Returns the names of a generated module: a type, its variants, or the constants."""
         if rest[-1] == "TheConstants":
             file = self.files[crate, ".".join(rest[:-1])] if len(rest) > 1 else None
             files = [file] if file else [it for it in self.files.values() if it.crate == crate]
@@ -151,7 +161,7 @@ class Sources:
         return {name: {"": key, **self.variants_of(key)}, "": key}
 
     def resolved(self, file, path, depth=0):
-        """The item of a Rust path that begins in this file, or None."""
+        """Returns the item of a Rust path that begins in this file, or None."""
         crate, module, rest = file.crate, file.module.split(".") if file.module else [], list(path)
         if rest[0] == "crate":
             module, rest = [], rest[1:]
@@ -171,7 +181,7 @@ class Sources:
         return None
 
     def rust_scope(self, file):
-        """The types and constants that code of a file can name, each with its variants."""
+        """Returns the types and constants that the code of a file can name, each with its variants."""
         found = {name: file.key(name) for name in file.types}
         for name, (path, _) in file.uses.items():
             if path[0] in ("crate", "super") or path[0] in self.crates:
@@ -181,18 +191,19 @@ class Sources:
         return {name: {"": key, **self.variants_of(key)} for name, key in found.items()}
 
     def block_of(self, key):
-        """The file and the block of a type or function that a path found."""
+        """Returns the file and the block of a type or function that a path found."""
         file = self.files[key[0], key[1].removeprefix("src").removeprefix(".")]
         return file, next(it for it in file.blocks if it.name == key[2] and it.kind not in ("impl", "mod"))
 
     def variants_of(self, key):
+        """Returns the variants of a type by name."""
         file, block = self.block_of(key)
         return {name: (*key, name) for name, _ in file.variants(block)} if block.kind == "enum" else {}
 
     # ---- what other crates can name
 
     def public_paths(self):
-        """The items of src/ that other crates can name, or C, each with its paths, the shortest first."""
+        """Returns the items of src/ that other crates or C can name, each with its paths, the shortest first."""
         found = collections.defaultdict(set)
         for crate in self.crates:
             if (crate, "") in self.files:
@@ -205,7 +216,7 @@ class Sources:
         return {key: sorted(paths, key=len) for key, paths in found.items() if paths}
 
     def show(self, file, path, found):
-        """Adds what a module shows under a path."""
+        """Adds the public items of a module and of its public modules, with their paths."""
         for block in file.blocks:
             if block.is_public and block.kind == "mod":
                 inner = self.files.get((file.crate, ".".join(filter(None, [file.module, block.name]))))
@@ -219,7 +230,7 @@ class Sources:
                 found[key].add(f"{path}::{name}")
 
     def imported(self, lines, where):
-        """The scope of some `use` lines."""
+        """Returns the scope of some `use` lines."""
         scope = {}
         for line in [it for line in lines for it in split_import(line)]:
             if found := re.match(r"(?:ghost )?use (Rattle\.(\w+)\.[\w.]+)\.\{(.*)\}", line, re.DOTALL):
@@ -234,6 +245,7 @@ class Sources:
     # ---- items
 
     def add_definitions(self, spec):
+        """Adds the definitions of a file of specs/."""
         scope = self.imported(spec.imports, spec.path)
         scope.update({name.strip("◌"): target for name, target in spec.names().items()})
         spec.scope = scope
@@ -244,7 +256,10 @@ class Sources:
         self.unknown += [f"{spec.path}: nothing uses {name}" for name in self.idle_imports(spec)]
 
     def idle_imports(self, spec):
-        """The imports of a file that no definition was found to use: `rt tidy` removes such imports, so a use was overlooked."""
+        """Yields the imports that no definition seems to use.
+
+        `rt tidy` removes unused imports, so this script overlooked a use.
+        """
         pieces = [piece for name in spec.parts for piece in self.items[spec.key(name)].pieces]
         used = {use for piece in pieces for use in piece.uses | piece.patterns}
         used |= {use[:3] for use in used}
@@ -282,6 +297,7 @@ class Sources:
             yield Piece(whole, {it for it in uses if it[:3] != spec.key(name)}, patterns, kind)
 
     def add_types(self, file):
+        """Adds the types and constants of a file of src/."""
         lines = re.findall(r"^ghost use [^;]+;", file.code, re.MULTILINE)
         file.scope = {**self.rust_scope(file), **self.imported(lines, file.path)}
         for name, block in file.types.items():
@@ -304,6 +320,7 @@ class Sources:
             yield Piece(text, uses, {(*key, variant[1])} if variant else set(), "rule" if variant else "head")
 
     def add_contracts(self, file):
+        """Adds the functions, impls and traits of a file of src/."""
         for block in file.blocks:
             if block.kind == "fn":
                 self.add_function(file, block, file.key(block.name), file.scope, set())
@@ -311,7 +328,7 @@ class Sources:
                 self.add_members(file, block, file.scope)
 
     def add_members(self, file, block, scope):
-        """The functions and ghost members of an impl or a trait."""
+        """Adds the functions and ghost members of an impl or a trait."""
         inside = file.code[block.end_of_head + 1 : block.end - 1]
         lines = [line.strip() for line in re.findall(r"^    ghost use [^;]+;", inside, re.MULTILINE)]
         scope = {**scope, **self.imported(lines, file.path)}
@@ -329,6 +346,7 @@ class Sources:
             self.add_ghosts(file, block, key, trait, scope)
 
     def add_function(self, file, block, key, scope, own_uses):
+        """Adds a function: its signature and contract."""
         head = file.code[block.head : block.end_of_head].partition(block.name)[2]
         uses = used_names(head, scope, set(PARAMETER.findall(head)) | bound_names(head)) | own_uses
         text = file.cut(block.start, block.end_of_head).rstrip()
@@ -339,7 +357,7 @@ class Sources:
             self.exports.add(key)
 
     def add_trait(self, file, block, key, scope):
-        """A trait: its ghost members and its contracts, without bodies."""
+        """Adds a trait: its ghost members and its contracts, without bodies."""
         text, at = file.text[block.start : block.end_of_head + 1], block.end_of_head + 1
         for member in file.blocks_in(block.end_of_head + 1, block.end, "    "):
             if member.kind == "fn":
@@ -354,7 +372,9 @@ class Sources:
         self.items[key] = Item(key, "trait", file.path, file.line(block.head), [piece])
 
     def add_ghosts(self, file, block, key, trait, scope):
-        """What contracts see of a type: the ghost members of an impl, but invariants and how values are coded."""
+        """Adds what contracts see of a type: the ghost members of an impl, except invariants and
+        how values are coded.
+        """
         inside = file.code[block.end_of_head + 1 : block.end - 1]
         texts, uses = [], set()
         for found in re.finditer(r"^    ghost (\w+)\s*=\s*\{", inside, re.MULTILINE):
@@ -375,7 +395,7 @@ class Sources:
 
 
 def owner_and_trait(block, head):
-    """The type that an impl or a trait is of, and the trait that an impl gives it."""
+    """Returns the type that an impl or a trait is of, and the trait that an impl gives it."""
     if block.kind == "trait":
         return block.name, None
     code = without_generics(re.sub(r"->", "  ", head)).partition("impl")[2].partition(" where")[0]
@@ -385,7 +405,7 @@ def owner_and_trait(block, head):
 
 
 def without_generics(code):
-    """Without what stands between angle brackets."""
+    """Returns code without the text between angle brackets."""
     while (shorter := re.sub(r"<[^<>]*>", "", code)) != code:
         code = shorter
     return code

@@ -1,8 +1,9 @@
 #!/bin/bash
-# Tests the two scripts of docs/SCALE.md on this machine: filter.sbatch under Slurm and filter.py under dask.distributed, over
-# sixteen files. Both must write what one run writes; with an empty and a damaged file, all other packets, and report both
-# files with status 1. Both must report a refused expression. An output that is an input must be refused, an old part must not
-# be joined, and a missing scheduler must give one message.
+# Tests the two scripts of docs/SCALE.md on this machine: filter.sbatch under Slurm and filter.py
+# under dask.distributed, over sixteen files. Both must write what one run writes; with an empty and
+# a damaged file, all other packets, and report both files with status 1. Both must report a refused
+# expression. An output that is an input must be refused, an old part must not be joined, and a
+# missing scheduler must give one message.
 #
 # usage: tools/try_scale.sh [PROGRAM]
 #

@@ -38,7 +38,7 @@ def keep(expression, file, out):
 
 
 def is_part(name, status):
-    """Whether a capture was written. One of 0 bytes comes of a file that can't be read."""
+    """Returns whether a capture was written; one of 0 bytes comes from a file that can't be read."""
     return status < 2 and os.path.isfile(name) and os.path.getsize(name) > 0
 
 
@@ -61,8 +61,15 @@ def refuse(text, status):
     return status
 
 
+def give_up(joined, statuses):
+    """Removes what a failed merge wrote; returns the greatest status."""
+    if os.path.exists(joined):
+        os.remove(joined)
+    return max(statuses)
+
+
 def connected(scheduler):
-    """A client of the scheduler; None if none answers."""
+    """Returns a client of the scheduler; None if none answers."""
     logging.getLogger("distributed").setLevel(logging.CRITICAL)
     try:
         return distributed.Client(scheduler, timeout=10)
@@ -87,6 +94,8 @@ def main(scheduler, out, expression, *files):
         if parts:
             joined = f"{out}.{os.getpid()}.part"
             statuses.append(join(joined, parts))
+            if statuses[-1]:
+                return refuse(f"{out}: not written, since the merge failed", give_up(joined, statuses))
             os.replace(joined, out)
     return max(statuses)
 

@@ -1,8 +1,10 @@
 #!/usr/bin/env python3
-"""Writes captures that are damaged at random to a folder, for check_packages.sh: samples with some bytes changed, cut, left
-out or doubled, or with a number at a limit. The same COUNT gives the same bytes every time.
+"""Writes captures that are damaged at random to a folder, for check_packages.sh.
 
 usage: damaged_captures.py FOLDER COUNT SAMPLE..
+
+They are samples with some bytes changed, cut, left out or doubled, or with a number at a limit. The
+same COUNT gives the same bytes every time.
 """
 import pathlib
 import random
@@ -27,6 +29,8 @@ def damage(rng, capture):
 
 
 def main():
+    if len(sys.argv) < 4:
+        sys.exit(__doc__)
     folder, count, samples = pathlib.Path(sys.argv[1]), int(sys.argv[2]), sys.argv[3:]
     rng = random.Random(92)
     whole = [pathlib.Path(name).read_bytes() for name in samples]

@@ -1,8 +1,11 @@
 #!/bin/bash
-# Tests that Linux runs capkit's programs: attached to a packet socket (socket_filter), in a rule of iptables and in a filter of tc, if
-# these are installed. Two datagrams cross the loopback interface of a separate network; each must match one of them.
+# Tests that Linux runs capkit's programs: attached to a packet socket (socket_filter), in a rule of
+# iptables and in a filter of tc, if these are installed. Two datagrams cross the loopback interface
+# of a separate network; each program must match exactly one of them.
 #
-# usage: unshare -rn tests/kernel.sh      in library/
+# usage: unshare -rn tests/kernel.sh      (in library/)
+#
+# The status is 1 if a program doesn't.
 set -eu
 bad=0
 have() { command -v "$1" >/dev/null 2>&1; }

@@ -1,19 +1,35 @@
-"""Writes a pcap capture of COUNT packets; half of them are random past the fields that an expression
-tests first. usage: random_capture.py COUNT [LINK-TYPE (1, 101 or 113)]"""
+"""Writes a pcap capture of COUNT packets to standard output, for check.sh.
+
+usage: random_capture.py COUNT [LINK-TYPE (1, 101 or 113)]
+
+Half of the packets are random past the fields that an expression tests first.
+"""
 import random
 import struct
 import sys
 
-COUNT, LINK = int(sys.argv[1]), int(sys.argv[2]) if len(sys.argv) > 2 else 1
+if len(sys.argv) < 2:
+    sys.exit(__doc__)
+COUNT = int(sys.argv[1])
+LINK = int(sys.argv[2]) if len(sys.argv) > 2 else 1
 PORTS = (22, 53, 80, 443, 1023, 65535)
-IPV4, IPV6, ARP, RARP, VLAN = b"\x08\x00", b"\x86\xdd", b"\x08\x06", b"\x80\x35", b"\x81\x00"
-MAC, NET, NET6 = b"\2\0\0\0\0", b"\x0a\0\0", b"\x20\x01\x0d\xb8" + bytes(11)
+# EtherTypes.
+IPV4 = b"\x08\x00"
+IPV6 = b"\x86\xdd"
+ARP = b"\x08\x06"
+RARP = b"\x80\x35"
+VLAN = b"\x81\x00"
+# The first bytes of all addresses; the last byte is random.
+MAC = b"\2\0\0\0\0"
+NET = b"\x0a\0\0"
+NET6 = b"\x20\x01\x0d\xb8" + bytes(11)
+# The start of a cooked link header.
 COOKED = bytes.fromhex("0000000100060200000000010000")
 chance = random.Random(1)
 
 
 def address(start):
-    """One of the few addresses that expressions ask for."""
+    """Returns one of the few addresses that expressions ask for."""
     return start + bytes([chance.randrange(3)])
 
 
@@ -22,7 +38,7 @@ def ports():
 
 
 def frame(size):
-    """An Ethernet packet of some bytes, with what expressions ask for as far as it reaches."""
+    """Returns an Ethernet packet of some bytes, with fields that expressions ask for as far as it reaches."""
     packet = bytearray(chance.randbytes(size))
     kind = chance.choice((IPV4, IPV4, IPV6, ARP, RARP, VLAN))
     if size >= 14:

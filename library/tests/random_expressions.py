@@ -1,4 +1,5 @@
 """Writes random expressions forever, one per line; each eighth has random words.
+
 usage: random_expressions.py SEED
 
 A blank comes before those that libpcap may read otherwise: those with ^ or %, or with & next to |,
@@ -12,6 +13,8 @@ import sys
 
 signal.signal(signal.SIGPIPE, signal.SIG_DFL)
 sys.stdout.reconfigure(errors="surrogateescape")
+if len(sys.argv) != 2:
+    sys.exit(__doc__)
 chance = random.Random(int(sys.argv[1]))
 pick = chance.choice
 # Types, the protocols that come before them, and values.
@@ -40,15 +43,17 @@ SOUP = """tcp port 80 and or not ( ) [ ] ip host 10.0.0.1 net / 8 len > 0xffffff
 
 
 def is_one_in(count):
+    """Returns true once in `count` times."""
     return chance.randrange(count) == 0
 
 
 def value(it):
-    """A value; a number in any of its forms."""
+    """Returns a value; a number in any of its forms."""
     return it if isinstance(it, str) else pick(["{}", "{}", "{}", "{:#x}", "0{:o}"]).format(it)
 
 
 def atom(depth):
+    """Returns an operand of arithmetic."""
     sign, kind = "-" * is_one_in(8), chance.randrange(8 if depth else 6)
     if kind == 0:
         return sign + value(chance.getrandbits(32) if is_one_in(8) else chance.randrange(70))
@@ -63,6 +68,7 @@ def atom(depth):
 
 
 def arithmetic(depth):
+    """Returns a number: one to three operands with operators."""
     text = atom(depth)
     for _ in range(chance.randrange(3)):
         text += f" {pick('%^' if is_one_in(8) else '+ - * / & | << >>'.split())} {atom(depth)}"
@@ -77,7 +83,7 @@ class Expression:
         self.values, self.is_after_group, self.inherits_over_group = KINDS[0][2], False, False
 
     def valued(self):
-        """A value after its qualifiers. A host needs no type if it has a direction."""
+        """Returns a value after its qualifiers. A host needs no type if it has a direction."""
         kind, protocols, self.values = pick(KINDS)
         self.is_after_group = False
         way = pick(WAYS) if kind != "proto" and is_one_in(2) else ""
@@ -85,6 +91,7 @@ class Expression:
         return pick(protocols) + way + type_word + value(pick(self.values))
 
     def primary(self):
+        """Returns a primitive."""
         kind = chance.randrange(8)
         if kind < 2:
             return pick((WORDS, CASTS)[kind])
@@ -98,6 +105,7 @@ class Expression:
         return self.valued()
 
     def operand(self, depth):
+        """Returns an operand of `and` and `or`."""
         sign = pick(["not ", "!", "not not "]) if is_one_in(4) else ""
         if not depth or not is_one_in(4):
             return sign + self.primary()
@@ -106,6 +114,7 @@ class Expression:
         return text
 
     def condition(self, depth):
+        """Returns a truth: one to three operands with `and` and `or`."""
         text = self.operand(depth)
         for _ in range(chance.randrange(3)):
             text += f" {pick(['and', 'or', '&&', '||'])} {self.operand(depth)}"

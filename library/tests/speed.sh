@@ -1,9 +1,12 @@
 #!/bin/sh
-# Prints the tables of docs/LIBRARY.md on speed: compilations and runs, reads of the next match (bench.c, on a made capture
-# of 10,000 packets), whole programs in each language, and the lines of the examples (speed/speed.py). It wants the library
-# and its packages (make, make python), libpcap's headers, and a machine with nothing else to do; speed.py says what else.
+# Prints the tables of docs/LIBRARY.md on speed: compilations and runs, reads of the next match
+# (bench.c, on a made capture of 10,000 packets), whole programs in each language, and the lines of
+# the examples (speed/speed.py).
 #
-# usage: library/tests/speed.sh [ROUNDS [OF_PROGRAMS]]     400 by default, and 7 of whole programs
+# usage: library/tests/speed.sh [ROUNDS [OF_PROGRAMS]]
+#
+# ROUNDS is 400 by default, and OF_PROGRAMS, the rounds of whole programs, 7. It needs the library and
+# its packages (make, make python), libpcap's headers, what speed.py names, and an idle machine.
 set -eu
 cd "$(dirname "$0")/.."
 make -s out/bench

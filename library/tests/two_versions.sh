@@ -1,8 +1,11 @@
 #!/bin/sh
-# Two versions of the library in one process, as a program has that is linked to a later one and embeds Python: each caller
-# reaches the one that it was linked to. It wants libcapkit.so.0 and libcapkit_batch.so (make). The status is 1 if one doesn't.
+# Tests two versions of the library in one process, as in a program that is linked to a later one and
+# embeds Python: each caller must reach the one that it was linked to.
 #
 # usage: library/tests/two_versions.sh
+#
+# It needs libcapkit.so.0 and libcapkit_batch.so (make). The status is 1 if a caller reaches another
+# version.
 set -eu
 cd "$(dirname "$0")/.."
 out=$PWD/out/two
@@ -25,5 +28,6 @@ int main(int argc, char **argv)
 }
 END
 cc -o "$out/program" "$out/program.c" "$out/libcapkit.so.1" -Wl,-rpath,"$out" -ldl
-# 201 is CAPKIT_NOT_A_CAPTURE_FILE: what an empty capture is.
-test "$("$out/program" "$PWD/out/libcapkit_batch.so")" = '999 201' || { echo 'another version of the library was called'; exit 1; }
+# 201 is CAPKIT_NOT_A_CAPTURE_FILE, the result for an empty capture.
+test "$("$out/program" "$PWD/out/libcapkit_batch.so")" = '999 201' ||
+    { echo 'another version of the library was called'; exit 1; }

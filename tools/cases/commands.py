@@ -1,4 +1,7 @@
-"""What capkit's commands write and report, as the pages define it: from whole lists of packets, never packet by packet."""
+"""Computes what capkit's commands write and report, as the pages define it.
+
+It works on whole lists of packets, never packet by packet, unlike capkit.
+"""
 
 import dataclasses
 import datetime
@@ -26,7 +29,7 @@ class Outcome:
         return b"".join(self.pieces)
 
     def stops(self):
-        """The sizes of the output before the first piece and after each."""
+        """Returns the sizes of the output before the first piece and after each."""
         sizes = [0]
         for piece in self.pieces:
             sizes.append(sizes[-1] + len(piece))
@@ -34,12 +37,12 @@ class Outcome:
 
 
 def failed(pieces, name, fault):
-    """A run that ends by a fault: an offset and a text."""
+    """Returns the outcome of a run that ends with a fault: an offset and a text."""
     return Outcome(pieces, f"capkit: {name}: offset {fault[0]}: {fault[1]}\n", 1)
 
 
 def time_of(text):
-    """A time or a span in nanoseconds: seconds since 1970 with a point, or a date."""
+    """Returns a time or a span in nanoseconds, from seconds since 1970 with a point, or from a date."""
     if text.endswith("Z"):
         day, _, fraction = text[:-1].partition(".")
         since = datetime.datetime.fromisoformat(day) - datetime.datetime(1970, 1, 1)
@@ -66,20 +69,21 @@ PRINT = ["print", "-w", "out", "--format", "pcap", "in"]
 
 
 def is_decided(case):
-    """Whether the rules here decide what comes of a case: they don't know why words, expressions and listings are refused, nor
-    what `compile` writes."""
+    """Returns whether the rules here decide the result of a case: they don't cover refused words,
+    expressions and listings, nor the output of `compile`.
+    """
     return not (case.kind == "usage" or case.words[0] == "compile" or case.compiled or case.status == 2)
 
 
 def outcome_of(case, data=None):
-    """The outcome of a case, or of it with another input."""
+    """Returns the outcome of a case, or the outcome with another input."""
     data = case.input if data is None else data
     words = PRINT + case.words if case.kind == "filter" else case.words
     return run(words, lambda name: case.files.get(name, data), case.files.get("code", case.listing))
 
 
 def run(words, file_of, listing=b""):
-    """The outcome of a command line, whose inputs are read by a function of their names."""
+    """Returns the outcome of a command line; a function gives the inputs by name."""
     command, *rest = words
     return {"edit": edit, "merge": merge, "infos": infos, "print": print_}[command](rest, file_of, listing)
 
@@ -103,6 +107,7 @@ def written(form, sources, list_, end=None):
 
 
 def end_of(capture, name):
+    """Returns the end of a capture with a fault: its name, the offset and the text; else None."""
     return (name, (capture.places[-1][0], capture.fault)) if capture.fault else None
 
 
@@ -114,7 +119,10 @@ def edit(words, file_of, _listing):
     ranges = [(int(first), int(last or first)) for first, _, last in (text.partition("-") for text in ranges)]
     packets = []
     for number, packet in enumerate(capture.packets, 1):
-        if any(first <= number <= last for first, last in ranges) == ("-r" in words.options) and is_in_time(words, packet):
+        if (
+            any(first <= number <= last for first, last in ranges) == ("-r" in words.options)
+            and is_in_time(words, packet)
+        ):
             packets.append(changed(words, packet))
             if isinstance(packets[-1], tuple):
                 break
@@ -123,12 +131,13 @@ def edit(words, file_of, _listing):
 
 
 def is_in_time(words, packet):
+    """Returns whether a packet is within the times of -A and -B."""
     start, stop = words.time("-A"), words.time("-B")
     return (start is None or start <= packet.time) and (stop is None or packet.time < stop)
 
 
 def changed(words, packet):
-    """A packet cut and shifted, or the offset and the text of a fault."""
+    """Returns a packet after it is cut and shifted, or the offset and the text of a fault."""
     data = packet.data[words.number("--chop-start") or 0:]
     data = data[:max(len(data) - (words.number("--chop-end") or 0), 0)][:words.number("-s")]
     time = packet.time + (words.time("--later") or 0) - (words.time("--earlier") or 0)
@@ -138,13 +147,17 @@ def changed(words, packet):
 
 
 def unique(window, packets):
-    """The packets that none of the `window` - 1 before them equals; a fault stays."""
-    marks = [packet if isinstance(packet, tuple) else (len(packet.data), hashlib.md5(packet.data).digest()) for packet in packets]
+    """Returns the packets that equal none of the `window` - 1 before them, and the faults."""
+    marks = [
+        packet if isinstance(packet, tuple) else (len(packet.data), hashlib.md5(packet.data).digest())
+        for packet in packets
+    ]
     before = (window or 1) - 1
     return [packet for at, packet in enumerate(packets) if marks[at] not in marks[max(at - before, 0):at]]
 
 
 def merge(words, file_of, _listing):
+    """Returns the outcome of `merge`."""
     words = Words(words, "aF:w:")
     names = words.rest
     captures = [Capture(file_of(name)) for name in names]
@@ -153,7 +166,7 @@ def merge(words, file_of, _listing):
 
 
 def appended(names, captures):
-    """The packets of all files in turn, up to the first fault."""
+    """Returns the packets of all files in turn, up to the first fault."""
     ordered = []
     for name, capture in zip(names, captures):
         ordered += [(name, packet) for packet in capture.packets]
@@ -163,7 +176,9 @@ def appended(names, captures):
 
 
 def merged(names, captures):
-    """All packets by the greatest time up to them in their file, file and place, and how the list ends."""
+    """Returns all packets, sorted by the greatest time so far in their file, by file and by place,
+    and how the list ends.
+    """
     for name, capture in zip(names, captures):
         if capture.fault and not capture.packets:
             return [], end_of(capture, name)
@@ -184,6 +199,7 @@ def merged(names, captures):
 
 
 def infos(words, file_of, _listing):
+    """Returns the outcome of `infos`."""
     pieces = []
     for name in words:
         capture = Capture(file_of(name))
@@ -194,6 +210,7 @@ def infos(words, file_of, _listing):
 
 
 def print_(words, file_of, listing):
+    """Returns the outcome of `print` as a capture or as lines."""
     words = Words(words, "exc:w:", ["format", "code"])
     name, *expression = words.rest
     tree = filters.tree_of(" ".join(expression))

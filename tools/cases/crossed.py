@@ -1,4 +1,4 @@
-"""The table `crossed`: sizes and options crossed."""
+"""Writes the table `crossed`: sizes and options crossed."""
 
 import itertools
 
@@ -11,11 +11,14 @@ HEAD = """\
 # limit, so only these cases show code that gives up at one size of a list, or for one pair of options.
 # tools/cases/crossed.py writes this table.
 """
-X, Y, Z = bytes(range(20)), bytes(range(32, 48)), bytes(range(64, 67))
+# The data of three packets.
+X = bytes(range(20))
+Y = bytes(range(32, 48))
+Z = bytes(range(64, 67))
 DATA = [X, X, Y, Z, X]
 FORMATS = ["-F pcap", "-F nsecpcap", ""]
-# Each option of edit with two values: words before the names of the files, and words after them. A row here crosses a new
-# option of edit with all others.
+# Each option of edit with two values: words before the names of the files, and words after them. A
+# row here crosses a new option of edit with all others.
 OPTIONS = [
     [("", "2"), ("", "1-3")],
     [("-r", "1-3"), ("-r", "2 4-5")],
@@ -35,13 +38,18 @@ MANY = range(1, 301)
 
 
 def names():
+    """Returns the bytes that the table gives names."""
     records = {f"R{second}": second.to_bytes(4, "little") + record(data)[4:] for second, data in enumerate(DATA, 1)}
-    own = {"H": header("pcap", 1), "N": header("nsecpcap", 1), "SECTION": SECTION, "NANO": interface_block(1, 262_144, b"")}
+    own = {
+        "H": header("pcap", 1), "N": header("nsecpcap", 1), "SECTION": SECTION, "NANO": interface_block(1, 262_144, b"")
+    }
     return {**own, "X": X, "Y": Y, "Z": Z, **records}
 
 
 def edits():
-    """Each option in each format, and each pair of options with each of their values, in one format after another."""
+    """Yields each option in each format, and each pair of options with each of their values, the
+    formats taking turns.
+    """
     for option in OPTIONS:
         for form in FORMATS:
             yield form, option[:1]
@@ -60,6 +68,7 @@ def same(values, outcome_of):
 
 
 def table():
+    """Returns the table."""
     known = names()
     given = b"".join(known[name] for name in ["H", "R1", "R2", "R3", "R4", "R5"])
     lines = [f"let {name} {pairs(data, {})}" for name, data in known.items()]
@@ -70,10 +79,17 @@ def table():
     def form(rows, *form_lines):
         lines.extend(["", *rows, *form_lines])
 
-    lines += ["given H R1 R2 R3 R4 R5", "", "# Each option of edit in each format, and each pair of them, with two values each."]
+    lines += [
+        "given H R1 R2 R3 R4 R5",
+        "",
+        "# Each option of edit in each format, and each pair of them, with two values each.",
+    ]
     rows = []
     for chosen, values in edits():
-        front, back = [" ".join(filter(None, words)) for words in ([chosen, *(value[0] for value in values)], [value[1] for value in values])]
+        front, back = [
+            " ".join(filter(None, words))
+            for words in ([chosen, *(value[0] for value in values)], [value[1] for value in values])
+        ]
         rows.append(f"row {front} ; {back} ; {out(f'edit {front} in out {back}'.split())}")
     lines += [*rows, "run edit {1} in out {2}", "out {3}"]
     interfaces(lines, form)
@@ -81,15 +97,41 @@ def table():
     for values, written in windows:
         form([f"each {values}"], "case a window of {} packets", "run edit -F pcap -D {} in out", f"out {written}")
     for values, written in same(MANY, lambda count: out(["edit", "-F", "pcap", "in", "out", *["3"] * count])):
-        form([f"each {values}"], "case {} ranges, each of the third packet", "run edit -F pcap in out", "words {} 3", f"out {written}")
+        form(
+            [f"each {values}"],
+            "case {} ranges, each of the third packet",
+            "run edit -F pcap in out",
+            "words {} 3",
+            f"out {written}",
+        )
     for values, written in same(MANY, lambda count: out(PRINT + ["--code", "listing", "in"], listing(count))):
-        form([f"each {values}"], "case a listing of {} lines", "run print -w out --format pcap --code listing in", "code {}", "codes {-1} 5 0 0 0",
-             "code 6 0 0 1", f"out {written}")
+        form(
+            [f"each {values}"],
+            "case a listing of {} lines",
+            "run print -w out --format pcap --code listing in",
+            "code {}",
+            "codes {-1} 5 0 0 0",
+            "code 6 0 0 1",
+            f"out {written}",
+        )
     for values, written in same(MANY, lambda count: out([*PRINT, "in", "len > 3" + " or len > 3" * (count - 1)])):
-        form([f"each {values}"], "case an expression of {} terms", "filter len > 3", "more {-1}  or len > 3", f"out {written}")
+        form(
+            [f"each {values}"],
+            "case an expression of {} terms",
+            "filter len > 3",
+            "more {-1}  or len > 3",
+            f"out {written}",
+        )
     for values, written in same(MANY, lambda count: out([*PRINT, "in", "len" + " + 1" * count + f" > {16 + count}"])):
-        form([f"each {values}"], "# Programs of each length: to a length of 16 the number is added by ones.", "case a sum of {} ones", "filter len",
-             "more {}  + 1", "more 1  > {+16}", f"out {written}")
+        form(
+            [f"each {values}"],
+            "# Programs of each length: to a length of 16 the number is added by ones.",
+            "case a sum of {} ones",
+            "filter len",
+            "more {}  + 1",
+            "more 1  > {+16}",
+            f"out {written}",
+        )
     inputs(lines, form, known)
     return HEAD + "\n".join(lines) + "\n"
 
@@ -98,11 +140,12 @@ PRINT = ["print", "-w", "out", "--format", "pcap"]
 
 
 def listing(count):
+    """Returns a listing of this many instructions, which accepts all packets."""
     return b"%d\n" % count + b"5 0 0 0\n" * (count - 1) + b"6 0 0 1\n"
 
 
 def interfaces(lines, form):
-    """256 interfaces of a section, and 64 of an output."""
+    """Adds cases of 256 interfaces in a section, and of 64 in an output."""
     lines += ["", "# 256 interfaces of one link type in a section, and a packet of the last of them."]
     packet = block(6, bytes.fromhex("ff000000 00000000 00000000 03000000 03000000") + Z + bytes(1))
     described = "01000000 14000000 {2} 00000400 14000000"
@@ -110,30 +153,58 @@ def interfaces(lines, form):
     assert commands.run("edit -F pcap in out".split(), lambda name: data).written == header("pcap", 1) + record(Z)
     lines += [f"row {link} ; {pairs(link.to_bytes(4, 'little'), {})}" for link in LINKS]
     lines += ["case 256 interfaces of link type {1}", "run edit -F pcap in out",
-              f"in SECTION 256*{described.replace(' ', '')} {pairs(packet, {'Z': Z})}", f"out H[..20] {{2}} {pairs(record(Z), {'Z': Z})}"]
-    lines += ["", "# 64 interfaces of an output, which differ in their snap length, and behind 41 of them one of another link type."]
-    lines += [f"row {link} ; {pairs(link.to_bytes(4, 'little'), {})} ; {pairs(other.to_bytes(4, 'little'), {})}" for link, other in
-              ((1, 113), (101, 1), (113, 1), (147, 1))]
+              f"in SECTION 256*{described.replace(' ', '')} {pairs(packet, {'Z': Z})}",
+              f"out H[..20] {{2}} {pairs(record(Z), {'Z': Z})}"]
+    lines += [
+        "",
+        "# 64 interfaces of an output, which differ in their snap length, and behind 41 of them one "
+        "of another link type.",
+    ]
+    lines += [
+        f"row {link} ; {pairs(link.to_bytes(4, 'little'), {})} ; {pairs(other.to_bytes(4, 'little'), {})}"
+        for link, other in ((1, 113), (101, 1), (113, 1), (147, 1))
+    ]
     kinds = [0xE1 if number == 41 or number >= 50 else 0xE2 for number in range(64)]
-    writer, read = Writer("pcapng"), SECTION + b"".join(block(1, kind.to_bytes(4, "little") + (100 + number).to_bytes(4, "little"))
-                                                        for number, kind in enumerate(kinds))
-    read += b"".join(block(6, number.to_bytes(4, "little") + bytes(8) + bytes.fromhex("03000000 03000000") + Z + bytes(1)) for number in range(64))
+    writer, read = Writer("pcapng"), SECTION + b"".join(
+        block(1, kind.to_bytes(4, "little") + (100 + number).to_bytes(4, "little")) for number, kind in enumerate(kinds)
+    )
+    read += b"".join(
+        block(6, number.to_bytes(4, "little") + bytes(8) + bytes.fromhex("03000000 03000000") + Z + bytes(1))
+        for number in range(64)
+    )
     written = commands.run("edit in out".split(), lambda name: read).written
-    lines += ["case 64 interfaces of an output, the 42nd of link type {1}", "run edit in out", f"in {marked(read)}", f"out {marked(written)}"]
+    lines += [
+        "case 64 interfaces of an output, the 42nd of link type {1}",
+        "run edit in out",
+        f"in {marked(read)}",
+        f"out {marked(written)}",
+    ]
 
 
 def marked(data):
-    """Bytes as words, with columns in place of the two link types."""
+    """Returns bytes as words, with columns instead of the two link types."""
     words = pairs(data, {"SECTION": SECTION})
     return words.replace("e1000000", "{2}").replace("e2000000", "{3}")
 
 
 def inputs(lines, form, known):
+    """Adds cases of 1 to 64 inputs for each command that takes several."""
     data = known["H"] + known["R4"]
     report = commands.run(["infos", "a"], lambda name: data).written
     lines += ["", "# Inputs of each command that takes several.", f"let REPORT {pairs(report, {})}"]
-    for words, title in ((["merge", "-F", "pcap", "-w", "out"], "{} inputs"), (["merge", "-a", "-F", "pcap", "-w", "out"], "{} inputs in turn"), (["infos"], "{} reports")):
+    for words, title in (
+        (["merge", "-F", "pcap", "-w", "out"], "{} inputs"),
+        (["merge", "-a", "-F", "pcap", "-w", "out"], "{} inputs in turn"),
+        (["infos"], "{} reports"),
+    ):
         for count in range(1, 65):
             written = commands.run([*words, *["a"] * count], lambda name: data).written
             assert written == (report * count if words == ["infos"] else known["H"] + known["R4"] * count)
-        form(["each 1 to 64"], f"case {title}", f"run {' '.join(words)}", "words {} a", "in H R4", "out {}*REPORT" if words == ["infos"] else "out H {}*R4")
+        form(
+            ["each 1 to 64"],
+            f"case {title}",
+            f"run {' '.join(words)}",
+            "words {} a",
+            "in H R4",
+            "out {}*REPORT" if words == ["infos"] else "out H {}*R4",
+        )

@@ -1,13 +1,21 @@
-"""Capture files, read and written as docs/inside/FORMATS.md defines them."""
+"""Reads and writes capture files as docs/inside/FORMATS.md defines them."""
 
 import dataclasses
 import struct
 
 SECTION = bytes.fromhex("0a0d0d0a 1c000000 4d3c2b1a 01000000 ffffffffffffffff 1c000000")
 SECOND = 10**9
-LONGEST_RECORD, LONGEST_BLOCK = 262_144, 1_048_576
+# The most captured bytes of a record, and the most bytes of a block.
+LONGEST_RECORD = 262_144
+LONGEST_BLOCK = 1_048_576
+# Magic numbers, with the formats and their fractions per second.
 MAGICS = {0xA1B2C3D4: ("pcap", 10**6), 0xA1B23C4D: ("nsecpcap", SECOND)}
-SECTION_TYPE, INTERFACE_TYPE, OBSOLETE_TYPE, SIMPLE_TYPE, ENHANCED_TYPE = 0x0A0D0D0A, 1, 2, 3, 6
+# The types of blocks.
+SECTION_TYPE = 0x0A0D0D0A
+INTERFACE_TYPE = 1
+OBSOLETE_TYPE = 2
+SIMPLE_TYPE = 3
+ENHANCED_TYPE = 6
 
 
 class Fault(Exception):
@@ -37,6 +45,7 @@ class Interface:
     offset: int = 0
 
     def packet(self, ticks, original, data, comment, offset):
+        """Returns a packet of the interface, with the time of these ticks."""
         time = ticks * SECOND // self.units + self.offset * SECOND
         if not 0 <= time < 2**63:
             raise Fault("time out of range")
@@ -44,10 +53,12 @@ class Interface:
 
 
 def padded(size):
+    """Returns a length, rounded up to a multiple of four."""
     return size + -size % 4
 
 
 def require(holds, text):
+    """Ends the reading or writing with a fault, unless the condition is true."""
     if not holds:
         raise Fault(text)
 
@@ -67,6 +78,7 @@ class Capture:
             self.fault = str(fault)
 
     def read_all(self):
+        """Reads the file header and then all records or blocks, up to the first fault."""
         self.places.append((0, 0))
         require(len(self.data) >= 4, "not a capture file")
         for order in "<>":
@@ -84,11 +96,13 @@ class Capture:
             self.places.append((self.at, len(self.packets)))
 
     def numbers(self, form, at):
+        """Returns numbers at an offset, in the byte order of the file."""
         size = struct.calcsize("<" + form)
         require(at + size <= len(self.data), "truncated")
         return struct.unpack(self.order + form, self.data[at:at + size])
 
     def read_header(self):
+        """Reads the file header of pcap."""
         major, minor, _, _, snap, link = self.numbers("HHIIII", 4)
         require((major, minor) == (2, 4), "bad version")
         require(link <= 0xFFFF, "bad link type field")
@@ -97,6 +111,7 @@ class Capture:
         self.places.append((24, 0))
 
     def read_record(self):
+        """Reads a pcap record, and returns its size."""
         seconds, fraction, size, original = self.numbers("IIII", self.at)
         require(size <= LONGEST_RECORD, "too long")
         require(fraction < self.units, "time out of range")
@@ -107,10 +122,12 @@ class Capture:
         return 16 + size
 
     def add_interface(self, interface):
+        """Adds an interface to the section, and its link type to the file."""
         self.interfaces.append(interface)
         self.links.append(interface.link)
 
     def read_block(self):
+        """Reads a pcapng block, and returns its size."""
         front = self.data[self.at:self.at + 12]
         require(len(front) == 12, "truncated")
         if front[:4] == SECTION[:4]:
@@ -127,11 +144,12 @@ class Capture:
         return size
 
     def of_body(self, body, form):
-        """The numbers at the start of a body."""
+        """Returns the numbers at the start of a body."""
         require(len(body) >= struct.calcsize("<" + form), "bad body")
         return struct.unpack(self.order + form, body[:struct.calcsize("<" + form)])
 
     def read_body(self, kind, body):
+        """Reads the body of a block of this kind."""
         require(kind != OBSOLETE_TYPE, "obsolete packet block")
         if kind == SECTION_TYPE:
             _, major, minor, _ = self.of_body(body, "IHHQ")
@@ -157,7 +175,7 @@ class Capture:
             self.packets.append(Packet(first.link, first.snap, first.name, 0, original, body[4:4 + size], b"", self.at))
 
     def options_of(self, body):
-        """Each option's code, length and value, up to code 0; the last value may be cut."""
+        """Yields each option's code, length and value, up to code 0; the last value may be cut."""
         at = 0
         while at + 4 <= len(body):
             code, size = struct.unpack(self.order + "HH", body[at:at + 4])
@@ -167,7 +185,7 @@ class Capture:
             at += 4 + padded(size)
 
     def options(self, body):
-        """The name of an interface, its units in a second and its offset."""
+        """Returns the name of an interface, its ticks per second and its offset."""
         found = {}
         for code, size, value in self.options_of(body):
             require(len(value) == size, "bad option")
@@ -181,7 +199,7 @@ class Capture:
         return found.get(2, b""), units, struct.unpack(self.order + "q", found.get(14, bytes(8)))[0]
 
     def comment(self, body):
-        """The value of the first option 1 that is whole."""
+        """Returns the value of the first complete option with code 1."""
         for code, size, value in self.options_of(body):
             if len(value) < size:
                 break
@@ -191,11 +209,13 @@ class Capture:
 
 
 def block(kind, body):
+    """Returns a little-endian block."""
     size = struct.pack("<I", len(body) + 12)
     return struct.pack("<I", kind) + size + body + size
 
 
 def header(form, link):
+    """Returns the file header of a pcap format."""
     magic = {"pcap": 0xA1B2C3D4, "nsecpcap": 0xA1B23C4D}[form]
     return struct.pack("<IHHIIII", magic, 2, 4, 0, 0, LONGEST_RECORD, link)
 
@@ -212,9 +232,11 @@ class Writer:
         self.pieces.append(piece if self.pieces else self.heading(packet.link) + piece)
 
     def heading(self, link):
+        """Returns the start of a file without packets."""
         return SECTION if self.form == "pcapng" else header(self.form, link)
 
     def record_of(self, packet):
+        """Returns the pcap record of a packet."""
         if self.link is None:
             self.link = packet.link
         require(packet.link == self.link, "link types differ")
@@ -225,8 +247,11 @@ class Writer:
         return struct.pack("<IIII", seconds, fraction, len(packet.data), packet.original) + packet.data
 
     def block_of(self, packet):
+        """Returns the block of a packet, after that of its interface if it is new."""
         comment = packet.comment
-        options = struct.pack("<HH", 1, len(comment)) + comment + bytes(-len(comment) % 4) + bytes(4) if comment else b""
+        options = (
+            struct.pack("<HH", 1, len(comment)) + comment + bytes(-len(comment) % 4) + bytes(4) if comment else b""
+        )
         data = packet.data + bytes(-len(packet.data) % 4)
         require(32 + len(data) + len(options) <= LONGEST_BLOCK, "too long")
         key, described = (packet.link, packet.snap, packet.name), b""
@@ -234,11 +259,13 @@ class Writer:
             require(len(self.interfaces) < 4096, "too many output interfaces")
             self.interfaces.append(key)
             described = interface_block(*key)
-        numbers = (self.interfaces.index(key), packet.time >> 32, packet.time & 0xFFFFFFFF, len(packet.data), packet.original)
+        numbers = (
+            self.interfaces.index(key), packet.time >> 32, packet.time & 0xFFFFFFFF, len(packet.data), packet.original
+        )
         return described + block(ENHANCED_TYPE, struct.pack("<IIIII", *numbers) + data + options)
 
 
 def interface_block(link, snap, name):
-    """An interface with ticks of nanoseconds."""
+    """Returns the block of an interface whose ticks are nanoseconds."""
     options = struct.pack("<HH", 2, len(name)) + name + bytes(-len(name) % 4) if name else b""
     return block(INTERFACE_TYPE, struct.pack("<HHI", link, 0, snap) + options + struct.pack("<HHB3xHH", 9, 1, 9, 0, 0))

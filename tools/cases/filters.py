@@ -1,5 +1,6 @@
-"""Expressions, read and evaluated as docs/FILTER.md defines them."""
+"""Reads and evaluates expressions as docs/FILTER.md defines them."""
 
+import operator
 import re
 import sys
 
@@ -8,21 +9,44 @@ from printing import COOKED, ETHERNET, NETWORK, RAW, TYPES, big
 # A chain of thousands of operands is as deep a tree.
 sys.setrecursionlimit(50_000)
 
-NAMES = {"tcpflags": 13, "tcp-fin": 1, "tcp-syn": 2, "tcp-rst": 4, "tcp-push": 8, "tcp-ack": 16, "tcp-urg": 32, "icmptype": 0, "icmpcode": 1}
+NAMES = {
+    "tcpflags": 13,
+    "tcp-fin": 1,
+    "tcp-syn": 2,
+    "tcp-rst": 4,
+    "tcp-push": 8,
+    "tcp-ack": 16,
+    "tcp-urg": 32,
+    "icmptype": 0,
+    "icmpcode": 1,
+}
 SIGNS = {"&&": "and", "||": "or", "!": "not", "==": "="}
 ETHERTYPES = {name.lower(): number for number, name in TYPES.items()}
 TRANSPORTS = {"tcp": 6, "udp": 17, "icmp": 1, "icmp6": 58}
 OPERATORS = [("|", "&", "^"), ("<<", ">>"), ("+", "-"), ("*", "/", "%")]
 LEVELS = {sign: level for level, signs in enumerate(OPERATORS) for sign in signs}
 OPERATIONS = {
-    "+": lambda a, b: a + b, "-": lambda a, b: a - b, "*": lambda a, b: a * b, "/": lambda a, b: a // b, "%": lambda a, b: a % b,
-    "&": lambda a, b: a & b, "|": lambda a, b: a | b, "^": lambda a, b: a ^ b, "<<": lambda a, b: a << b if b < 32 else 0,
+    "+": operator.add,
+    "-": operator.sub,
+    "*": operator.mul,
+    "/": operator.floordiv,
+    "%": operator.mod,
+    "&": operator.and_,
+    "|": operator.or_,
+    "^": operator.xor,
+    "<<": lambda a, b: a << b if b < 32 else 0,
     ">>": lambda a, b: a >> b if b < 32 else 0,
 }
 PROTOCOLS = ("ether", "ip", "ip6", "arp", "rarp", "tcp", "udp", "icmp", "icmp6")
 ACCESSORS = PROTOCOLS[:-1]
-RELATIONS = {"=": lambda a, b: a == b, "!=": lambda a, b: a != b, "<": lambda a, b: a < b, "<=": lambda a, b: a <= b,
-             ">": lambda a, b: a > b, ">=": lambda a, b: a >= b}
+RELATIONS = {
+    "=": operator.eq,
+    "!=": operator.ne,
+    "<": operator.lt,
+    "<=": operator.le,
+    ">": operator.gt,
+    ">=": operator.ge,
+}
 BLANKS = re.compile(r"[ \t\n\r]*")
 WORD = re.compile(r"[0-9A-Za-z:][0-9A-Za-z:.-]*")
 INDEX_WORD = re.compile(r"[0-9A-Za-z][0-9A-Za-z.-]*")
@@ -34,11 +58,11 @@ class Rejected(Exception):
 
 
 class Unread(Exception):
-    """No expression."""
+    """The text isn't an expression."""
 
 
 def tokens(text):
-    """The tokens of a text: signs and words."""
+    """Returns the tokens of a text: signs and words."""
     found, at, depth = [], 0, 0
     while True:
         at = BLANKS.match(text, at).end()
@@ -59,7 +83,7 @@ def tokens(text):
 
 
 def number_of(word):
-    """The number that a word is, or None."""
+    """Returns the number that a word means, or None."""
     if re.fullmatch(r"0[xX][0-9a-fA-F]+", word):
         return int(word, 16)
     if re.fullmatch(r"0[0-7]*", word):
@@ -68,7 +92,7 @@ def number_of(word):
 
 
 def value_of(word):
-    """The kind of a value and its bytes or numbers, or None."""
+    """Returns the kind of a value, and its bytes or numbers; None if a word isn't a value."""
     if re.fullmatch(r"\d+(\.\d+){1,3}", word):
         return "dotted", bytes(map(int, word.split(".")))
     if re.fullmatch(r"\d+-\d+", word):
@@ -93,22 +117,25 @@ class Reader:
         self.inherited = (None, None, "host")
 
     def peek(self, ahead=0):
+        """Returns the current token, or one after it; None past the end."""
         return self.tokens[self.at + ahead] if self.at + ahead < len(self.tokens) else None
 
     def take(self, *wanted):
-        """The next token, if it is one of these."""
+        """Takes and returns the next token, if it is one of these."""
         if self.peek() in wanted and self.peek() is not None:
             self.at += 1
             return self.tokens[self.at - 1]
         return None
 
     def need(self, *wanted):
+        """Takes one of these tokens, or ends the reading."""
         token = self.take(*wanted)
         if token is None:
             raise Unread("not an expression")
         return token
 
     def read(self):
+        """Returns the tree of all tokens."""
         if not self.tokens:
             return ("all",)
         tree = self.truth()
@@ -117,12 +144,14 @@ class Reader:
         return tree
 
     def truth(self):
+        """Reads a chain of terms."""
         tree = self.term()
-        while operator := self.take("and", "or"):
-            tree = (operator, tree, self.term())
+        while join := self.take("and", "or"):
+            tree = (join, tree, self.term())
         return tree
 
     def term(self):
+        """Reads a negation, a relation, a group or a primitive."""
         if self.take("not"):
             return ("not", self.term())
         kept = self.at, self.inherited
@@ -137,11 +166,13 @@ class Reader:
         return self.primitive()
 
     def relation(self):
+        """Reads a relation between two numbers."""
         left = self.arithmetic()
         sign = self.need(*RELATIONS)
         return ("relation", sign, left, self.arithmetic())
 
     def arithmetic(self, level=0):
+        """Reads a chain of operators of at least this level."""
         tree = self.unary()
         while (own := LEVELS.get(self.peek(), -1)) >= level:
             self.at += 1
@@ -149,6 +180,7 @@ class Reader:
         return tree
 
     def unary(self):
+        """Reads an operand of arithmetic."""
         if self.take("-"):
             return ("minus", self.unary())
         if self.take("("):
@@ -175,6 +207,7 @@ class Reader:
         return number
 
     def primitive(self):
+        """Reads a primitive that isn't a relation."""
         if size := self.take("less", "greater"):
             return ("relation", "<=" if size == "less" else ">=", ("len",), ("number", self.number()))
         protocol = self.take(*PROTOCOLS)
@@ -193,15 +226,16 @@ class Reader:
         return ("value", *self.inherited, value, self.mask())
 
     def direction(self):
+        """Reads a direction: `src`, `dst`, or the operator that joins both."""
         first = self.take("src", "dst")
         if first and self.peek() in ("and", "or") and self.peek(1) in {"src", "dst"} - {first}:
-            operator = self.take("and", "or")
+            join = self.take("and", "or")
             self.at += 1
-            return operator
+            return join
         return first
 
     def mask(self):
-        """A prefix's length, or a mask's bytes, or None."""
+        """Returns the length of a prefix, or the bytes of a mask, or None."""
         if self.take("/"):
             return self.number()
         if self.take("mask"):
@@ -220,12 +254,14 @@ class Reading:
         self.link, self.data, self.original, self.base = link, data, original, NETWORK[link]
 
     def field(self, at, size):
+        """Returns the number in a field, or rejects the packet."""
         number = big(self.data, at % 2**32, size)
         if number is None:
             raise Rejected
         return number
 
     def holds(self, tree):
+        """Returns whether a tree matches the packet."""
         kind = tree[0]
         if kind in ("and", "or"):
             left = self.holds(tree[1])
@@ -247,13 +283,14 @@ class Reading:
         return self.link == ETHERNET
 
     def is_network(self, name):
+        """Returns whether the packet's network header is of this kind."""
         if self.link == RAW:
             version = {"ip": 4, "ip6": 6}.get(name)
             return version is not None and self.field(0, 1) >> 4 == version
         return self.field(self.base - 2, 2) == ETHERTYPES[name]
 
     def is_protocol(self, name):
-        """Whether an accessor's tests hold."""
+        """Returns whether the tests of an accessor's protocol are true."""
         if name == "ether":
             return self.is_ethernet()
         if name in ETHERTYPES:
@@ -270,6 +307,7 @@ class Reading:
         return self.is_network("ip6") and self.field(self.base + 6, 1) == number
 
     def is_check(self, name):
+        """Returns whether the packet is of a protocol."""
         if name in ETHERTYPES:
             return self.is_network(name)
         if name == "icmp6":
@@ -277,6 +315,7 @@ class Reading:
         return self.is_ip(TRANSPORTS[name]) or name != "icmp" and self.is_ip6(TRANSPORTS[name])
 
     def is_cast(self, kind, protocol):
+        """Returns whether the packet is a broadcast or multicast of this protocol."""
         if protocol == "ip":
             return self.is_network("ip") and self.field(self.base + 16, 1) >= 224
         if protocol == "ip6":
@@ -286,7 +325,7 @@ class Reading:
         return self.is_ethernet() and self.field(0, 1) & 1 == 1
 
     def is_at(self, at, parts, masks=None):
-        """Whether numbers are at a place, one after another, under their masks."""
+        """Returns whether numbers are at a place, one after another, under their masks."""
         for number, (size, value) in enumerate(parts):
             mask = masks[number] if masks else 2**32 - 1
             if self.field(at, size) & mask != value:
@@ -295,7 +334,7 @@ class Reading:
         return True
 
     def sides(self, direction, test, source, target):
-        """A test of the source, of the target or of both."""
+        """Returns whether a test is true of the source, of the target, or of both, as the direction asks."""
         if direction == "src":
             return test(source)
         if direction == "dst":
@@ -303,6 +342,7 @@ class Reading:
         return test(source) and test(target) if direction == "and" else test(source) or test(target)
 
     def is_value(self, protocol, direction, kind, value, mask):
+        """Returns whether the packet has this value with its qualifiers."""
         if kind == "proto":
             return self.is_proto(protocol, value[1])
         if kind in ("port", "portrange"):
@@ -314,31 +354,44 @@ class Reading:
         if value[0] == "ip6":
             masks = words(((1 << 128) - 1 ^ (1 << 128 - (128 if mask is None else mask)) - 1).to_bytes(16, "big"))
             parts = [(4, word) for word in words(value[1])]
-            return self.is_network("ip6") and self.sides(direction, lambda at: self.is_at(at, parts, masks), self.base + 8, self.base + 24)
+            return (
+                self.is_network("ip6")
+                and self.sides(direction, lambda at: self.is_at(at, parts, masks), self.base + 8, self.base + 24)
+            )
         data = bytes([value[1]]) if value[0] == "number" else value[1]
         return self.is_address(protocol, direction, big(data.ljust(4, b"\0"), 0, 4), mask_of(len(data), mask))
 
     def is_proto(self, protocol, number):
+        """Returns whether the packet has this protocol number."""
         if protocol == "ether":
             return self.link != RAW and self.field(self.base - 2, 2) == number
         return protocol != "ip6" and self.is_ip(number) or protocol != "ip" and self.is_ip6(number)
 
     def is_address(self, protocol, direction, address, mask):
+        """Returns whether the packet has an IPv4 address under a mask."""
         places = {"ip": (12, 16), "arp": (14, 24), "rarp": (14, 24)}
         for name in [protocol] if protocol else places:
             source, target = places[name]
-            if self.is_network(name) and self.sides(direction, lambda at: self.field(self.base + at, 4) & mask == address, source, target):
+            if (
+                self.is_network(name)
+                and self.sides(direction, lambda at: self.field(self.base + at, 4) & mask == address, source, target)
+            ):
                 return True
         return False
 
     def is_port(self, protocol, direction, first, last):
+        """Returns whether the packet has a port in a range."""
         numbers = [TRANSPORTS[protocol]] if protocol else [6, 17]
 
         def test(at):
-            # The port is loaded for each of the two tests; the one past the end of the bytes rejects either way.
+            # Loaded once for both comparisons; if it isn't captured, the packet is rejected.
             return first <= self.field(at, 2) <= last
 
-        if self.is_network("ip") and any(self.field(self.base + 9, 1) == number for number in numbers) and self.is_unfragmented():
+        if (
+            self.is_network("ip")
+            and any(self.field(self.base + 9, 1) == number for number in numbers)
+            and self.is_unfragmented()
+        ):
             at = self.base + 4 * (self.field(self.base, 1) & 15)
             if self.sides(direction, test, at, at + 2):
                 return True
@@ -366,7 +419,7 @@ class Reading:
 
 
 def accessors(tree):
-    """The protocols of the accessors of a number, in the order of their words."""
+    """Returns the protocols of the accessors of a number, in the order of their words."""
     if tree[0] == "accessor":
         return [tree[1], *accessors(tree[2])]
     if tree[0] in ("operator", "minus"):
@@ -375,24 +428,26 @@ def accessors(tree):
 
 
 def arithmetic(sign, left, right):
+    """Returns the result of an operation, or rejects the packet."""
     if sign in ("/", "%") and right == 0:
         raise Rejected
     return OPERATIONS[sign](left, right) % 2**32
 
 
 def words(data):
+    """Returns the four-byte words of bytes."""
     return [big(data, at, 4) for at in range(0, len(data), 4)]
 
 
 def mask_of(parts, mask):
-    """The mask of an IPv4 network of this number of parts."""
+    """Returns the mask of an IPv4 network of this number of parts."""
     if isinstance(mask, bytes):
         return big(mask, 0, 4)
     return 2**32 - 2 ** (32 - (8 * parts if mask is None else mask))
 
 
 def matches(tree, packet):
-    """Whether an expression keeps a packet, on a link type that can be filtered."""
+    """Returns whether an expression keeps a packet, on a link type that can be filtered."""
     assert packet.link in (ETHERNET, RAW, COOKED)
     try:
         return Reading(packet.link, packet.data, packet.original).holds(tree)
@@ -401,4 +456,5 @@ def matches(tree, packet):
 
 
 def tree_of(text):
+    """Returns the tree of an expression."""
     return Reader(text).read()

@@ -1,4 +1,7 @@
-"""The table `lengths`: printed lines of the packets of the traffic tables, each cut at every captured length up to 60."""
+"""Writes the table `lengths`: printed lines of packets that are cut.
+
+The packets are those of the traffic tables, each cut at every captured length up to 60.
+"""
 
 import commands
 from files import header
@@ -17,12 +20,12 @@ WITH_BYTES = [("HEAD", 1, "SYN"), ("RAW", 101, "UDP6_R"), ("COOKED", 113, "ARP_C
 
 
 def printed(options, data):
-    """The lines of a print, without their ends."""
+    """Returns the lines of a print, without their ends."""
     return commands.run(["print", *options, "in"], lambda name: data).written.decode().split("\n")[:-1]
 
 
 def both(data, options):
-    """A form for the lines that are printed without -e and with it: the link parts are the columns of its rows."""
+    """Returns a form for the lines that are printed without and with -e: the columns of its rows are the link parts."""
     parts, lines = [], []
     for plain, linked in zip(printed(options, data), printed(["-e", *options], data)):
         if plain.startswith("\t"):
@@ -37,7 +40,7 @@ def both(data, options):
 
 
 def of_packet(head, name, whole, known):
-    """The cases of a packet: its lines at each length, and its bytes."""
+    """Yields the cases of a packet: its lines at each length, and its bytes."""
     yield from ["", f"packet {name} {whole[16:].hex()}", f"cuts {name}_CUTS {MOST} {name}"]
     front, lines = both(known[head] + cuts(whole), [])
     yield from [*front, f"in {head} {name}_CUTS", *lines, ""]
@@ -46,13 +49,19 @@ def of_packet(head, name, whole, known):
 
 
 def cuts(whole):
+    """Returns the packet of a record, cut at every length."""
     original = int.from_bytes(whole[12:16], "little")
     return b"".join(record(whole[16:16 + size], original) for size in range(min(MOST, len(whole) - 16) + 1))
 
 
 def table(names_of):
-    """The table; `names_of` gives the names of another table's bytes."""
-    known = {"HEAD": header("pcap", 1), "RAW": header("pcap", 101), "COOKED": header("pcap", 113), "OTHER": header("pcap", 147)}
+    """Returns the table; `names_of` gives the names of another table's bytes."""
+    known = {
+        "HEAD": header("pcap", 1),
+        "RAW": header("pcap", 101),
+        "COOKED": header("pcap", 113),
+        "OTHER": header("pcap", 147),
+    }
     lines = [f"let {name} {pairs(data, {})}" for name, data in known.items()]
     for other, head in HEADS.items():
         for name, whole in names_of(other).items():

@@ -1,4 +1,4 @@
-"""Tables of crates/cap_cases as its README.md defines them: read as cases, and written."""
+"""Reads and writes the tables of crates/cap_cases, as its README.md defines them."""
 
 import dataclasses
 import re
@@ -23,7 +23,7 @@ class Case:
     other: list = dataclasses.field(default_factory=list)
 
     def run(self):
-        """All that a run of it depends on: everything but the title."""
+        """Returns all that a run of the case depends on: everything but the title."""
         return (self.kind, tuple(self.words), self.input, tuple(self.files.items()), self.listing, tuple(self.compiled),
                 self.written, self.messages, self.status, tuple(self.other))
 
@@ -54,10 +54,12 @@ class Table:
         self.add_block(lines, rows)
 
     def add_block(self, lines, rows):
+        """Adds the cases of a block: one for each row, or one."""
         for row in rows or [""] * bool(lines):
             self.cases.append(self.case_of([spelled(line, row) for line in lines]))
 
     def part(self, word):
+        """Returns the bytes of a word: those of a name, or a part of them, or hexadecimal digits."""
         name, _, places = word.removesuffix("]").partition("[")
         if name not in self.names:
             return bytes.fromhex(word)
@@ -65,6 +67,7 @@ class Table:
         return self.names[name][int(first or 0):int(last) if last else None]
 
     def bytes_of(self, words):
+        """Returns the bytes of words."""
         parts = []
         for word in words.split():
             times, star, once = word.partition("*")
@@ -72,6 +75,7 @@ class Table:
         return b"".join(parts)
 
     def named(self, kind, words):
+        """Returns the bytes that a line gives a name."""
         if kind == "let":
             return self.bytes_of(words)
         if kind == "packet":
@@ -86,6 +90,7 @@ class Table:
         return b"".join(record(whole[:size], original) for size in sizes)
 
     def case_of(self, lines):
+        """Returns the case that lines describe."""
         case = Case(input=self.given)
         for line in lines:
             kind, _, rest = line.partition(" ")
@@ -93,6 +98,7 @@ class Table:
         return case
 
     def read(self, case, kind, rest):
+        """Reads a line of a case."""
         number, _, text = rest.partition(" ")
         if kind in ("in", "out", "listing"):
             name, colon, words = rest.partition(":")
@@ -138,13 +144,13 @@ class Table:
 
 
 def values_of(text):
-    """The rows of `each`."""
+    """Returns the rows of `each`."""
     first, to, last = text.partition(" to ")
     return [str(value) for value in range(int(first), int(last) + 1)] if to else text.split()
 
 
 def spelled(line, row):
-    """A line of a form, spelled out for a row."""
+    """Returns a line of a form, spelled out for a row."""
     def column(match):
         place = match[1]
         if place == "":
@@ -156,13 +162,13 @@ def spelled(line, row):
 
 
 def record(data, original=None):
-    """A little-endian pcap record at time 0."""
+    """Returns a little-endian pcap record at time 0."""
     size = len(data)
     return bytes(8) + size.to_bytes(4, "little") + (size if original is None else original).to_bytes(4, "little") + data
 
 
 def pairs(data, names):
-    """Bytes as words: names where their bytes stand, and hexadecimal digits."""
+    """Returns bytes as words: names for the bytes that have one, else hexadecimal digits."""
     by_length = sorted(names.items(), key=lambda item: -len(item[1]))
     words, at, digits = [], 0, ""
     while at < len(data):
@@ -179,7 +185,7 @@ def pairs(data, names):
 
 
 def repeated(lines):
-    """Lines of output, equal ones together."""
+    """Returns lines of output, with equal ones combined."""
     found = []
     for line in lines:
         if found and found[-1][1] == line:
@@ -190,11 +196,12 @@ def repeated(lines):
 
 
 def text_of(written):
+    """Returns the words for an output that is a text."""
     return repeated(written.decode().split("\n")[:-1])
 
 
 def expected(words, outcome, names):
-    """The lines for the outcome of a run: text of a print or a report, else bytes."""
+    """Returns the lines for the outcome of a run: the text of a print or a report, else bytes."""
     is_text = words[0] == "infos" or words[0] == "print" and "-w" not in words
     lines = text_of(outcome.written) if is_text else [f"out {pairs(outcome.written, names)}"] * bool(outcome.written)
     lines += [f"reports {line.removeprefix('capkit: ')}" for line in outcome.messages.splitlines()]

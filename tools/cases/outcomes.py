@@ -1,6 +1,6 @@
-"""Computes the expected results of the cases of a table, and writes the lines that state them; all other lines are kept.
+"""Computes the expected results of the cases of a table, and writes the lines that state them.
 
-So to add a case to such a table, write only its input: its words, its files and its sweep.
+All other lines are kept: to add a case to such a table, write only its input: its words, its files and its sweep.
 """
 
 import collections
@@ -13,14 +13,14 @@ STATED = ("out", "text", "lines", "reports", "status", "at", "end", "meets", "st
 
 
 def table(stored):
-    """The table with its expected lines computed."""
+    """Returns the table with its expected lines computed."""
     blocks, cases = stored.rstrip("\n").split("\n\n"), iter(Table(stored).cases)
     names = Table(stored).names
     return "\n\n".join(block_of(block.split("\n"), cases, names) for block in blocks) + "\n"
 
 
 def block_of(lines, cases, names):
-    """A block: names, or a case, whose input is kept and whose results are computed."""
+    """Returns a block: names, or a case with its own input and computed results."""
     if all(line.partition(" ")[0] in (*NAMING, "#", "given") for line in lines):
         return "\n".join(lines)
     case = next(cases)
@@ -30,11 +30,16 @@ def block_of(lines, cases, names):
     kept = [line for line in lines if line.partition(" ")[0] not in STATED]
     sweeps = [line for line in kept if line.startswith("sweep ")]
     front = [line for line in kept if line not in sweeps]
-    return "\n".join(front + expected(case.words, outcome, names) + sweeps + [line for sweep in sweeps for line in swept(case, outcome, sweep.split()[1:])])
+    return "\n".join(
+        front
+        + expected(case.words, outcome, names)
+        + sweeps
+        + [line for sweep in sweeps for line in swept(case, outcome, sweep.split()[1:])]
+    )
 
 
 def swept(case, outcome, sweep):
-    """The lines that state what a sweep meets."""
+    """Returns the lines that state the results of a sweep."""
     kind, *numbers = sweep
     if kind == "steps":
         return [" ".join(["stops", *map(str, outcome.stops())])]
@@ -49,7 +54,9 @@ def swept(case, outcome, sweep):
 
 
 def prefixes(case):
-    """Where each prefix of the input is cut, or ends cleanly, and how much is written then."""
+    """Returns the results for each prefix of the input: the offset of the fault, or a clean end,
+    and how much was written.
+    """
     places, ends = {}, []
     for size in range(len(case.input) + 1):
         outcome = commands.outcome_of(case, case.input[:size])
@@ -63,21 +70,26 @@ def prefixes(case):
 
 
 def flipped(data):
-    """The data with each bit turned over."""
+    """Yields the data with each of its bits changed."""
     for bit in range(8 * len(data)):
         yield data[:bit // 8] + bytes([data[bit // 8] ^ 1 << bit % 8]) + data[bit // 8 + 1:]
 
 
 def numbered(data, place, size):
-    """The data with each number near a power of two at a place, as far as it has bytes."""
+    """Yields the data with each number near a power of two at an offset, as far as there are bytes."""
     for number in range(99):
         value = max(2 ** (number // 3) - 1 + number % 3, 0)
         yield data[:place] + value.to_bytes(8, "little")[:size] + data[place + size:]
 
 
 def meets(case, inputs):
-    """How many of the inputs are refused with each message."""
+    """Returns the lines that state how many of the inputs are refused with each message."""
+
+    def offset(item):
+        return int(item[0].split(": ")[2].split()[1]), item[0]
+
     counts = collections.Counter(commands.outcome_of(case, data).messages for data in inputs)
-    offset = lambda item: (int(item[0].split(": ")[2].split()[1]), item[0])
     refused = [(message, count) for message, count in counts.items() if message]
-    return [f"meets {count} {message.removeprefix('capkit: ').rstrip()}" for message, count in sorted(refused, key=offset)]
+    return [
+        f"meets {count} {message.removeprefix('capkit: ').rstrip()}" for message, count in sorted(refused, key=offset)
+    ]

@@ -1,6 +1,7 @@
-"""The table `random_captures`: commands with random options on random captures, most of them damaged.
+"""Writes the table `random_captures`: random commands on random captures, most of them damaged.
 
-Its words and captures were made at random once (seed 20261123) and are kept; their results are computed.
+Its words and captures were made at random once (seed 20261123) and are kept; their results are
+computed.
 """
 
 import commands
@@ -13,6 +14,7 @@ HEAD = """\
 
 
 def table(stored):
+    """Returns the table with its expected results computed."""
     lines = []
     for case in Table(stored).cases:
         lines += ["", f"run {' '.join(case.words)}", *(f"in {name}: {data.hex()}" for name, data in case.files.items())]

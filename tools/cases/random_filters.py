@@ -1,6 +1,7 @@
-"""The table `random_filters`: random expressions on random packets.
+"""Writes the table `random_filters`: random expressions on random packets.
 
-Its expressions and packets were made at random once (seed 20261123) and are kept; which match is computed.
+Its expressions and packets were made at random once (seed 20261123) and are kept; which of them
+match is computed.
 """
 
 import filters
@@ -14,6 +15,7 @@ HEAD = """\
 
 
 def table(stored):
+    """Returns the table with its expected results computed."""
     old, lines, by_link = Table(stored), [], {}
     for case in old.cases:
         by_link.setdefault(Capture(case.input).links[0], []).append(case)
@@ -27,7 +29,7 @@ def table(stored):
 
 
 def row(case, names):
-    """An expression, and the names of the packets that it keeps."""
+    """Returns the row for a case: an expression, and the names of the packets that it keeps."""
     tree = filters.tree_of(case.words[0])
     kept = [name for name, packet in zip(names, Capture(case.input).packets) if filters.matches(tree, packet)]
     return f"row {case.words[0]} ; {' '.join(kept)}"

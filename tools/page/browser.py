@@ -1,11 +1,11 @@
-"""Chromium and Firefox without a window, driven by WebDriver's commands; no package of Python is needed.
+"""Drives Chromium and Firefox without a window, by WebDriver's commands and without other packages.
 
     with Chromium(folder) as browser:
         browser.open(path)
         browser.value("document.title")
 
-Chromium's commands go to chromedriver (chromium-driver). Firefox takes them itself, by its protocol Marionette. What a page saves is in
-the folder.
+Chromium's commands go to chromedriver (chromium-driver). Firefox takes them itself, by its protocol
+Marionette. What a page saves is in the folder.
 """
 import base64
 import json
@@ -24,23 +24,36 @@ SECONDS = 120
 # An address at which nothing listens, for pages that try to fetch something.
 NOWHERE = "http://127.0.0.1:8099/"
 # Of a machine without a display, and of root, whose processes Chromium doesn't put into a sandbox.
-OPTIONS = ["--headless=new", "--no-sandbox", "--disable-gpu", "--disable-background-networking", "--hide-scrollbars", "--force-color-profile=srgb"]
-KEYS = {"Tab": "\ue004", "Enter": "\ue007", "Space": " ", "PageUp": "\ue00e", "PageDown": "\ue00f", "End": "\ue010", "Home": "\ue011",
+OPTIONS = [
+    "--headless=new",
+    "--no-sandbox",
+    "--disable-gpu",
+    "--disable-background-networking",
+    "--hide-scrollbars",
+    "--force-color-profile=srgb",
+]
+KEYS = {"Tab": "\ue004", "Enter": "\ue007", "Space": " ", "PageUp": "\ue00e", "PageDown": "\ue00f", "End": "\ue010",
+        "Home": "\ue011",
         "ArrowUp": "\ue013", "ArrowDown": "\ue015"}
 
 
 def free_port():
-    with socket.socket() as it:
-        it.bind(("127.0.0.1", 0))
-        return it.getsockname()[1]
+    """Returns the number of a TCP port that nobody uses."""
+    with socket.socket() as probe:
+        probe.bind(("127.0.0.1", 0))
+        return probe.getsockname()[1]
 
 
 class Browser:
     """What both have. `send` passes on a command by its name in WebDriver and in Marionette, with its parameters."""
 
     def __init__(self, folder):
-        self.folder, self.port, self.profile = pathlib.Path(folder).resolve(), free_port(), tempfile.mkdtemp(prefix="page-")
-        self.process = subprocess.Popen(self.command(), stdout=subprocess.DEVNULL, stderr=subprocess.DEVNULL, start_new_session=True)
+        self.folder, self.port, self.profile = (
+            pathlib.Path(folder).resolve(), free_port(), tempfile.mkdtemp(prefix="page-")
+        )
+        self.process = subprocess.Popen(
+            self.command(), stdout=subprocess.DEVNULL, stderr=subprocess.DEVNULL, start_new_session=True
+        )
         try:
             self.begin()
         except BaseException:
@@ -51,6 +64,7 @@ class Browser:
         return self
 
     def __exit__(self, *_):
+        """Ends the browser, and removes its profile."""
         try:
             os.killpg(self.process.pid, signal.SIGKILL)
         except ProcessLookupError:
@@ -70,14 +84,18 @@ class Browser:
                 time.sleep(0.1)
 
     def open(self, path, address=""):
+        """Opens a page."""
         self.send("url", "WebDriver:Navigate", url="about:blank")
         self.send("url", "WebDriver:Navigate", url=pathlib.Path(path).resolve().as_uri() + address)
 
     def value(self, expression, *arguments):
-        """What an expression of JavaScript is in the page; a promise is waited for."""
-        return self.send("execute/sync", "WebDriver:ExecuteScript", script=f"return ({expression})", args=list(arguments))
+        """Returns the value of a JavaScript expression in the page, after its promise if it is one."""
+        return self.send(
+            "execute/sync", "WebDriver:ExecuteScript", script=f"return ({expression})", args=list(arguments)
+        )
 
     def wait(self, condition, *arguments):
+        """Waits until a condition is true in the page."""
         end = time.monotonic() + SECONDS
         while not self.value(condition, *arguments):
             if time.monotonic() > end:
@@ -87,7 +105,9 @@ class Browser:
     def keys(self, *keys):
         """Presses keys and lets them go."""
         pressed = [{"type": kind, "value": KEYS.get(key, key)} for key in keys for kind in ("keyDown", "keyUp")]
-        self.send("actions", "WebDriver:PerformActions", actions=[{"type": "key", "id": "keyboard", "actions": pressed}])
+        self.send(
+            "actions", "WebDriver:PerformActions", actions=[{"type": "key", "id": "keyboard", "actions": pressed}]
+        )
 
     def click(self, selector):
         """Scrolls to an element and clicks into its middle, as a mouse does."""
@@ -98,25 +118,30 @@ class Browser:
         self.to_element(selector, "value", "WebDriver:ElementSendKeys", text=str(text))
 
     def to_element(self, selector, name, marionette, **parameters):
+        """Sends a command to an element."""
         found = self.send("element", "WebDriver:FindElement", using="css selector", value=selector)
         self.send(f"element/{found[ELEMENT]}/{name}", marionette, id=found[ELEMENT], **parameters)
 
     def names(self, selector):
-        """What a screen reader calls these elements."""
+        """Returns the names that a screen reader uses for these elements."""
         found = self.send("elements", "WebDriver:FindElements", using="css selector", value=selector)
         return [self.name(it[ELEMENT]) for it in found]
 
     def printed(self):
-        """The page on paper, as a PDF file."""
+        """Returns the page on paper, as a PDF file."""
         return base64.b64decode(self.send("print", "WebDriver:Print"))
 
 
 class Chromium(Browser):
+    """Chromium, driven by chromedriver."""
+
     def command(self):
         return [shutil.which("chromedriver") or "chromedriver", f"--port={self.port}"]
 
     def begin(self):
-        options = {"args": [*OPTIONS, f"--user-data-dir={self.profile}"], "binary": shutil.which("chromium") or "chromium"}
+        options = {
+            "args": [*OPTIONS, f"--user-data-dir={self.profile}"], "binary": shutil.which("chromium") or "chromium"
+        }
         wanted = {"goog:chromeOptions": options, "goog:loggingPrefs": {"browser": "ALL", "performance": "ALL"}}
         self.at = f"http://127.0.0.1:{self.port}/session"
         begun = self.again(lambda: self.post("", capabilities={"alwaysMatch": wanted}))
@@ -126,9 +151,11 @@ class Chromium(Browser):
         self.size(1300, 1000)
 
     def post(self, path, **parameters):
+        """Sends parameters to the driver."""
         return self.ask(path, json.dumps(parameters).encode())
 
     def ask(self, path, data=None):
+        """Sends a request to the driver, and returns the value of its response."""
         request = urllib.request.Request(self.at + path, data, {"Content-Type": "application/json"})
         try:
             with urllib.request.urlopen(request, timeout=2 * SECONDS) as answer:
@@ -148,25 +175,37 @@ class Chromium(Browser):
         self.call("Emulation.setDeviceMetricsOverride", width=width, height=height, deviceScaleFactor=1, mobile=False)
 
     def media(self, name="", scheme=""):
-        """For what the page is laid out, as "print"; and what its reader prefers, as "dark"."""
+        """Sets the medium of the page, such as "print", and the scheme that its reader prefers, such as "dark"."""
         features = [{"name": "prefers-color-scheme", "value": scheme}] if scheme else []
         self.call("Emulation.setEmulatedMedia", media=name, features=features)
 
     def log(self, kind):
+        """Returns new entries of a log."""
         return self.post("/se/log", type=kind)
 
     def faults(self):
-        """Errors and warnings of pages since this was asked last."""
+        """Returns the errors and warnings of pages since the last call."""
         return [it["message"] for it in self.log("browser") if it["level"] in ("SEVERE", "WARNING")]
 
     def fetched(self):
-        """The addresses that pages asked for since this was asked last, but files and what they made themselves."""
+        """Returns the addresses that pages fetched since the last call, except files and those that
+        they made themselves.
+        """
         events = [json.loads(it["message"])["message"] for it in self.log("performance")]
         blocked = {it["params"]["requestId"] for it in events if it["params"].get("blockedReason") == "csp"}
-        asked = [it["params"] for it in events if it["method"] == "Network.requestWillBeSent" and it["params"]["requestId"] not in blocked]
-        return [url for it in asked if not (url := it["request"]["url"]).startswith(("file:", "blob:", "about:", "data:", "chrome:"))]
+        requests = [
+            it["params"]
+            for it in events
+            if it["method"] == "Network.requestWillBeSent" and it["params"]["requestId"] not in blocked
+        ]
+        return [
+            url
+            for it in requests
+            if not (url := it["request"]["url"]).startswith(("file:", "blob:", "about:", "data:", "chrome:"))
+        ]
 
     def name(self, element):
+        """Returns the name that a screen reader uses for an element."""
         return self.ask(f"/element/{element}/computedlabel")
 
     def inside(self, expression):
@@ -176,14 +215,17 @@ class Chromium(Browser):
     def drag(self, kind, *paths):
         """Drags files over the page ("dragover"), or drops them there ("drop")."""
         files = {"items": [], "files": [str(pathlib.Path(it).resolve()) for it in paths], "dragOperationsMask": 1}
-        for it in {"dragover": ["dragEnter", "dragOver"], "drop": ["drop"]}[kind]:
-            self.call("Input.dispatchDragEvent", type=it, x=300, y=300, data=files)
+        for event in {"dragover": ["dragEnter", "dragOver"], "drop": ["drop"]}[kind]:
+            self.call("Input.dispatchDragEvent", type=event, x=300, y=300, data=files)
 
     def picture(self):
+        """Returns a picture of the page, as a PNG file."""
         return base64.b64decode(self.call("Page.captureScreenshot", format="png", captureBeyondViewport=True)["data"])
 
 
 class Firefox(Browser):
+    """Firefox, driven by its own protocol."""
+
     # Scripts of the browser itself. The first one notes what pages fetch, and their errors and warnings.
     WATCH = """
       window.fetched = [];
@@ -205,7 +247,10 @@ class Firefox(Browser):
       new Debugger().addDebuggee(window).executeInGlobal(arguments[0]);
     """
     # The page gets the event of a drag, with the files of a chooser that is made for it.
-    CHOOSER = """document.body.append(Object.assign(document.createElement("input"), { type: "file", id: "dragged", multiple: true }))"""
+    CHOOSER = (
+        """document.body.append(Object.assign(document.createElement("input"), """
+        """{ type: "file", id: "dragged", multiple: true }))"""
+    )
     DRAG = """((kind) => {
       const chooser = document.getElementById("dragged"), dataTransfer = new DataTransfer();
       for (const file of chooser.files) dataTransfer.items.add(file);
@@ -215,16 +260,21 @@ class Firefox(Browser):
     })(arguments[0])"""
 
     def command(self):
-        wanted = {"marionette.port": self.port, "browser.download.dir": str(self.folder), "browser.download.folderList": 2,
-                  "browser.helperApps.neverAsk.saveToDisk": "application/octet-stream", "browser.download.alwaysOpenPanel": False,
-                  "browser.shell.checkDefaultBrowser": False, "datareporting.policy.dataSubmissionEnabled": False}  # fmt: skip
+        wanted = {"marionette.port": self.port, "browser.download.dir": str(self.folder),
+                  "browser.download.folderList": 2,
+                  "browser.helperApps.neverAsk.saveToDisk": "application/octet-stream",
+                  "browser.download.alwaysOpenPanel": False,
+                  "browser.shell.checkDefaultBrowser": False,
+                  "datareporting.policy.dataSubmissionEnabled": False}  # fmt: skip
         lines = "".join(f"user_pref({json.dumps(name)}, {json.dumps(value)});\n" for name, value in wanted.items())
         pathlib.Path(self.profile, "user.js").write_text(lines)
         words = ["--headless", "--marionette", "--remote-allow-system-access", "--profile", self.profile]
         return [shutil.which("firefox-esr") or shutil.which("firefox") or "firefox-esr", *words]
 
     def begin(self):
-        self.count, self.socket = 0, self.again(lambda: socket.create_connection(("127.0.0.1", self.port), timeout=2 * SECONDS))
+        self.count, self.socket = (
+            0, self.again(lambda: socket.create_connection(("127.0.0.1", self.port), timeout=2 * SECONDS))
+        )
         self.received = self.socket.makefile("rb")
         self.message()
         self.send("", "WebDriver:NewSession", capabilities={})
@@ -233,6 +283,7 @@ class Firefox(Browser):
         self.own(self.WATCH)
 
     def message(self):
+        """Returns the next message of Firefox."""
         size = b""
         while (sign := self.received.read(1)) != b":":
             size += sign
@@ -261,15 +312,17 @@ class Firefox(Browser):
         self.wait("innerWidth === arguments[0] && innerHeight === arguments[1]", width, height)
 
     def media(self, name="", scheme=""):
-        """For what the page is laid out, as "print"; and what its reader prefers, as "dark"."""
+        """Sets the medium of the page, such as "print", and the scheme that its reader prefers, such as "dark"."""
         self.own(self.MEDIA, name, scheme)
 
     def faults(self):
-        """Errors and warnings of pages since this was asked last."""
+        """Returns the errors and warnings of pages since the last call."""
         return self.own("return window.faults.splice(0)")
 
     def fetched(self):
-        """The addresses that pages asked for since this was asked last, but files and what they made themselves."""
+        """Returns the addresses that pages fetched since the last call, except files and those that
+        they made themselves.
+        """
         return self.own("return window.fetched.splice(0)")
 
     def name(self, element):

@@ -1,11 +1,14 @@
 #!/usr/bin/env python3
-"""Records calls of this machine's library with their results, for replay.c, which repeats them on another processor.
+"""Records calls of this machine's library with their results.
 
 usage: calls.py LIBCAPKIT.SO OUT [SEED]
 
-Some expressions are refused or damaged, some programs are damaged, and captures are samples with flipped bits, cuts and inserted
-bytes. Every buffer is recorded before and after the call, with its padding. The record of a call: its name, whether its result has
-64 bits, its number of arguments, which of these are buffers (a bit each), the arguments (numbers, or length and bytes), the result,
+replay.c repeats them on another processor, and check_page.py in a browser.
+
+Some expressions are refused or damaged, some programs are damaged, and captures are samples with
+flipped bits, cuts and inserted bytes. Every buffer is recorded before and after the call, with its
+padding. The record of a call: its name, whether its result has 64 bits, its number of arguments,
+which of these are buffers (a bit each), the arguments (numbers, or length and bytes), the result,
 and the buffers after it. Numbers have 64 bits.
 """
 import ctypes
@@ -20,8 +23,17 @@ import compare
 
 ROOT = pathlib.Path(__file__).resolve().parents[2]
 LINKS = [1, 101, 113, 12, 7, 0]
-INSN, READER, INTERFACE, PACKET, WRITER, STEP = 8, 24, 280, 48, 8, 76
-MORE_UNITS, NO_PACKET, ANOTHER_LINK_TYPE = 227, 223, 226
+# The sizes of the structs of capkit.h, in bytes.
+INSN = 8
+READER = 24
+INTERFACE = 280
+PACKET = 48
+WRITER = 8
+STEP = 76
+# Statuses of capkit.h.
+MORE_UNITS = 227
+NO_PACKET = 223
+ANOTHER_LINK_TYPE = 226
 
 
 class Calls:
@@ -32,22 +44,27 @@ class Calls:
         self.number(0)
 
     def number(self, value):
+        """Writes a number."""
         self.out.write(struct.pack("<Q", value))
 
     def block(self, data):
+        """Writes the length of some bytes, and the bytes."""
         self.number(len(data))
         self.out.write(data)
 
     def __call__(self, name, *given, wide=False):
-        """Makes a call: numbers are passed as they are, bytes as a buffer. Returns the result and the buffers after the call."""
+        """Makes a call, with numbers by value and bytes in a buffer; returns the result and the buffers after it."""
         function = getattr(self.library, name)
         function.restype = ctypes.c_uint64 if wide else ctypes.c_uint32
-        passed = [ctypes.c_uint64(it) if isinstance(it, int) else ctypes.create_string_buffer(bytes(it), max(len(it), 1)) for it in given]
+        passed = [
+            ctypes.c_uint64(it) if isinstance(it, int) else ctypes.create_string_buffer(bytes(it), max(len(it), 1))
+            for it in given
+        ]
         self.block(name.encode())
         for value in (wide, len(given), sum(not isinstance(it, int) and 1 << place for place, it in enumerate(given))):
             self.number(value)
-        for it in given:
-            self.number(it) if isinstance(it, int) else self.block(bytes(it))
+        for argument in given:
+            self.number(argument) if isinstance(argument, int) else self.block(bytes(argument))
         result = function(*passed)
         self.number(result)
         after = [buffer.raw[: len(it)] for buffer, it in zip(passed, given) if not isinstance(it, int)]
@@ -57,12 +74,13 @@ class Calls:
         return result, after
 
     def end(self):
+        """Writes the number of calls at the start of the file."""
         self.out.seek(0)
         self.number(self.count)
 
 
 def expressions(chance, count):
-    """Random expressions, one in five with a byte changed, and some that are refused for their size."""
+    """Yields random expressions, one in five with a changed byte, and some that are refused for their size."""
     script = [sys.executable, ROOT / "library/tests/random_expressions.py", str(chance.randrange(1000))]
     with subprocess.Popen(script, stdout=subprocess.PIPE) as process:
         for line in itertools.islice(process.stdout, count):
@@ -71,7 +89,16 @@ def expressions(chance, count):
                 text[chance.randrange(len(text))] = chance.randrange(256)
             yield bytes(text)
         process.terminate()
-    yield from (b"", b"tcp prot", "é".encode(), b"tcp port 80", b"ip[0:4] / ip[4] = 3", b"len << 3 > 100", b"9" * 30, b"(" * 200 + b"tcp" + b")" * 200)
+    yield from (
+        b"",
+        b"tcp prot",
+        "é".encode(),
+        b"tcp port 80",
+        b"ip[0:4] / ip[4] = 3",
+        b"len << 3 > 100",
+        b"9" * 30,
+        b"(" * 200 + b"tcp" + b")" * 200,
+    )
 
 
 def call_compiler(calls, chance):
@@ -131,13 +158,13 @@ def call_reader(calls, chance, programs, data):
         if status == 0:
             calls("capkit_comment", reader, data, len(data), packet, bytes(300), 300, wide=True)
             body, captured = call_packet(calls, chance, programs, packet, data)
-            put = MORE_UNITS
-            while put == MORE_UNITS:
+            put = UNIT_BEFORE
+            while put == UNIT_BEFORE:
                 rest = packet, b"eth0", 4, body, captured, b"hi", 2, bytes(700), 700, bytes(8)
                 put, (writer, written, *_) = calls("capkit_writer_put", writer, written, 8, *rest)
         elif status != NO_PACKET:
             skipped, (reader, table, _) = calls("capkit_skip", reader, table, 8, data, len(data))
-            if skipped != 228:
+            if skipped != SKIPPED:
                 return
 
 
@@ -172,4 +199,6 @@ def main(library, out, seed=1):
     print(f"{calls.count} calls")
 
 
+if len(sys.argv) < 3:
+    sys.exit(__doc__)
 main(*sys.argv[1:])

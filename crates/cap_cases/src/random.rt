@@ -1,4 +1,4 @@
-//! Runs commands on random input, and compares what comes of them with what is simple to know.
+//! Runs commands on random input, and checks properties that their results must have.
 
 mod captures;
 mod choices;
@@ -14,7 +14,7 @@ use crate::random::run::Fuzzer;
 use crate::shown::difference_text;
 use std::test::Fail;
 
-/// Runs the rounds, and shows how often each property was looked at. Whether nothing differed.
+/// Runs the rounds, and prints how often each property was checked. `true` if nothing differed.
 ///
 /// Each round has the seed after that of the one before it, so that one round is run again by
 /// its own seed.

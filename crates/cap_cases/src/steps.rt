@@ -4,7 +4,7 @@ use crate::case::Case;
 use crate::runs::Outcome;
 use crate::sweeps::{Course, Verdict, at_end};
 
-/// How many numbers of steps are tried that are at least those of a whole run.
+/// How many runs that reach their end are made.
 const AFTER: usize = 3;
 
 /// Whether the run was closed before its end, at the stop of this number.
@@ -17,9 +17,9 @@ fn is_stopped_at(case: &Case<'_>, outcome: &Outcome, stop: usize) -> bool {
         && case.written.get(..*size) == Some(outcome.written.as_slice())
 }
 
-/// Judges a job that is closed after each number of steps: the stops come in order, each step
-/// reaches the next one at most, and after the end nothing changes. The last stop may be the one
-/// before the case's last.
+/// Judges a run that is closed after N steps, for one N after another. Its output is that of the
+/// last stop that was met or of the next one; once a run has reached its end, the later ones do
+/// too. At that time the case's last stop is met, or the one before it.
 pub fn after_steps(case: &Case<'_>, outcome: &Outcome, course: &mut Course) -> Verdict {
     let next = course.last.saturating_add(1);
     if outcome.is_of(case) {

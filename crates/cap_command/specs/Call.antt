@@ -1,9 +1,9 @@
--- The arguments of a run, and what it returns of them.
+-- The arguments of a run, and its results.
 use Rattle.std.specs.Prelude.{ℕ, Bool, List}
 use Rattle.cap_octet.specs.Views.{FreshInput, FreshOutput, OutputView}
 
--- A call, apart from its command: the names of the inputs, then of the output; the inputs; the
--- output, with how many bytes it takes in all, at least, before it fails; and the messages' device,
+-- A call, except its command: the names of the inputs and then of the output; the inputs; the
+-- output, with how many bytes it takes at least before it first fails; and the device for messages,
 -- with whether contracts know its bytes.
 pub record Call : Type 0 where
   pub names : List (List ℕ)
@@ -13,7 +13,7 @@ pub record Call : Type 0 where
   pub messages : OutputView
   pub tells : Bool
 
--- the call that these make
+-- the call with these arguments
 abbrev pub call_of : (names : List (List ℕ)) → List FreshInput → (output messages : FreshOutput)
     → Call
 call_of names inputs output messages = record {
@@ -25,7 +25,7 @@ call_of names inputs output messages = record {
   tells = messages.tells;
 }
 
--- what a run hands back
+-- what a run returns
 pub record RunResult : Type 0 where
   pub status : ℕ
   pub output : OutputView

@@ -8,20 +8,20 @@ use Rattle.cap_command.specs.declared.command.{Command.Command, Edit.Edit, Print
 abbrev pub PACKET_NUMBER_END : ℕ
 PACKET_NUMBER_END = 2 ^ 63
 
--- whether two numbers are those of a range: from 1 on, in order, below 2^63
+-- whether two numbers are a range of packet numbers: from 1 on, in order, below 2^63
 abbrev pub is_range : ℕ → ℕ → Bool
 is_range first last = nat_le 1 first && nat_le first last && nat_lt last PACKET_NUMBER_END
 
--- how many ranges an edit has at most
+-- the most ranges of an edit
 abbrev pub most_ranges : ℕ
 most_ranges = 512
 
--- whether ranges are not too many, and each is a range
+-- whether an edit may have these ranges: there are not too many, and each is a range
 abbrev pub has_proper_ranges : List (ℕ × ℕ) → Bool
 has_proper_ranges ranges =
     nat_le (length ranges) most_ranges && list_all (λ range. is_range range.0 range.1) ranges
 
--- how many inputs a merge or a report has at most
+-- the most inputs of a merge or a report
 abbrev pub most_inputs : ℕ
 most_inputs = 256
 
@@ -29,11 +29,11 @@ most_inputs = 256
 abbrev pub is_input_count : ℕ → Bool
 is_input_count inputs = nat_le 1 inputs && nat_le inputs most_inputs
 
--- times since 1970-01-01 00:00:00 UTC, and spans: whole nanoseconds, below 2^63
+-- whether this is a time since 1970-01-01 00:00:00 UTC, or a span: whole nanoseconds, below 2^63
 abbrev pub is_time : ℕ → Bool
 is_time nanos = nat_lt nanos TIME_END
 
--- the span of a shift, if it has one, is in its bounds
+-- if a shift has a span, it is in bounds
 abbrev pub is_proper_shift : Shift → Bool
 is_proper_shift Shift.None = true
 is_proper_shift (Shift.Later span) = is_time span
@@ -43,11 +43,11 @@ is_proper_shift (Shift.Earlier span) = is_time span
 abbrev pub is_at_least_one : ℕ → Bool
 is_at_least_one n = nat_le 1 n
 
--- how many packets a window for duplicates has at least, the one that is looked up among them
+-- the least number of packets in a window for duplicates, with the one that is looked up
 abbrev pub least_window : ℕ
 least_window = 2
 
--- how many packets a window for duplicates has at most
+-- the most packets in a window for duplicates
 abbrev pub most_window : ℕ
 most_window = 1_000_000
 
@@ -55,8 +55,7 @@ most_window = 1_000_000
 abbrev pub is_window : ℕ → Bool
 is_window n = nat_le least_window n && nat_le n most_window
 
--- ranges, times, the bytes that are kept, a shift and a window keep their bounds, if there are
--- some
+-- the ranges, times, snap length, shift and window that an edit has are in bounds
 abbrev pub is_proper_edit : {Z : Type 0} → Edit Z → Bool
 is_proper_edit edit =
     has_proper_ranges edit.ranges.items
@@ -64,16 +63,16 @@ is_proper_edit edit =
     && (option_map_or is_at_least_one edit.snap true
     && (is_proper_shift edit.shift && option_map_or is_window edit.window true))))
 
--- words and a listing exclude each other
+-- an expression and a listing aren't both given
 abbrev pub has_at_most_one_filter : {X : Type 0} → List ℕ → Option X → Bool
 has_at_most_one_filter words code = nat_eq (length words) 0 || is_none code
 
--- if the packets themselves are written there are no lines, to which link headers or bytes could
--- be added
+-- if packets are written as a capture there are no lines, so neither link headers nor bytes are
+-- asked for
 abbrev pub has_at_most_one_output : {X : Type 0} → (link bytes : Bool) → Option X → Bool
 has_at_most_one_output link bytes write = is_none write || not (link || bytes)
 
--- what is asked for goes together, and a count is at least 1
+-- the options of a print don't exclude each other, and a count is at least 1
 abbrev pub is_proper_print : {Z : Type 0} → Print Z → Bool
 is_proper_print print =
     has_at_most_one_filter (string_bytes print.expr) print.code
@@ -98,6 +97,7 @@ listing_of print = option_map (λ text. text.items) print.code
 abbrev pub is_in_some_range : List (ℕ × ℕ) → ℕ → Bool
 is_in_some_range ranges number = list_any (λ range. nat_le range.0 number && nat_le number range.1) ranges
 
--- the packet with this number is kept: the ranges name the deleted packets, or the only kept ones
+-- whether the packet with this number is kept: either the ranges name the packets to delete, or the
+-- only ones to keep
 abbrev pub is_kept : List (ℕ × ℕ) → Bool → ℕ → Bool
 is_kept ranges keep number = if keep then is_in_some_range ranges number else not (is_in_some_range ranges number)

@@ -1,4 +1,4 @@
--- The names that most proofs here cite, passed on from one place. Declares nothing.
+-- Re-exports the names that most proofs of this crate cite; declares nothing.
 pub use Rattle.std.proofs.Common.{◌≡◌, ℕ, zero, suc, ◌+◌, ◌≤◌, List, [], ◌∷◌, ap, arith, ◌≢◌, ◌↔◌, ◌⊎◌, inl, inr, None, Some, Result, Ok, Err, ◌∙◌, sym, ◌<◌}
 pub use Rattle.std.proofs.Common.{All, ◌-◌, ◌^◌, Bool, cond, not, nat_eq, nat_lt, ◌==◌, true, false, ◌++◌, length, get_or, set, slice_get, take, drop, min}
 pub use Rattle.std.proofs.Common.{Option, refl, subst}

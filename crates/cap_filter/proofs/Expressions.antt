@@ -1,4 +1,5 @@
--- A text is an expression, or is refused for a reason, if lexer, parser and checks together say so.
+-- The lexer, the parser and the checks together decide whether a text is an expression, and why it
+-- is refused.
 use Rattle.cap_filter.proofs.Common.{◌≡◌, ◌≢◌, ◌↔◌, ◌⊎◌, inl, inr, List, ℕ, None, Some, Result, Ok, Err, ◌∙◌, sym, ap, Token, Tokens, Expression}
 use Rattle.std.specs.Result.{IfOk, IfErr}
 use Rattle.flt_words.specs.declared.fault.ExprFault.{ExprFault}

@@ -1,4 +1,4 @@
--- What a filter's programs return and how many instructions they execute, run by run.
+-- What a filter's programs return, and how many instructions they execute, run by run.
 use Rattle.cap_filter.proofs.Common.{◌≡◌, ◌≢◌, ◌↔◌, ◌<◌, All, ℕ, zero, suc, ◌+◌, ◌-◌, ◌^◌, Bool, cond, not, nat_eq, nat_lt, ◌==◌, true, false, List, [], ◌∷◌}
 use Rattle.cap_filter.proofs.Common.{◌++◌, length, get_or, set, slice_get, take, drop, min, Option, None, Some, Ok, Err, refl, sym, ◌∙◌, ap, arith, subst}
 use Rattle.cap_filter.proofs.Common.{Captured, Content, machine, Answered, Expression, empty, truth, Link, Ether, AreMade, IsMade, steps_of_run, met_on, ran_at}
@@ -15,7 +15,7 @@ use Rattle.flt_gen.specs.{Elementary.MatchResult, Elementary.Yes, Elementary.No,
 use Rattle.cap_filter.specs.FilterRules.{ReturnsDecision}
 use Rattle.flt_ast.specs.Counts.{bound_of}
 
--- ---- the answer
+-- ---- the result
 
 nonzero : (a : ℕ) → a ≢ 0 → not (nat_eq a 0) ≡ true
 nonzero a other = rw (ne_eqb a 0 other) refl
@@ -29,7 +29,7 @@ answers-by Yes a right = nonzero a (right.1 refl)
 answers-by No a right = zero-unless a (λ other. let same : No ≡ Yes = right.0 other in absurd (cc))
 answers-by Rejected a right = zero-unless a (λ other. let same : Rejected ≡ Yes = right.0 other in absurd (cc))
 
--- a program for an expression accepts a packet where it passes
+-- a program for an expression accepts a packet if and only if the packet is kept
 pub run-answers : (prog : List Insn) (e : Expression) (link : Link) (p : List ℕ) (n answer count : ℕ) → IsProgramOf prog e link
     → machine prog p n (length prog) ≡ Answered answer count
     → ReturnsDecision (decision_of (holds e link p n)) (Ok (not (nat_eq answer 0)))
@@ -157,7 +157,7 @@ answers-none empty programs p sound none = absurd sound.some
 answers-none (truth a) programs p sound none =
     rw (found-nowhere (λ link. link_type link == p.link) all_links none) refl
 
--- the program of its link accepts it where a packet passes
+-- the program for a packet's link accepts it if the packet is kept
 pub answers-at : (e : Expression) (programs : List Content) (p : Captured) (i answer count : ℕ) → HasPrograms e programs → program_place p.link ≡ Some i
     → ((d : Content) → met_on p (get_or programs i d).insns ≡ Answered answer count) → ReturnsDecision (expression_decides e p) (Ok (not (nat_eq answer 0)))
 answers-at empty programs p i answer count sound is met = absurd sound.some

@@ -1,4 +1,4 @@
--- Which texts are expressions, which programs are valid, and why others are refused.
+-- Which texts are expressions, which programs are valid, and why other texts are refused.
 use Rattle.std.specs.Prelude.{◌≡◌, ◌⊎◌, List, ℕ, None, Some, Ok, Err}
 use Rattle.flt_words.specs.{Tokens.Tokens, declared.fault.ExprFault.ExprFault, declared.token.Token.Token}
 use Rattle.flt_ast.specs.{Checks.check_fault, Filled.fill_expression, Resolved.fill_fault, Tree.Expression}
@@ -15,28 +15,27 @@ pub record HasTree (text : List ℕ) (tree : Expression) : Type 0 where
   pub shallow : ¬ IsTooDeep tokens
   pub reads : IsReadAs (kinds_of tokens) tree
 
--- the tree has none of the faults of trees; with the qualifiers that it leaves out filled in it is
--- `e`
+-- the tree has no fault of trees, and `e` is it with the omitted qualifiers filled in
 pub record IsSettled (tree e : Expression) : Type 0 where
   pub fits : fill_fault tree ≡ None
   pub fills : e ≡ fill_expression tree
   pub sound : check_fault e ≡ None
 
--- the first fault of a tree: what doesn't fit a value (E7 to E9), else one of the whole (E10 to
--- E12); docs/inside/COMPILER.md has these numbers
+-- the first fault of a tree: one in a value (E7 to E9), else one of the whole (E10 to E12);
+-- docs/inside/COMPILER.md explains these numbers
 abbrev pub HasFault : Expression → ExprFault → Type 0
 HasFault tree refusal =
     (fill_fault tree ≡ Some refusal)
     ⊎ ((fill_fault tree ≡ None) × (check_fault (fill_expression tree) ≡ Some refusal))
 
--- the text is an expression; its tree, with the qualifiers that it leaves out filled in, is `e`
+-- the text is an expression, and `e` is its tree with the omitted qualifiers filled in
 pub record IsExpression (text : List ℕ) (e : Expression) : Type 0 where
   pub tree : Expression
   pub read : HasTree text tree
   pub settled : IsSettled tree e
 
--- the text is refused by the first of its faults: that of its tokens (E1 to E4), of their nesting
--- (E6), of the grammar (E5), of their tree
+-- the text is refused with the first of its faults: one of its tokens (E1 to E4), of their nesting
+-- (E6), of the grammar (E5) or of their tree
 pub data IsTextRefused (text : List ℕ) : ExprFault → Type 0 where
   by_tokens : {refusal : ExprFault} → Tokens text (Err refusal) → IsTextRefused text refusal
   too_deep : {tokens : List Token} → Tokens text (Ok tokens) → IsTooDeep tokens
@@ -47,14 +46,13 @@ pub data IsTextRefused (text : List ℕ) : ExprFault → Type 0 where
   by_tree : {tree : Expression} {refusal : ExprFault} → HasTree text tree → HasFault tree refusal
       → IsTextRefused text refusal
 
--- Why no expression is made of a text: it is refused; memory may be refused whatever the text is.
+-- Why a text isn't compiled: it is refused, or, for any text, memory ran out.
 abbrev pub IsTextFault : List ℕ → ExprFault → Type 0
 IsTextFault text ExprFault.Memory = Unit {0}
 IsTextFault text refusal = IsTextRefused text refusal
 
--- a valid program for the expression that a text is: on packets of this link it accepts exactly
--- those that the expression matches, and it has at most as many instructions as the expression's
--- bound
+-- a valid program for an expression: on packets of this link it accepts exactly those that match,
+-- and it has at most as many instructions as the expression's bound
 pub record IsCompiled (text : List ℕ) (link : Link) (prog : List Insn) : Type 0 where
   pub e : tree.Expression
   pub expression : IsExpression text e

@@ -25,7 +25,7 @@ AreMade e [] (program ∷ programs) = ⊥
 AreMade e (link ∷ links) [] = ⊥
 AreMade e (link ∷ links) (program ∷ programs) = IsMade program e link × AreMade e links programs
 
--- how many instructions a run met that reached an answer; 0 of any other run
+-- the number of instructions that a complete run executed; 0 for any other run
 abbrev pub steps_of_run : Progress → ℕ
 steps_of_run (Answered answer count) = count
 steps_of_run _ = 0
@@ -34,8 +34,8 @@ steps_of_run _ = 0
 abbrev pub met_on : Captured → List Insn → Progress
 met_on p prog = machine prog p.bytes p.orig (length prog)
 
--- a program after a run on a packet: what it spent rose by the instructions that the run met, to
--- 2^128 - 1 at most
+-- a program after a run on a packet: its count of executed instructions grew by those of the run,
+-- up to 2^128 - 1
 abbrev pub ran_on : Captured → Content → Content
 ran_on p program =
     record {
@@ -43,18 +43,18 @@ ran_on p program =
       spent = min (program.spent + steps_of_run (met_on p program.insns)) (2 ^ 128 - 1);
     }
 
--- programs, of which the one at this place ran on a packet
+-- the programs after the one with this index ran on a packet
 abbrev pub ran_at : ℕ → Captured → List Content → List Content
 ran_at i p [] = []
 ran_at zero p (program ∷ programs) = ran_on p program ∷ programs
 ran_at (suc i) p (program ∷ programs) = program ∷ ran_at i p programs
 
--- how many instructions the runs of some programs met
+-- the number of instructions that the runs of these programs executed
 abbrev pub spent_in : List Content → ℕ
 spent_in [] = 0
 spent_in (program ∷ programs) = program.spent + spent_in programs
 
--- programs, of which the one at this place ran on a packet; without a place none of them ran
+-- the programs after the one with this index ran on a packet; without an index none of them ran
 abbrev pub ran_if : Option ℕ → Captured → List Content → List Content
 ran_if None p programs = programs
 ran_if (Some i) p programs = ran_at i p programs

@@ -47,7 +47,7 @@ module _ (whole : Ptr × ℕ) where
   contents vs = fex Fields.Denot (λ i. fsep (Fields.own_val i vs) (kept i))
 
   module _ {M : Type 1} {𝓤 : Ura M} {𝓛 : Logic 𝓤} {K : Type 0} {Γ : List (Item 𝓤)} {G : Goal 𝓤 𝓛.H} where
-    -- the fields are some memory of which `IsGivenBack` holds
+    -- the fields are some memory for which `IsGivenBack` is true
     pub contents_out : K → (vs : List Val) → ((m : Ptr × ℕ) (v : Val) → IsGivenBack whole m → Good (layout Memory) v → vs ≡ round v ∷ []
         → Seq K 𝓛 (‵ (Memory.own_val m (v ∷ [])) ∷ Γ) G)
         → Seq K 𝓛 (‵ (contents vs) ∷ Γ) G

@@ -1,4 +1,4 @@
--- Memory that a caller lends: what owning it means, and what it is after a call.
+-- Memory that a caller lends: what it means to own it, and what is owned after a call.
 use Rattle.std.specs.Prelude.{◌≡◌, ℕ, zero, suc, ◌/◌, ◌<◌}
 use mir.Syntax.{Ty, w128, ty_int, ty_array}
 use base.Fml.{Fml, ftrue, fwand, fex}
@@ -21,10 +21,10 @@ units_at (suc n) p = room_for (units (suc n)) p
 abbrev pub bytes_at : Ptr → ℕ → Fml
 bytes_at p n = units_at (n / 16) p
 
--- the right to give all of the memory back, of which a block for a τ at p is the start
+-- the right to give back all of the memory, whose start is a block for a τ at p
 abbrev pub block_token : Place → Ty → Ptr → Fml
 block_token lent τ p = fex (p ≡ lent.0) (λ _. fwand (room_for τ p) (bytes_at p lent.1))
 
--- what is had of the memory that was lent: all of it, or no byte
+-- what is owned of the lent memory after a call: all of it, or no byte
 abbrev pub IsGivenBack : Place → Place → Type 0
 IsGivenBack lent had = 0 < had.1 → had ≡ lent

@@ -24,7 +24,8 @@ pub struct Region {
 }
 
 impl Region {
-    /// Takes the memory; none remains in its place.
+    /// An allocator over all of the memory that was lent, until [`Region::give_back`]. Meanwhile
+    /// none is left in its place, so that nobody else takes it.
     pub fn over(memory: &mut Memory) -> Region
         ensures { result.slot ≡ memory.old }
     {

@@ -1,4 +1,4 @@
--- The names that most proofs here cite, passed on from one place. Declares nothing.
+-- Re-exports the names that most proofs of this crate cite; declares nothing.
 pub use Rattle.std.proofs.Common.{◌≡◌, ℕ, zero, suc, ◌+◌, ◌<◌, List, [], ◌∷◌, ◌++◌, length, max, Option, Some, refl, sym, ◌∙◌, ap, ap₂, arith, get_or, Bool}
 pub use Rattle.std.proofs.Common.{true, false, Result, Ok, Err, map, ◌≢◌, ◌≤◌, ◌⊎◌, inl, inr, ◌&&◌, ◌||◌, IsTrue, None, subst, ◌==◌, if◌then◌else◌, not, cond}
 pub use Rattle.std.proofs.Common.{nat_le, add-zero, nat_eq, nat_lt}

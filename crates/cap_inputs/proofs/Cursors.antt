@@ -1,4 +1,4 @@
--- One input among others.
+-- Lemmas on one input among others: how it is found, and how it alone changes.
 use Rattle.cap_inputs.proofs.Common.{◌≡◌, ℕ, zero, suc, ◌+◌, ◌<◌, List, [], ◌∷◌, ◌++◌, length, max, Option, Some, refl, sym, ◌∙◌, ap, ap₂, subst, arith, get_or}
 use Rattle.cap_inputs.proofs.Common.{Bool, true, false, Result, Ok, append-nil, length-append, Placed, slice_set, Fault, Advances, slice_get, AllByRecursion}
 use Rattle.cap_inputs.proofs.Common.{PacketOrder, SectionFits, TakesIfAtHand, SkipsUnits, Phase, Reading, SourceView, Steps, end_offset, phase_after, Schedule}
@@ -18,7 +18,7 @@ weaker P Q each (x ∷ xs) all = (each x all.0, weaker P Q each xs all.1)
 
 -- ---- one input
 
--- in front of others
+-- an input before others
 pub later-input : (x : InputView) (xs : List InputView) (i : ℕ) (h : InputView) → IsInput xs i h → IsInput (x ∷ xs) (suc i) h
 later-input x xs i h a = record { front = x ∷ a.front; back = a.back; place = ap suc a.place; splits = ap (λ (l : List InputView). x ∷ l) a.splits }
 

@@ -88,7 +88,7 @@ room-for (Merge first last) cursors i h waits q a idle was merge =
       none-entered i q.waiting (held (is_of i) ∙ rw a.splits (none-idle i 0 a.front a.back h (omega (arith, a.place)) idle)),
     )
 
--- another cursor of an input, whose entry came or went
+-- another cursor of an input, whose entry was added or removed
 queued-with : (cursors : List InputView) (i : ℕ) (h h' : InputView) (q q' : Queue) (a : IsInput cursors i h)
     → ((f : Waiting → ℕ) → sum_by f q'.waiting + part f h i ≡ sum_by f q.waiting + part f h' i) → q.room ≤ q'.room → IsQueued cursors q
     → IsQueued (slice_set cursors i h') q'
@@ -284,7 +284,7 @@ none-first : {X : Type 0} (f : X → InputView) (g : Waiting → ℕ) (i : ℕ) 
 none-first f g i [] idle = refl
 none-first f g i (x ∷ xs) idle = let later = none-first f g (i + 1) xs idle in rw (idle x) (omega (arith, later))
 
--- a new queue is that of inputs of which none waits
+-- a new queue is that of inputs none of which waits
 pub queued-first : {X : Type 0} (f : X → InputView) (xs : List X) (merges : Bool) (q : Queue) → ((x : X) → (f x).waiting ≡ false) → q.waiting ≡ []
     → (IsTrue merges → length (map f xs) ≤ q.room)
     → HoldsQueue (order_of merges) (map f xs) q

@@ -1,4 +1,4 @@
--- What is next of the inputs, as it is found out.
+-- The next action on the inputs is found by their number, their turn or the least key.
 use Rattle.std.proofs.{Math.Bool.or-true, lemmas.Bool.and_right, lemmas.List.Elements.All-from_recursion, lemmas.List.Folds.list_all-append}
 use Rattle.std.proofs.{lemmas.List.Folds.list_any-append, lemmas.List.Folds.list_any_none}
 use Rattle.cap_inputs.proofs.Common.{IsAtTurn, add-zero, append-nil, ◌≡◌, inl, inr, ◌&&◌, ◌||◌, if◌then◌else◌, ℕ, suc, ◌+◌, ◌<◌, ◌≤◌, Bool, true, false, not}
@@ -8,7 +8,7 @@ use Rattle.cap_inputs.proofs.Common.{ended_count, has_least_key, is_open, is_unr
 use Rattle.cap_inputs.proofs.Common.{IsNextIn, IsOpen, IsReady, KeysFrom}
 use Rattle.cap_inputs.proofs.Cursors.{get-input, weaker}
 
--- ---- the first input of which a test holds
+-- ---- the first input for which a test is true
 
 abbrev pub AllFail : (InputView → Bool) → List InputView → Type 0
 AllFail p xs = AllByRecursion (λ x. p x ≡ false) xs

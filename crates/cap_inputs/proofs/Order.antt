@@ -1,4 +1,4 @@
--- A merge from the current packets gives the order of the whole.
+-- The packets of a merge, continued from the current ones, are in the order of the complete inputs.
 use Rattle.cap_inputs.proofs.Common.{AllByRecursion, ◌≡◌, ℕ, suc, ◌+◌, ◌<◌, ◌≤◌, true, false, max, List, [], ◌∷◌, ◌++◌, length, refl, sym, ◌∙◌, ap, arith}
 use Rattle.cap_inputs.proofs.Common.{add-zero, subst, append_assoc, nat_tests, Fault, Placed, Items, Ending, Packet, SequenceEnd, Complete, FaultIn, with_front}
 use Rattle.cap_inputs.proofs.Common.{InputItems, Entry, end_after, entries_of, all_entries, comes_before, insert_entry, sort_entries, sequence_of_entries}
@@ -45,7 +45,7 @@ later e x h l = grind (arith, nat_tests, h, l)
 later-own : (e x : Entry) → FollowsIn e.input e.key x → comes_before x e ≡ false
 later-own e x h = grind (arith, nat_tests, h.0, h.1)
 
--- the least key of what is left of an input is at least the key
+-- the least key among the remaining items of an input is at least the input's key
 abbrev pub IsFrom : ℕ → ℕ → List Placed → Type 0
 IsFrom k greatest [] = Unit {0}
 IsFrom k greatest (p ∷ ps) = k ≤ max greatest p.packet.time
@@ -99,8 +99,8 @@ over-right : (a : SequenceEnd) → first_end a Complete ≡ a
 over-right Complete = refl
 over-right (FaultIn i f o) = refl
 
--- An input whose current packet has the least key, the lowest input of those: its packet comes
--- first, and what is left after it is the merge of what is left.
+-- For the input whose current packet has the least key (the lowest one among equals), that packet
+-- comes first, and the items after it are the merge of what remains.
 pub merged-next : (xs ys : List InputItems) (g : ℕ) (p : Placed) (items : Items) (ps : List Placed) (size : ℕ) → items.packets ≡ p ∷ ps
     → fault_without_packets 0 (xs ++ record { greatest = g; items = items; size = size } ∷ ys) ≡ Complete → AllFrom (max g p.packet.time + 1) xs
     → AllFrom (max g p.packet.time) ys

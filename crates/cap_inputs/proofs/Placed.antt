@@ -1,4 +1,4 @@
--- What the cursor says of the inputs, and how it goes on.
+-- The schedule agrees with the inputs, and still does after each read and decision.
 use Rattle.std.proofs.lemmas.{Bool.cases_order, Option.slice_get_within}
 use Rattle.cap_inputs.proofs.Common.{◌≡◌, ◌≢◌, ◌⊎◌, inl, inr, ℕ, zero, suc, ◌+◌, ◌<◌, ◌≤◌, Bool, true, false, List, [], ◌∷◌, ◌++◌, length, map, Some, Result}
 use Rattle.cap_inputs.proofs.Common.{Ok, Err, refl, sym, ◌∙◌, ap, arith, slice_get, slice_set, AllByRecursion, Fault, Phase, Reading, Ended, Failed}
@@ -30,7 +30,7 @@ get-back : (xs ys : List InputView) (h : InputView) (i : ℕ) → slice_get (xs 
 get-back [] ys h i = let one : 0 + suc i ≡ suc i = omega arith in rw one refl
 get-back (x ∷ xs) ys h i = let one : suc (length xs) + suc i ≡ suc (length xs + suc i) = omega arith in rw one (get-back xs ys h i)
 
--- those in front of an input, and those after it
+-- the inputs before one, and those after it
 module _ (cursors : List InputView) (i : ℕ) (h : InputView) (a : IsInput cursors i h) where
   front-of : (Q : InputView → Type 0) → ((j : ℕ) (k : InputView) → j < i → slice_get cursors j ≡ Some k → Q k) → AllByRecursion Q a.front
   front-of Q each = all-of Q a.front (λ j k is. (
@@ -137,7 +137,7 @@ pub decided-waits : (order : PacketOrder) (cursors : List InputView) (i : ℕ) (
 decided-waits InTurn cursors i h a tells = ap (λ (v : InputView). v.waiting) (same-input cursors i h tells.cursor a tells.among) ∙ tells.waits
 decided-waits ByTime cursors i h a tells = ap (λ (v : InputView). v.waiting) (same-input cursors i h tells.1.cursor a tells.1.among) ∙ tells.1.waits
 
--- ---- the cursor goes on
+-- ---- the cursor moves on
 
 phase-unended : (h : InputView) (p : Phase) → h.source.phase ≡ p → (p ≡ Ended → ⊥) → IsOpen h
 phase-unended h p is other = λ e. other (sym is ∙ e)

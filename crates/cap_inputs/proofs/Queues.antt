@@ -1,4 +1,4 @@
--- What comes out of the heap comes before what stays.
+-- The entry that the heap returns comes before those that remain.
 use Rattle.cap_inputs.proofs.Common.{◌≡◌, ◌≢◌, ℕ, zero, suc, ◌<◌, inl, inr, false, IsTrue, length, get_or, nat_eq, List, [], ◌∷◌, map, sym, ap, ◌∙◌, arith, All}
 use Rattle.cap_inputs.proofs.Common.{AllByRecursion, IsPermutation, IsUpperBound, lt_by_cmp, Reverse, IsPermutation-map, nat_tests, cases_order, Waiting}
 use Rattle.cap_inputs.proofs.Common.{Precedes, NotAfter, inputs_of, IsOnceEach, IsFirstWaiting, is_entered}

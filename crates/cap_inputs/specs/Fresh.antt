@@ -4,7 +4,7 @@ use Rattle.cap_octet.specs.Views.{FreshInput}
 use Rattle.cap_io.specs.{Sequence.PacketOrder, Source.source_at}
 use Rattle.cap_inputs.specs.Inputs.{InputView, InputsView, InputPast}
 
--- an input that was handed over: nothing is read, no packet waits, none is decided
+-- an input that was handed over: nothing is read, no packet waits, and no packet is decided
 abbrev pub fresh_view : FreshInput → InputView
 fresh_view o =
     record {
@@ -17,6 +17,6 @@ fresh_view o =
 abbrev pub nothing_done : FreshInput → InputPast
 nothing_done o = record { text = o.text; done = []; packets = [] }
 
--- the inputs of a job as it begins, and the order in which their packets will come
+-- the inputs of a job at its start, and the order in which their packets will come
 abbrev pub fresh_inputs : PacketOrder → List FreshInput → InputsView
 fresh_inputs order os = record { order = order; cursors = map fresh_view os }

@@ -1,4 +1,4 @@
--- Units that hold packets and end cleanly read back as them.
+-- Units that hold packets and end cleanly read back as these packets.
 use Rattle.cap_io.proofs.Common.{◌≡◌, ℕ, ◌+◌, List, [], ◌∷◌, ◌++◌, length, map, None, refl, sym, ap, ap₂, ◌∙◌, append_assoc, append-nil, map-append}
 use Rattle.cap_io.proofs.Common.{AllByRecursion, Captured, Declared, Nothing, IsUnit, Placed, placed_at, AreUnits, no_unit, unit_then, NoUnit, front_of, Items}
 use Rattle.cap_io.proofs.Common.{End, items, after_packets, ReadsBack}
@@ -43,7 +43,7 @@ reads-back text ps holds =
       ending = ap (λ (i : Items). i.ending) all;
     }
 
--- what holds of each packet after those before it holds of those after some
+-- what is true of each packet after those before it is also true of those after some
 pub each-following : (Q : Captured → Type 0) (all : List Captured) → ((earlier : List Captured) (p : Captured) (later : List Captured) → all ≡ earlier
     ++ p ∷ later → Q p)
     → (earlier ps : List Captured) → all ≡ earlier ++ ps → AllByRecursion Q ps

@@ -1,4 +1,4 @@
--- What came of a block, from read to read.
+-- The effect of reading a block, from one read of the device to the next.
 use Rattle.cap_io.proofs.Common.{◌≡◌, ℕ, true, ◌+◌, ◌<◌, ◌≤◌, ◌⊎◌, inl, inr, List, [], ◌∷◌, ◌++◌, length, take, drop, Option, Some, None, Result, Ok, Err, refl}
 use Rattle.cap_io.proofs.Common.{sym, ap, ap₂, ◌∙◌, subst, arith, unwrap_or, option_to_list, append_assoc, length-append, length-take-le, drop_at, drop-drop}
 use Rattle.cap_io.proofs.Common.{take-append-drop, checked, first_failing, Captured, Fault, NoMemory, ReadFailed, Order, checked_ok, checked_err, Parts}
@@ -10,16 +10,16 @@ use Rattle.cap_io.proofs.Common.{IsEntryFault, most_in_unit, block_length, RestM
 use Rattle.cap_io.proofs.Fronts.{decisive_block_length, length_by_header-whole}
 use Rattle.cap_io.proofs.OwnFaults.{entry-not_failed, own-frame, own-not_failed, own-not_memory}
 
--- ---- what came
+-- ---- what was read
 
--- a block whose first 12 bytes pass came, and is at the start of the buffer
+-- a block whose first 12 bytes fail no check was read, and is at the start of the buffer
 pub record WholeCame (section : Option Order) (text buffer : List ℕ) (frame : Frame) (unread' : List ℕ) : Type 0 where
   pub passes : frame_fault section (take frame.length buffer) ≡ None
   pub says : frame_in section (take frame.length buffer) ≡ frame
   pub splits : text ≡ take frame.length buffer ++ unread'
 
--- Why no block came: a fault is in its place, or the device failed, or memory ran out. At most the
--- block was taken, and where the device failed fewer bytes than decide what stands there.
+-- Why no block was read: there is a fault, or the device failed, or memory ran out. At most the
+-- block's bytes were read, and if the device failed, fewer bytes than decide what is there.
 pub record BlockMissing (before : Option Section) (text unread' : List ℕ) (fault : Fault) : Type 0 where
   pub why : (unit_fault before text ≡ Some fault) ⊎ (fault ≡ ReadFailed) ⊎ (fault ≡ NoMemory)
   pub count : ℕ
@@ -39,7 +39,7 @@ abbrev pub BlockPacketIfAny : Order → Option Section → List ℕ → Option P
 BlockPacketIfAny order before block None = packets_in before block ≡ []
 BlockPacketIfAny order before block (Some spans) = BlockPacket order before block spans
 
--- a block came, and is at the start of the buffer
+-- a block was read, and is at the start of the buffer
 pub record BlockCame (before : Option Section) (text buffer : List ℕ) (order : Order) (size : ℕ) (spans : Option PacketSpans)
     (interfaces' : List Described) (unread' : List ℕ) : Type 0 where
   pub is_block : IsBlock before (take size buffer)
@@ -49,7 +49,7 @@ pub record BlockCame (before : Option Section) (text buffer : List ℕ) (order :
 
 -- ---- the first 12 bytes
 
--- what the first 12 bytes say
+-- the fields of the first 12 bytes
 pub record FrontSays (section : Option Order) (front : List ℕ) (frame : Frame) : Type 0 where
   pub passes : frame_fault section front ≡ None
   pub says : frame_in section front ≡ frame
@@ -61,7 +61,7 @@ front_says section front answer frame is ok =
     let both = checked_ok (frame_fault section front) (frame_in section front) frame (sym is ∙ ok) in
     record { passes = both.0; says = both.1 }
 
--- the same of a text that begins with them
+-- the same for bytes that begin with them
 pub says_after : (before : Option Section) (section : Option Order) (front more : List ℕ) (frame : Frame) → order_before before ≡ section
     → 12 ≤ length front → FrontSays section front frame
     → (first_failing (frame_checks (order_before before) (front ++ more)) ≡ None) × (frame_after before (front ++ more) ≡ frame)
@@ -149,7 +149,7 @@ rest_of_block before section front unread unread' frame fault is upper_bound sai
     ])
     (λ none. omega (arith, missing.within)) (λ failed. rw reads (omega (arith, missing.within))) (omega (arith, missing.within)) missing.there missing.rest
 
--- ---- the whole block
+-- ---- the complete block
 
 pub whole_came : (section : Option Order) (front unread unread' unit buffer : List ℕ) (frame : Frame) → length front ≡ 12 → FrontSays section front frame
     → take frame.length buffer ≡ unit → take (length front) unit ≡ front → unread ≡ drop (length front) unit ++ unread'
@@ -165,7 +165,7 @@ whole_came section front unread unread' unit buffer frame upper_bound said there
           ∙ ap (λ (l : List ℕ). l ++ unread') joined);
     }
 
--- the frame of a block is that of the text that begins with it
+-- the frame of a block is that of any bytes that begin with it
 record IsFramed (before : Option Section) (block more : List ℕ) (frame : Frame) : Type 0 where
   framed : first_failing (frame_checks (order_before before) (block ++ more)) ≡ None
   following : frame_after before (block ++ more) ≡ frame
@@ -215,7 +215,7 @@ entry_refused before section interfaces text unread' block buffer frame fault is
       rest = sym (drop_at block unread' frame.length size);
     })
 
--- what holds of a block that has an interface holds of the text that begins with it
+-- what is true of a block with an interface is true of any bytes that begin with it
 pub record Describes (before : Option Section) (text : List ℕ) : Type 0 where
   pub passes : unit_fault before text ≡ None
   pub is : is_interface (parts_after before text) ≡ true

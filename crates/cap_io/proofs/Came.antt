@@ -1,4 +1,4 @@
--- What came of a unit, from read to read.
+-- The effect of reading a unit, from one read of the device to the next.
 use Rattle.cap_io.proofs.Common.{◌≡◌, ℕ, Bool, IsTrue, IfOk, IfErr, ◌+◌, ◌<◌, ◌≤◌, inl, inr, List, [], ◌++◌, length, take, drop, Option, Some, None, is_some}
 use Rattle.cap_io.proofs.Common.{unwrap_or, true, false, Result, Ok, Err, refl, sym, subst, ap, ap₂, ◌∙◌, arith, take_all, length-append, take-append-drop}
 use Rattle.cap_io.proofs.Common.{drop_at, drop-drop, append_assoc, append-nil, TakesFull, checked, first_failing, Fault, NotACaptureFile, Truncated, ReadFailed}
@@ -13,7 +13,7 @@ use Rattle.cap_io.proofs.OwnFaults.{own-fields, own-header, own-not_failed, own-
 use Rattle.std.proofs.{Common.length-drop, Math.ListN.drop_of_length-le}
 use Rattle.cap_pcapng.proofs.Units as block
 
--- bytes that came, and some more after them
+-- bytes that were read, and some more after them
 pub Taken-following : (declared : Declared) (unread unread1 unread2 front : List ℕ) (fault : Fault) (count : ℕ) → unread ≡ front ++ unread1
     → count ≤ length unread1 → unread2 ≡ drop count unread1
     → length front + count ≤ most_taken (front_of declared unread) → (fault ≡ ReadFailed → length front + count < decisive_length declared unread)
@@ -87,7 +87,7 @@ rest_of_header unread unread1 unread2 magic fault whole is splits size other som
           (λ failed. rw (decisive_length-header unread kind form) (omega (arith, missing.within)));
     }
 
--- bytes that came whole after their first ones, which are still there
+-- bytes that were read completely after the first ones, which are unchanged
 pub first_of : (first bytes : List ℕ) (size : ℕ) → length bytes ≡ size → take (length first) (take size bytes) ≡ first → take (length first) bytes ≡ first
 first_of first bytes size whole came = ap (take (length first)) (sym (take_all size bytes (omega arith))) ∙ came
 
@@ -186,7 +186,7 @@ pub header-has_memory : (bytes : List ℕ) (answer : Result Head Fault) → answ
 header-has_memory bytes (Ok head) is = tt
 header-has_memory bytes (Err fault) is = own-not_memory fault (own-header bytes fault (checked_err (header_fault bytes) (header_in bytes) fault (sym is)))
 
--- a record whose header passes takes memory where the block has less room
+-- a record whose header fails no check needs memory if the buffer has less room
 pub record-takes : (head : Head) (unread unread1 front : List ℕ) (found : RecordHead) (size room : ℕ) → size ≡ 16 + found.captured → unread ≡ front
     ++ unread1 → length front ≡ 16 → FieldsCame head front found
     → room < size → TakesMemory room (PcapFile head) unread

@@ -1,4 +1,4 @@
--- Units of a capture of any kind, as they came.
+-- The effect of reading the units of a capture of any format.
 use Rattle.std.proofs.lemmas.Bool.{cases_lt}
 use Rattle.cap_io.proofs.BlocksCame.{BlockCame, BlockMissing, Describes}
 use Rattle.cap_io.proofs.Came.{Taken-following, error_is, most_taken-file}
@@ -24,7 +24,7 @@ use Rattle.cap_io.specs.declared.file_state.FileState.TheVariants as state
 
 -- ---- no block
 
--- where a block would stand, its faults are those of the text
+-- before a block, the faults of the block are those of the capture
 missing-refuses : (declared : Declared) (first : Option ℕ) (before : Option Section) (text unread' : List ℕ) (fault : Fault)
     → front_of declared text ≡ block_unless (unit_fault before text) first before text → decisive_length declared text ≡ decisive_block_length before text
     → BlockMissing before text unread' fault → NoUnitCame declared text unread' fault
@@ -66,14 +66,14 @@ refused-block file interfaces front unread unread' fault upper_bound begins m =
     missing-refuses (declared_by file interfaces) (known_first_link file) (section_before file interfaces) (front ++ unread) unread' fault
     stands.front stands.reads m
 
--- a section header holds no packet
+-- a section header has no packet
 section-parts : (before : Option Section) (block : List ℕ) → is_section block ≡ true → parts_after before block ≡ SectionParts
 section-parts before block is =
     let kind : type_in (order_before before) block ≡ BlockType.Section =
     ap (λ (b : Bool). if b then BlockType.Section else type_of_block (u32_in (order_in (order_before before) block) block 0)) is in
     ap (λ k. parts_in_body k (frame_after before block).order (body_in (frame_after before block) block)) kind
 
--- where a block would stand, it takes memory if it is longer, or describes an interface
+-- a block needs memory if it is longer than the buffer, or describes an interface
 pub block-takes : (file : FileState) (interfaces : List Described) (front unread : List ℕ) (room : ℕ) → 12 ≤ length front → BeginsBlock file front
     → room < unwrap_or (block_length (section_before file interfaces) (front ++ unread)) 0 → TakesMemory room (declared_by file interfaces) (front ++ unread)
 block-takes state.Unknown interfaces front unread room enough begins less =
@@ -152,7 +152,7 @@ first-packets block is =
     let kind : is_section block ≡ true = and_second (nat_le 4 (length block)) (is_section block) (first-section block is.passes) in
     ap (λ p. option_to_list (packet_by [] p)) (section-parts None block kind)
 
--- a block with a packet leaves its section
+-- a block with a packet doesn't change its section
 kept_by : (section : Section) (order : Order) (parts : Parts) (packet : Captured) → order ≡ section.order
     → option_to_list (packet_by section.interfaces parts) ≡ packet ∷ []
     → section_by (Some section) order parts ≡ section
@@ -267,9 +267,9 @@ packet-block (state.Pcapng own link) interfaces interfaces' front unread buffer 
     (subst R (declared (section_after (Some section) block) same) (subst Q p.stands (a_block link section block came.is_block)))
     (ap (λ i. PcapngFile link (section_of own i)) stays) came.splits
 
--- ---- what holds on any device
+-- ---- what is true for every device
 
--- a block with a packet leaves the interfaces
+-- a block with a packet doesn't change the interfaces
 pub interfaces-kept : (frame : Frame) (interfaces interfaces' : List Described) (block : List ℕ) (spans : PacketSpans) → Enters frame interfaces block
     (Some spans) interfaces' → interfaces' ≡ interfaces
 interfaces-kept frame interfaces interfaces' block spans enters =
@@ -332,7 +332,7 @@ same_failures X Y fault = refl
 pub no-error : {X E : Type 0} {x : X} {e : E} → Ok x ≡ Err e → ⊥
 no-error e = (cc)
 
--- a call that failed while it read a unit moved its device as the whole did
+-- a call that failed while it read a unit changed its device's counts as one read of the unit does
 pub moves-failed : {I X Y : Type 0} {device : Ghosts I} {old new : I} {front most most' : ℕ} {count : X → ℕ} {count' : Y → ℕ} (fault : Fault)
     → Moves device old new front count most (Err fault) → most ≤ most'
     → Moves device old new front count' most' (Err fault)
@@ -349,7 +349,7 @@ moves-failed {X = X} {Y = Y} {device = device} {old = old} fault moves less =
       told = moves.told;
     }
 
--- two reads of one unit, of which the first one succeeded, moved the device as one
+-- two reads of one unit, the first of which succeeded, changed the device's counts as one read does
 pub moves-then : {I X Y : Type 0} {device : Ghosts I} {old mid new : I} {front least most : ℕ} {first : Y → ℕ} {count : X → ℕ} (y : Y)
     (r : Result X Fault) → first y ≡ front → Moves device old mid 0 first least (Ok y)
     → Moves device mid new front count most r → Moves device old new 0 count most r
@@ -381,7 +381,7 @@ moves-then y (Err fault) is one two = record {
   told = λ t. two.told t ∙ one.told t;
 }
 
--- after a read that succeeded no unit came
+-- after a successful read no unit was found
 pub moves-ended : {I X Y : Type 0} {device : Ghosts I} {old mid : I} {least most : ℕ} {first : Y → ℕ} {count : X → ℕ} (y : Y) (fault : Fault)
     → read_failures {X = X} (Err fault) ≡ 0 → first y ≤ most → Moves device old mid 0 first least (Ok y)
     → Moves device old mid 0 count most (Err fault)

@@ -1,4 +1,4 @@
--- The names that most proofs here cite, passed on from one place. Declares nothing.
+-- Re-exports the names that most proofs of this crate cite; declares nothing.
 pub use Rattle.std.proofs.Common.{◌≡◌, ℕ, ◌+◌, List, [], ◌∷◌, ◌++◌, length, map, None, refl, sym, ap, ap₂, ◌∙◌, true, ◌<◌, ◌≤◌, ◌⊎◌, inl, inr, take, drop}
 pub use Rattle.std.proofs.Common.{Option, Some, Result, Ok, Err, subst, arith, unwrap_or, Bool, IsTrue, IfOk, IfErr, is_some, false, ◌^◌, if◌then◌else◌, nat_le}
 pub use Rattle.std.proofs.Common.{nat_lt, zero, suc, zero-add, ◌&&◌, is_none, add-zero, nat_eq, ◌||◌, not, cond, max, IsPermutation, is_ok, ◌-◌, ◌*◌, ◌/◌, ◌%◌}

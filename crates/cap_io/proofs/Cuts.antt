@@ -1,4 +1,4 @@
--- Each text has one cut into units.
+-- Each capture is cut into units in exactly one way.
 use Rattle.cap_io.proofs.Common.{◌≡◌, ℕ, zero, suc, ◌+◌, ◌<◌, ◌≤◌, List, [], ◌++◌, length, take, drop, Option, refl, sym, ◌∙◌, ap, ap₂, arith, zero-add}
 use Rattle.cap_io.proofs.Common.{append_assoc, append-nil, length-drop, take_at, drop_at, take-append-drop, Captured, Fault, Declared, Nothing, IsUnit, Placed}
 use Rattle.cap_io.proofs.Common.{placed_at, AreUnits, no_unit, unit_then, Front, Whole, NoUnit, front_of, items, after_packets, ending_by, EachHasCut}
@@ -102,7 +102,7 @@ record Same {X : Type 0} (one other following following' : List ℕ) (ps qs : Li
   packets : ps ≡ qs
   declared : c ≡ d
 
--- Two units in front of one text are the same.
+-- Two first units of the same bytes are equal.
 same_unit : {b c d : Declared} {u v : List ℕ} {ps qs : List Captured} → IsUnit b u ps c → IsUnit b v qs d → (x y : List ℕ) → u ++ x ≡ v ++ y
     → Same u v x y ps qs c d
 same_unit {b = b} {c = c} {d = d} {u = u} {v = v} {ps = ps} {qs = qs} one other x y same =
@@ -142,7 +142,7 @@ one_cut text one other =
     let same = same_units one.cut.units other.cut.units one.rest other.rest (sym one.cut.joined ∙ other.cut.joined) one.cut.last other.cut.last in
     record { done = same.bytes; rest = same.rest; packets = same.packets; declared = same.declared }
 
--- ---- what a cut tells
+-- ---- the items that a cut shows
 
 pub cut_tells : CutTellsItems
 cut_tells text c =

@@ -1,4 +1,4 @@
--- What a text begins with, told by its first bytes.
+-- The first unit of some bytes depends only on their prefix.
 use Rattle.cap_io.proofs.Common.{◌≡◌, ℕ, ◌<◌, ◌≤◌, Bool, List, [], ◌∷◌, ◌++◌, length, take, Option, Some, None, true, false, refl, sym, ap, ◌∙◌, subst, arith}
 use Rattle.cap_io.proofs.Common.{◌&&◌, and_from, le-leb, length-append, Fault, Little, Head, first_failing, form_in, header_fault, header_in, record_size}
 use Rattle.cap_io.proofs.Common.{record_fault, record_packet, frame_checks, is_section, Section, block_size, order_before, packets_in, unit_fault, least_length}
@@ -28,7 +28,7 @@ front_of_file b text = if b then front_of_block None None text else header_unles
 pub is_section-append : (front more : List ℕ) → 4 ≤ length front → is_section (front ++ more) ≡ is_section front
 is_section-append front more enough = rw (number_in-append Little 4 front more 0 (omega arith)) refl
 
--- told by the first four bytes
+-- it depends on the first four bytes
 pub is_pcapng-append : (front more : List ℕ) → 4 ≤ length front → is_pcapng (front ++ more) ≡ is_section front
 is_pcapng-append front more enough =
     ap (λ (b : Bool). b && is_section (front ++ more)) (le-leb 4 (length (front ++ more)) (omega (arith, length-append front more)))
@@ -89,7 +89,7 @@ most_taken-record head [] count within upper_bound = upper_bound
 most_taken-record head (b ∷ bytes) count within upper_bound =
     elim (record_fault head (b ∷ bytes)) as (λ fault. count ≤ most_taken (record_unless fault head (b ∷ bytes))) [ None ↦ within | Some fault ↦ upper_bound ]
 
--- in front of a record's data
+-- the fields before a record's data
 pub most_taken-front : (head : Head) (text : List ℕ) (count : ℕ) → count ≤ 16 → count ≤ most_taken (front_of (PcapFile head) text)
 most_taken-front head text count upper_bound = most_taken-record head text count (omega arith) (omega arith)
 
@@ -102,7 +102,7 @@ most_taken-block first before text count within upper_bound =
 
 -- ---- how many bytes decide it
 
--- by a header that came whole and fails no check
+-- it depends on a header that is complete and fails no check
 pub length_by_header-whole : (header : ℕ) (text : List ℕ) (checks : List (Bool × Fault)) (size : ℕ) → header ≤ length text → first_failing checks ≡
     None → length_by_header header text checks size ≡ Some size
 length_by_header-whole header text checks size whole none =

@@ -1,4 +1,4 @@
--- A record that a device had at hand.
+-- A record that the device has at hand is the next unit.
 use Rattle.cap_io.proofs.Came.{fields_came, record_came}
 use Rattle.cap_io.proofs.Common.{rules, subst, ◌≡◌, ℕ, Bool, true, IsTrue, is_some, ◌+◌, ◌^◌, ◌<◌, ◌≤◌, List, ◌++◌, length, take, drop, Ok, refl, sym, ap, ◌∙◌}
 use Rattle.cap_io.proofs.Common.{arith, length-take, length-take-le, take-take, take-append-drop, append_assoc, HasGiven, checked, first_failing, Head}

@@ -86,7 +86,7 @@ full-by : (b : Bool) (n : ℕ) (keys : List Interface) (i : Interface) → lengt
 full-by true n keys i full = le-leb (length (keys ++ [])) n (simp append-nil (omega arith))
 full-by false n keys i full = lt-leb (length (keys ++ i ∷ [])) n (simp length-append (omega arith))
 
--- where there are as many as there may be, only one of them has room
+-- if there are as many interfaces as may be, there is room only for one of them
 pub room-full : (keys : List Interface) (i : Interface) → length keys ≡ most_output_interfaces → nat_le (length (keys ++ new_among keys i))
     most_output_interfaces ≡ is_among keys i
 room-full keys i full = full-by (is_among keys i) most_output_interfaces keys i full

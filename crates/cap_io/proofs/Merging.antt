@@ -1,5 +1,4 @@
--- The order of a merge is sorted, has each packet once, and keeps those of each input in their
--- places.
+-- The order of a merge is sorted, has each packet once, and keeps the order of each input.
 use Rattle.cap_io.proofs.Common.{◌≡◌, inl, inr, ℕ, ◌+◌, ◌<◌, ◌≤◌, Bool, true, false, if◌then◌else◌, max, List, [], ◌∷◌, ◌++◌, refl, sym, ◌∙◌, ap, arith, nat_eq}
 use Rattle.cap_io.proofs.Common.{subst, IsPermutation, Placed, Ending}
 use Rattle.std.proofs.lemmas.Bool.{cases_order, Decides.nat_tests}
@@ -71,7 +70,7 @@ permuted (e ∷ es) = IsPermutation-trans _ _ _ (IsPermutation-cons e _ _ (permu
 
 -- ---- in their places
 
--- what holds of each entry still does in lists joined, with one entry more, and sorted
+-- what is true of each entry is also true in joined lists, with one more entry, and in sorted ones
 pub each-append : (P : Entry → Type 0) (xs ys : List Entry) → AllByRecursion P xs → AllByRecursion P ys → AllByRecursion P (xs ++ ys)
 each-append P [] ys a b = b
 each-append P (x ∷ xs) ys a b = (a.0, each-append P xs ys a.1 b)
@@ -136,7 +135,7 @@ each-leads input (r ∷ rs) =
 abbrev if_of : ℕ → Entry → List Entry → List Entry
 if_of input e es = if nat_eq e.input input then e ∷ es else es
 
--- one that stands in front of another input's entry may stand behind it
+-- an entry that may come before another input's entry may also come after it
 exchanged : (input : ℕ) (e x : Entry) (es : List Entry) → (e.input ≡ x.input → ⊥) → if_of input x (if_of input e es) ≡ if_of input e (if_of input x es)
 exchanged input e x es other = by_both (nat_eq x.input input) (nat_eq e.input input) refl refl
   where

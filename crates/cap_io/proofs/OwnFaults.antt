@@ -1,4 +1,4 @@
--- Which faults checks tell: none of them that the device failed, or that memory ran out.
+-- Checks never report that the device failed, or that memory ran out.
 use Rattle.cap_io.proofs.Common.{◌≡◌, ◌<◌, ◌++◌, [], ◌∷◌, length, None, ap, length-append, ltb-true, most_interfaces, is_interface, section_by, section_of}
 use Rattle.cap_io.proofs.Common.{Section, Enters, ℕ, inl, inr, Bool, true, false, List, Option, Some, Err, refl, arith, first_failing, Fault, NoMemory}
 use Rattle.cap_io.proofs.Common.{ReadFailed, Order, Parts, SectionParts, InterfaceParts, EnhancedParts, SimpleParts, SkippedParts, block_checks, body_checks}
@@ -8,7 +8,7 @@ use Rattle.cap_octet.specs.declared.fault.Fault.TheVariants.{TooManyInterfaces}
 use Rattle.cap_pcapng.specs.{Block.option_checks, declared.frames.BlockType.BlockType}
 use Rattle.cap_pcapng.proofs.Faults.{AreAll, all_failing, all_of_options}
 
--- ---- no check tells that the device failed, or that memory ran out
+-- ---- no check reports that the device failed, or that memory ran out
 
 -- a fault that bytes have
 abbrev pub is_own : Fault → Bool
@@ -93,7 +93,7 @@ pub entry-not_failed : (frame : Frame) (interfaces : List Described) (block : Li
 entry-not_failed frame interfaces block fault is failed = let own : read_failures {X = ℕ} (Err ReadFailed) ≡ 0 =
     rw failed at (entry-own frame interfaces block fault is) in omega (arith, own)
 
--- ---- a fault of an interface that passed all checks
+-- ---- a fault of an interface that fails no check
 
 first_met : (met : Bool) (fault : Fault) (rows : List (Bool × Fault)) → first_failing ((met, fault) ∷ rows) ≡ None → met ≡ true
 first_met true fault rows none = refl

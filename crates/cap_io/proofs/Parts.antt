@@ -1,4 +1,4 @@
--- Parts that are written one after another, and what a sink adds by them.
+-- What parts add that are written one after another, and what a sink adds with them.
 use Rattle.cap_io.proofs.Common.{◌≡◌, ◌⊎◌, inl, inr, ℕ, ◌+◌, ◌<◌, Bool, true, false, not, if◌then◌else◌, List, [], ◌∷◌, ◌++◌, length, take, Option, Some, None}
 use Rattle.cap_io.proofs.Common.{Result, is_ok, Ok, Err, refl, sym, ap, ap₂, subst, ◌∙◌, arith, flat_map, append_assoc, append-nil, take-append-le, checked}
 use Rattle.cap_io.proofs.Common.{AppendsOrStops, Stops, Captured, Fault, WriteFailed, Format, Pcap, NsecPcap, Pcapng, InterfaceNumber, SinkState, HasNumber}

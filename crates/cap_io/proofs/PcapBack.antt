@@ -1,4 +1,4 @@
--- What is written in a pcap form reads back.
+-- A capture that is written in a pcap format reads back.
 use Rattle.cap_io.proofs.Backs.{Holds, each-following, holds-none, holds-unit, reads-back}
 use Rattle.cap_io.proofs.Common.{◌≡◌, ℕ, ◌+◌, ◌*◌, ◌/◌, ◌%◌, ◌^◌, ◌<◌, ◌≤◌, Bool, List, [], ◌∷◌, ◌++◌, length, drop, nat_lt, None, refl, sym, ap, subst, ◌∙◌}
 use Rattle.cap_io.proofs.Common.{arith, leb-true, lt-ltb, AllByRecursion, flat_map, eqb-true, ltb-true, first_failing, u32_in, Captured, Fault, LinkTypesDiffer}
@@ -16,7 +16,7 @@ use Rattle.cap_pcapng.proofs.Numerals.{number_at}
 written_head : Resolution → ℕ → Head
 written_head resolution link = record { order = Little; resolution = resolution; snap = most_captured; link = link }
 
--- whole parts of a second
+-- no part of a second is cut off
 abbrev IsWhole : Resolution → ℕ → Type 0
 IsWhole Microseconds time = time % 1000 ≡ 0
 IsWhole Nanoseconds time = Unit {0}

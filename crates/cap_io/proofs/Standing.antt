@@ -1,4 +1,4 @@
--- Where a source stands in its text, from one call to the next.
+-- The position of a source in its capture, from one call to the next.
 use Rattle.cap_io.proofs.Common.{◌≡◌, ℕ, ◌+◌, ◌-◌, ◌<◌, ◌⊎◌, inl, inr, Bool, true, false, List, [], ◌∷◌, ◌++◌, length, Option, Some, refl, sym, ◌∙◌, ap, arith}
 use Rattle.cap_io.proofs.Common.{add-zero, zero-add, Result, Ok, append_assoc, append-nil, length-append, length-drop, Fault, ReadFailed, NoMemory, Declared}
 use Rattle.cap_io.proofs.Common.{Nothing, Placed, placed_at, AreUnits, no_unit, items, after_packets, ending_by, FaultAt, front_of, NoUnit, SourceView, Phase}
@@ -78,7 +78,7 @@ Advances-sound text done packets s s' r at advances = by_phase s.phase refl adva
     by_phase Ended e advances = stays e advances
     by_phase (Failed fault) e advances = absurd (at.sound fault e)
 
--- the bytes that a source passed are done
+-- the bytes that a source has skipped are done
 passed-units : (text done : List ℕ) (packets : List Placed) (s s' : SourceView) (rest : List ℕ) → IsAt text done packets false s
     → (passes : SkipsUnits s s' rest)
     → AreUnits Nothing 0 (done ++ passes.passed) packets s'.declared
@@ -136,9 +136,9 @@ IsAt-closed text done packets s s' at finds = record {
   held = omega (arith, ap length finds.block);
 }
 
--- ---- what the items of the whole text are
+-- ---- the items of the complete capture
 
--- where no unit follows whole ones
+-- no unit follows complete ones
 pub items-stops : (done rest : List ℕ) (packets : List Placed) (declared : Declared) (why : Option Fault) → AreUnits Nothing 0 done packets declared
     → front_of declared rest ≡ NoUnit why → items (done ++ rest) ≡ record { packets = packets; declared = declared; ending = ending_by why (length done) }
 items-stops done rest packets declared why units stops =
@@ -146,12 +146,12 @@ items-stops done rest packets declared why units stops =
     ∙ ap (after_packets packets) (items_from-stops declared (0 + length done) rest why stops)
     ∙ rw (append-nil packets, zero-add) refl
 
--- whole units, and then more
+-- complete units, and then more
 pub items-begin : (done rest : List ℕ) (packets : List Placed) (declared : Declared) → AreUnits Nothing 0 done packets declared
     → items (done ++ rest) ≡ after_packets packets (items_from declared (length done) rest)
 items-begin done rest packets declared units = items_from-units units rest ∙ rw zero-add refl
 
--- the first packets of the whole text are those that are done, and the one that waits
+-- the first packets of the complete capture are those that are done, and the one that waits
 pub IsAt-items : (text done : List ℕ) (packets : List Placed) (s : SourceView) (at : IsAt text done packets true s)
     → items text ≡ after_packets (packets ++ record { offset = s.offset; packet = (at.waits refl).packet } ∷ [])
     (items_from s.declared (length (done ++ s.block)) s.unread)
@@ -191,7 +191,7 @@ IsAt-fault text done packets s s' fault at finds =
       })
     ]
   where
-    -- fewer bytes came of the rest than decide what is there
+    -- fewer bytes of the remainder were read than decide what is there
     few : fault ≡ ReadFailed → s'.given + length text < given_in_all s + length (done ++ finds.broken.passes.passed) + decisive_length s'.declared
         finds.broken.rest
     few failed =

@@ -1,4 +1,4 @@
--- What a sink wrote is the text of the packets that were put to it.
+-- A sink has written the bytes of the packets that were put to it.
 use Rattle.cap_io.proofs.Common.{◌≡◌, ◌⊎◌, inl, inr, ℕ, ◌+◌, ◌/◌, ◌^◌, nat_le, nat_lt, length, Bool, true, false, List, [], ◌∷◌, ◌++◌, Option, None, Some}
 use Rattle.cap_io.proofs.Common.{Result, Ok, Err, refl, sym, ◌∙◌, ap, ap₂, subst, append_assoc, append-nil, first_failing, AppendsOrStops, Captured, Fault}
 use Rattle.cap_io.proofs.Common.{WriteFailed, NoMemory, LinkTypesDiffer, TooLong, TimeOutOfRange, TooManyOutputInterfaces, Format, Pcap, NsecPcap, Pcapng}
@@ -19,7 +19,7 @@ IsFailure fault = (fault ≡ WriteFailed) ⊎ (fault ≡ NoMemory)
 is-failure : (refusal fault : Fault) → IsFailure fault → refusal ≡ fault → (refusal ≡ WriteFailed → ⊥) → (refusal ≡ NoMemory → ⊥) → ⊥
 is-failure refusal fault is same written memory = elim is [ inl e ↦ written (same ∙ e) | inr e ↦ memory (same ∙ e) ]
 
--- ---- texts of whole lists
+-- ---- the bytes of lists of packets
 
 pub packets_text-append : (format : Format) (earlier xs ys : List Captured)
     → packets_text format earlier (xs ++ ys) ≡ packets_text format earlier xs ++ packets_text format (earlier ++ xs) ys
@@ -107,7 +107,7 @@ by-packets sink ps p has = record {
   interfaces = ap (λ (l : List Interface). interfaces_after_packet sink.format l p) has.interfaces ∙ sym (kept-push sink.format ps p);
 }
 
--- a sink that failed is as it was when the packet wasn't added, but for its state
+-- a sink that failed is unchanged if the packet wasn't added, except for its state
 pub adds-broken : (old : SinkView) (p : Captured) (fault : Fault) (mid new : SinkView) → AddsPacket old p (Err fault) mid
     → new ≡ record { format = mid.format; state = Broken fault; interfaces = mid.interfaces; written = mid.written; failures = mid.failures; room = mid.room }
     → AddsPacket old p (Err fault) new
@@ -160,7 +160,7 @@ put-answer ps old p r new has puts =
     let by = by-packets old ps p has in
     rw (← by.refusal, ← by.memory) puts.adds.answer
 
--- what is written of it
+-- the bytes that are written for it
 pub put-writes : (ps : List Captured) (old : SinkView) (p : Captured) (r : Result (Unit {0}) Fault) (new : SinkView)
     → HasPut old ps → PutWrites old.state old p r new → WritesPacket (refusal_of old.format ps p) (added_text old.format ps p) old.written r new.written
 put-writes ps old p r new has writes =
@@ -195,7 +195,7 @@ HasPackets-put before ps old p new has puts writes =
 
 -- ---- its end
 
--- nothing was put: the heading is written, or a beginning of it
+-- no packet was put: the header is written, or a prefix of it
 pub finish-none : (before : List ℕ) (old : SinkView) (first : Option ℕ) (r : Result (Unit {0}) Fault) (new : SinkView)
     → HasPackets before old [] → Finishes old.state old first r new → FinishesEmpty old (link_or_ethernet first) r new
 finish-none before old first r new has finishes = let P : SinkState → Type 0 = λ st. Finishes st old first r new in subst P has.put.state finishes

@@ -1,4 +1,4 @@
--- A unit and what a text begins with.
+-- Complete units, and what bytes begin with.
 use Rattle.std.proofs.Math.Bool.{or-false}
 use Rattle.cap_io.proofs.Common.{◌≡◌, ℕ, Bool, true, false, ◌&&◌, cond, is_some, ◌⊎◌, inl, inr, ◌<◌, ◌≤◌, List, [], ◌∷◌, ◌++◌, length, take, drop, Option, None}
 use Rattle.cap_io.proofs.Common.{Some, refl, sym, ◌∙◌, ap, arith, append-nil, length-append, length-take-le, take-append-drop, take_at, Captured, Fault, Head}
@@ -60,7 +60,7 @@ other-header text none = by_bool (is_pcapng text) refl
     by_bool true is = absurd (header-other text is none)
     by_bool false is = is
 
--- ---- a unit in front
+-- ---- the first unit
 
 header-front : (bytes more : List ℕ) (head : Head) → IsHeader bytes head → front_of Nothing (bytes ++ more) ≡ Whole (length bytes) [] (PcapFile head)
 header-front bytes more head is =
@@ -97,7 +97,7 @@ front_of-unit (a_block first section bytes is) more =
     front_of-following first section (bytes ++ more) (omega (arith, length-append bytes more, block-sized (Some section) bytes is))
     ∙ block-front first (Some section) bytes more is
 
--- a text that begins with a whole unit
+-- bytes that begin with a complete unit
 pub record IsFront (declared : Declared) (text : List ℕ) (size : ℕ) (packets : List Captured) (after : Declared) : Type 0 where
   pub unit : IsUnit declared (take size text) packets after
   pub there : size ≤ length text
@@ -140,7 +140,7 @@ record-is head text size packets after None none e =
     same_front (PcapFile head) text (record_size head text) size (record_packet head front ∷ []) packets (PcapFile head) after e is
 record-is head text size packets after (Some fault) fails e = (cc)
 
--- the block that a text begins with, as a unit
+-- the block that bytes begin with, as a unit
 block-is : (declared : Declared) (first : Option ℕ) (before : Option Section) (text : List ℕ) (size : ℕ) (packets : List Captured) (after : Declared)
     (fault : Option Fault)
     → unit_fault before text ≡ fault → block_unless fault first before text ≡ Whole size packets after

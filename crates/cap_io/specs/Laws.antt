@@ -1,12 +1,12 @@
--- Laws of the definitions: each text is cut in one way, which shows its items; and what a sink does
--- with one more packet, by what it keeps, is what all packets so far decide.
+-- Laws of the definitions: each capture is cut in exactly one way, which determines its items; and
+-- what a sink does with another packet, from its state, is what all packets so far decide.
 use Rattle.std.specs.Prelude.{◌≡◌, ℕ, List, [], ◌∷◌, ◌++◌, length, Ok, Option}
 use Rattle.cap_octet.specs.{Packet.Captured, declared.fault.Fault.Fault}
 use Rattle.cap_io.specs.Capture.{Declared, Placed, IsCut, NoUnit, front_of, items, ending_by}
 use Rattle.cap_io.specs.Sink.{SinkView, HasPackets, HasPut, PutsPacket, PutWrites, added_in, refusal_in}
 use Rattle.cap_io.specs.Text.{added_text, refusal_of, interfaces_after_packet, kept_interfaces, state_after, state_after_packet, takes_memory, takes_memory_in}
 
--- some cut of a text
+-- a cut of a capture
 pub record Cut (text : List ℕ) : Type 0 where
   pub done : List ℕ
   pub rest : List ℕ
@@ -14,14 +14,14 @@ pub record Cut (text : List ℕ) : Type 0 where
   pub declared : Declared
   pub cut : IsCut text done rest packets declared
 
--- two cuts are the same: for equal parts
+-- two cuts are equal in all parts
 pub record IsSameCut {text : List ℕ} (one other : Cut text) : Type 0 where
   pub done : one.done ≡ other.done
   pub rest : one.rest ≡ other.rest
   pub packets : one.packets ≡ other.packets
   pub declared : one.declared ≡ other.declared
 
--- The items are the packets of the units, and the end is reported by what the rest begins with.
+-- The items are the packets of the units, and the end is what the remainder after them begins with.
 pub record TellsItems (text done rest : List ℕ) (packets : List Placed)
     (declared : Declared) : Type 0 where
   pub why : Option Fault
@@ -29,20 +29,20 @@ pub record TellsItems (text done rest : List ℕ) (packets : List Placed)
   pub items : items text
       ≡ record { packets = packets; declared = declared; ending = ending_by why (length done) }
 
--- each text has a cut
+-- every capture has a cut
 abbrev pub EachHasCut : Type 0
 EachHasCut = (text : List ℕ) → Cut text
 
--- two cuts of a text are the same
+-- any two cuts of a capture are equal
 abbrev pub EachHasOneCut : Type 0
 EachHasOneCut = (text : List ℕ) (one other : Cut text) → IsSameCut one other
 
--- the items of a text are those that its cut shows
+-- the items of a capture are those of its cut
 abbrev pub CutTellsItems : Type 0
 CutTellsItems = (text : List ℕ) (c : Cut text) → TellsItems text c.done c.rest c.packets c.declared
 
 -- A packet that is put to a sink is refused, takes memory and adds bytes as it does after all of
--- these packets; and the sink keeps of it what it would keep of all of them.
+-- these packets; and the sink's state is then that after all of them.
 pub record GoesByPackets (sink : SinkView) (packets : List Captured) (p : Captured) : Type 0 where
   pub refusal : refusal_in sink p ≡ refusal_of sink.format packets p
   pub memory : takes_memory_in sink.format sink.interfaces p ≡ takes_memory sink.format packets p
@@ -51,13 +51,13 @@ pub record GoesByPackets (sink : SinkView) (packets : List Captured) (p : Captur
   pub interfaces : interfaces_after_packet sink.format sink.interfaces p
       ≡ kept_interfaces sink.format (packets ++ p ∷ [])
 
--- each put to a sink to which these packets were put goes by all of them (`GoesByPackets`)
+-- each put to a sink that has these packets goes by all of them (`GoesByPackets`)
 abbrev pub EachPutGoesByPackets : Type 0
 EachPutGoesByPackets =
     (sink : SinkView) (packets : List Captured) (p : Captured) → HasPut sink packets
     → GoesByPackets sink packets p
 
--- A packet that is put extends the text of those before it.
+-- A packet that is put extends the bytes of the packets before it.
 abbrev pub PutExtendsText : Type 0
 PutExtendsText =
     (before : List ℕ) (packets : List Captured) (old : SinkView) (p : Captured) (new : SinkView)

@@ -2,7 +2,7 @@
 use Rattle.std.specs.Prelude.{◌≡◌, ◌⊎◌, ℕ, ◌<◌, ◌≤◌, nat_eq, if◌then◌else◌, List, [], ◌∷◌, ◌++◌, map, IsPermutation}
 use Rattle.cap_io.specs.Sequence.{Entry, Event, Packet, SequenceEnd, Complete, FaultIn, InputItems, ByTime, all_entries, fault_without_packets, sequence_of}
 
--- One packet comes no later than another: by the greatest time in its own input up to and with it,
+-- One packet comes no later than another: by the greatest time in its input up to and including it,
 -- then by the input's number.
 abbrev pub IsNoLater : Entry → Entry → Type 0
 IsNoLater x y = (x.key < y.key) ⊎ ((x.key ≡ y.key) × (x.input ≤ y.input))
@@ -27,23 +27,23 @@ of_input input (e ∷ es) =
 abbrev pub events_of : List Entry → List Event
 events_of es = map (λ (e : Entry). Packet e.input e.p) es
 
--- after a fault none of these come, and the order ends by it; else so
+-- if the order ends with a fault here, no packet comes and that is its end; otherwise `Else`
 abbrev pub StopsBy : SequenceEnd → List Entry → SequenceEnd → Type 0 → Type 0
 StopsBy Complete come end Else = Else
 StopsBy (FaultIn input fault offset) come end Else =
     (come ≡ []) × (end ≡ FaultIn input fault offset)
 
--- These come, up to and with the first that is the last packet of an input which ends by a fault,
--- and the order ends by that fault; if there is none, all come, and it ends cleanly. `later` are
--- those that don't come.
+-- `come` ends with the first packet that is the last of an input which ends with a fault, and the
+-- order ends with that fault; if there is none, `later` is empty and the order ends cleanly.
+-- `later` are the packets that don't come.
 abbrev pub StopAtFault : (come later : List Entry) → SequenceEnd → Type 0
 StopAtFault [] later end = (later ≡ []) × (end ≡ Complete)
 StopAtFault (e ∷ come) later end = StopsBy e.end come end (StopAtFault come later end)
 
--- A merge of these inputs: all their packets sorted by (greatest time in the own input up to and
--- with the packet, input, place in the input), of which the first ones come: none if an input ends
--- by a fault and has no packet, else up to the first such end. All come if the order doesn't end by
--- a fault.
+-- A merge of these inputs: all their packets, sorted by (greatest time in the input up to and
+-- including the packet, input, place in the input), of which a prefix comes: none if an input
+-- without packets ends with a fault, else up to the first such end. All come if the order doesn't
+-- end with a fault.
 pub record IsMerge (rs : List InputItems) : Type 0 where
   pub sorted : List Entry
   pub order : AreSorted sorted

@@ -1,4 +1,4 @@
--- The bytes and the counts of a device when one unit is read from it.
+-- The effect of reading one unit on the bytes and the counts of a device.
 use Rattle.std.specs.{List.slice_get, Option.option_map}
 use Rattle.std.specs.Prelude.{◌≡◌, ℕ, ◌<◌, ◌≤◌, ◌⊎◌, true, List, [], ◌++◌, Bool, length, drop, Option, None, Some, Result, Err, is_some, is_none, unwrap_or, nat_le, ◌&&◌, if◌then◌else◌}
 use Rattle.cap_octet.specs.{Checks.first_failing, Packet.Captured}
@@ -20,25 +20,25 @@ abbrev pub read_failures : {X : Type 0} → Result X Fault → ℕ
 read_failures (Err ReadFailed) = 1
 read_failures result = 0
 
--- the most bytes that are taken of a text that begins so: those of its unit, or if none begins,
+-- the most bytes that are read of a file with this prefix: those of its unit, or if it has none,
 -- those of the longest unit
 abbrev pub most_taken : Front → ℕ
 most_taken (Whole size packets declared) = size
 most_taken (NoUnit why) = most_in_unit
 
--- the length of a unit, as its header states it: none if that isn't whole, or fails a check
+-- the length of a unit, as its header states it; None if the header is incomplete or fails a check
 abbrev pub length_by_header : (header : ℕ) → List ℕ → List (Bool × Fault) → (size : ℕ) → Option ℕ
 length_by_header header text checks size =
     if nat_le header (length text) && is_none (first_failing checks) then Some size else None
 
--- the length of a block, as its first 12 bytes state it: none if they aren't all there, or fail
--- a check
+-- the length of a block, as its first 12 bytes state it; None if they are incomplete or fail a
+-- check
 abbrev pub block_length : Option Section → List ℕ → Option ℕ
 block_length before text =
     length_by_header 12 text (frame_checks (order_before before) text) (block_size before text)
 
--- the length of the next unit, as its header states it: none if that isn't whole or fails a
--- check, and none of the file header of pcap, which states no length
+-- the length of the next unit, as its header states it; None if the header is incomplete or fails a
+-- check, or for the file header of pcap, which states no length
 abbrev pub stated_length : Declared → List ℕ → Option ℕ
 stated_length Nothing text = if is_pcapng text then block_length None text else None
 stated_length (PcapFile head) text =
@@ -53,29 +53,29 @@ unit_header_length Nothing text =
 unit_header_length (PcapFile head) text = 16
 unit_header_length (PcapngFile first section) text = 12
 
--- the number of bytes that decide whether a text begins with a unit, or a fault is in its place
+-- the number of bytes that decide whether a file begins with a unit or with a fault
 abbrev pub decisive_length : Declared → List ℕ → ℕ
 decisive_length declared text =
     unwrap_or (stated_length declared text) (unit_header_length declared text)
 
--- A prefix of the unit was taken, or of what is in its place, when this fault was reported.
+-- This fault was reported after a prefix of the unit, or of the bytes that aren't one, was read.
 pub record IsTaken (declared : Declared) (unread unread' : List ℕ) (fault : Fault) : Type 0 where
   pub count : ℕ
   pub within : count ≤ most_taken (front_of declared unread)
-  -- A failed read is reported only of a unit that was not complete: fewer bytes came than decide
-  -- what is present. Memory may run out after a whole unit.
+  -- A read fails only while a unit is incomplete: fewer bytes came than decide what it is. Memory
+  -- may run out after a complete unit.
   pub unfinished : fault ≡ ReadFailed → count < decisive_length declared unread
   pub there : count ≤ length unread
   pub rest : unread' ≡ drop count unread
 
--- a block that describes an interface, and fails no check
+-- a block that describes an interface and fails no check
 abbrev pub DescribesInterface : Declared → List ℕ → Type 0
 DescribesInterface (PcapngFile first section) text =
     (unit_fault (Some section) text ≡ None)
     × (is_interface (parts_after (Some section) text) ≡ true)
 DescribesInterface declared text = ⊥
 
--- The next unit is longer, as its whole header states, than the buffer has room for; or it
+-- The next unit's complete header states more bytes than the buffer has room for; or the unit
 -- describes an interface.
 abbrev pub TakesMemory : ℕ → Declared → List ℕ → Type 0
 TakesMemory room declared unread =
@@ -86,14 +86,14 @@ abbrev pub held_length : (before after : Declared) → ℕ → ℕ
 held_length Nothing (PcapFile head) size = 0
 held_length before after size = size
 
--- These bytes are whole units, and a buffer of this size has room for each of them, except the
--- file header of pcap, which it doesn't hold.
+-- These bytes are complete units, and a buffer of this size has room for each, except for the file
+-- header of pcap, which it needn't hold.
 pub data FitUnits (room : ℕ) : Declared → List ℕ → Declared → Type 0 where
   no_unit_fits : {d : Declared} → FitUnits room d [] d
   unit_fits : {b c d : Declared} {u more : List ℕ} {qs : List Captured} → IsUnit b u qs c
       → held_length b c (length u) ≤ room → FitUnits room c more d → FitUnits room b (u ++ more) d
 
--- Why no unit came: a fault is in its place, or the device failed, or memory ran out.
+-- Why no unit was read: there is a fault, or the device failed, or memory ran out.
 abbrev pub IsReason : Declared → List ℕ → Fault → Type 0
 IsReason declared unread fault =
     (front_of declared unread ≡ NoUnit (Some fault)) ⊎ (fault ≡ ReadFailed) ⊎ (fault ≡ NoMemory)

@@ -1,4 +1,4 @@
--- The packets that a format carries: their text reads back as these packets.
+-- The packets that a format can carry: a capture of them reads back as the same packets.
 use Rattle.std.specs.Prelude.{◌≡◌, ℕ, ◌%◌, ◌^◌, ◌<◌, ◌≤◌, List, [], ◌∷◌, ◌++◌, length, map, None}
 use Rattle.cap_octet.specs.{Packet.Captured, declared.format.Format.Format}
 use Rattle.cap_octet.specs.declared.format.Format.TheVariants.{Pcap, NsecPcap, Pcapng}
@@ -15,26 +15,27 @@ pub record InRange (p : Captured) : Type 0 where
   pub orig : p.orig < 2 ^ 32
   pub comment : length p.comment ≤ 65535
 
--- a packet of which a pcap form keeps all but parts of its time: it has the snap length of the file
--- header, no name, and no comment
+-- a packet of which the pcap formats keep everything but fractions of its time: it has the file
+-- header's snap length, no name and no comment
 pub record IsPlain (p : Captured) : Type 0 where
   pub snap : p.snap ≡ most_captured
   pub name : p.name ≡ []
   pub comment : p.comment ≡ []
 
--- A format keeps all of a packet.
+-- A format keeps everything of a packet.
 abbrev pub IsLossless : Format → Captured → Type 0
 IsLossless Pcap p = IsPlain p × (p.time % 1000 ≡ 0)
 IsLossless NsecPcap p = IsPlain p
 IsLossless Pcapng p = Unit {0}
 
--- a packet that comes after these is carried: in range, kept whole by the format, and not refused
+-- a packet is carried after these others: it is in range, kept completely by the format, and not
+-- refused
 pub record IsCarried (format : Format) (earlier : List Captured) (p : Captured) : Type 0 where
   pub in_range : InRange p
   pub kept : IsLossless format p
   pub taken : refusal_of format earlier p ≡ None
 
--- no more interfaces than are read of a section
+-- there are no more interfaces than a section may have that is read
 abbrev pub HasFewInterfaces : Format → List Captured → Type 0
 HasFewInterfaces Pcap ps = Unit {0}
 HasFewInterfaces NsecPcap ps = Unit {0}
@@ -46,17 +47,17 @@ pub record Carries (format : Format) (ps : List Captured) : Type 0 where
       → ps ≡ earlier ++ p ∷ later → IsCarried format earlier p
   pub interfaces : HasFewInterfaces format ps
 
--- A text holds these packets, and ends cleanly.
+-- A capture holds these packets, and ends cleanly.
 pub record ReadsBack (text : List ℕ) (ps : List Captured) : Type 0 where
   pub packets : map (λ (q : Placed). q.packet) (items text).packets ≡ ps
   pub ending : (items text).ending ≡ End
 
--- the text of one or more packets that this format carries reads back as these packets
+-- a capture of one or more packets that this format carries reads back as these packets
 abbrev pub Back : Format → Type 0
 Back format =
     (p : Captured) (ps : List Captured) → Carries format (p ∷ ps)
     → ReadsBack (text format (p ∷ ps)) (p ∷ ps)
 
--- in each format the text of one or more packets that it carries reads back as these packets
+-- for each format, a capture of one or more packets that it carries reads back as these packets
 abbrev pub ItemsBack : Type 0
 ItemsBack = (format : Format) → Back format

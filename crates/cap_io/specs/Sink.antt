@@ -13,8 +13,8 @@ pub record SinkView : Type 0 where
   pub state : SinkState
   -- the interfaces of a pcapng file so far; pcap forms have none
   pub interfaces : List Interface
-  -- the bytes written to the output, the number of its failures, and the number of bytes in all
-  -- that it takes at least before it fails
+  -- the bytes written to the output, how often it failed, and how many bytes it takes at least
+  -- before it first fails
   pub written : List ℕ
   pub failures : ℕ
   pub room : ℕ
@@ -31,12 +31,12 @@ sink_at format written failures room =
       room = room;
     }
 
--- The state and the interfaces of the sink are those after these packets were put, and no others.
+-- The state and the interfaces of the sink are those after exactly these packets.
 pub record HasPut (sink : SinkView) (packets : List Captured) : Type 0 where
   pub state : sink.state ≡ state_after packets
   pub interfaces : sink.interfaces ≡ kept_interfaces sink.format packets
 
--- These packets were put, and their text was written after what the output held before.
+-- These packets were put, and their bytes were written after what the output already held.
 pub record HasPackets (before : List ℕ) (sink : SinkView) (packets : List Captured) : Type 0 where
   pub written : sink.written ≡ before ++ text sink.format packets
   pub put : HasPut sink packets
@@ -55,8 +55,8 @@ abbrev pub write_failures : {X : Type 0} → Result X Fault → ℕ
 write_failures (Err WriteFailed) = 1
 write_failures result = 0
 
--- A put returns the refusal if there is one. Otherwise the packet is added; or there was no memory,
--- if the packet takes some; or the device failed.
+-- A put returns the refusal if there is one. Otherwise the packet is added; or allocation failed,
+-- if the packet needs memory; or the device failed.
 abbrev pub IsPutAnswer : Option Fault → Bool → Result (Unit {0}) Fault → Type 0
 IsPutAnswer None takes (Ok done) = Unit {0}
 IsPutAnswer None takes (Err fault) = (fault ≡ WriteFailed) ⊎ ((fault ≡ NoMemory) × (takes ≡ true))
@@ -84,14 +84,14 @@ pub record AddsPacket (old : SinkView) (p : Captured) (r : Result (Unit {0}) Fau
   pub room : new.room ≡ old.room
   pub filled : r ≡ Err WriteFailed → old.room ≤ length new.written
 
--- the bytes written if a call ends by a fault: none if there was no memory, else a prefix, maybe
--- empty, that isn't the whole
+-- the bytes written if a call ends with a fault: none if memory ran out, else a prefix, perhaps
+-- empty, but not all
 abbrev pub BreaksOff : Fault → List ℕ → List ℕ → List ℕ → Type 0
 BreaksOff NoMemory bytes written written' = written' ≡ written
 BreaksOff fault bytes written written' = Stops written bytes written'
 
--- the bytes that a put writes: all that the packet adds to the text; none for a refused packet;
--- else a prefix of what it adds, maybe empty, that isn't the whole
+-- the bytes that a put writes: all that the packet adds; none for a refused packet; after a failure
+-- a prefix, perhaps empty, but not all
 abbrev pub WritesPacket : Option Fault → List ℕ → List ℕ → Result (Unit {0}) Fault → List ℕ → Type 0
 WritesPacket refusal bytes written (Ok done) written' = written' ≡ written ++ bytes
 WritesPacket (Some refusal) bytes written (Err fault) written' = written' ≡ written
@@ -117,8 +117,8 @@ PutWrites (Broken fault) old p r new = new ≡ old
 PutWrites state old p r new =
     WritesPacket (refusal_in old p) (added_in old p) old.written r new.written
 
--- The result of a finish of a sink to which nothing was put, for all devices: the file header or
--- section header is written, or the device failed.
+-- The result of a finish if no packet was put, for all devices: the file header or section header
+-- is written, or the device failed.
 pub record FinishesEmpty (old : SinkView) (link : ℕ) (r : Result (Unit {0}) Fault)
     (new : SinkView) : Type 0 where
   pub answer : IfErr r (λ fault. fault ≡ WriteFailed)
@@ -130,19 +130,19 @@ pub record FinishesEmpty (old : SinkView) (link : ℕ) (r : Result (Unit {0}) Fa
   pub room : new.room ≡ old.room
   pub filled : r ≡ Err WriteFailed → old.room ≤ length new.written
 
--- the link type of a file header if nothing was put: 1 if none is declared
+-- the link type of a file header if no packet was put: 1 (Ethernet) if none is declared
 abbrev pub link_or_ethernet : Option ℕ → ℕ
 link_or_ethernet first = unwrap_or first LINKTYPE_ETHERNET
 
--- The result of a finish of a sink in this state, for all devices: if nothing was put it writes the
--- header, else nothing. A sink that has failed returns its fault again, and is unchanged.
+-- The result of a finish of a sink in this state, for all devices: it writes the header if no
+-- packet was put, else nothing. A sink that has failed returns its fault again, and is unchanged.
 abbrev pub Finishes : SinkState → SinkView → Option ℕ → Result (Unit {0}) Fault → SinkView → Type 0
 Finishes Empty old first r new = FinishesEmpty old (link_or_ethernet first) r new
 Finishes (Started link) old first r new = (r ≡ Ok tt) × (new ≡ old)
 Finishes (Broken fault) old first r new = (r ≡ Err fault) × (new ≡ old)
 
--- the bytes that a finish writes: the file header or section header if nothing was put, or a prefix
--- of it that isn't the whole if the device failed; else none
+-- the bytes that a finish writes: if no packet was put the file header or section header, or, if
+-- the device failed, a prefix but not all of it; else none
 abbrev pub FinishWrites : SinkState → SinkView → Option ℕ → Result (Unit {0}) Fault → SinkView
     → Type 0
 FinishWrites Empty old first r new =

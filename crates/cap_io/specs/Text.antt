@@ -1,4 +1,4 @@
--- The text of a capture file that is written, and which packets are refused.
+-- The bytes of a capture file that is written, and which packets are refused.
 use Rattle.std.specs.{Cmp.Lexicographic.pointwise, List.flat_map, List.fold, List.list_any, List.position_or_len}
 use Rattle.std.specs.Prelude.{◌==◌, ◌&&◌, ◌≤◌, if◌then◌else◌, All, ℕ, Bool, true, false, not, List, [], ◌∷◌, ◌++◌, Option, length, nat_eq, nat_le}
 use Rattle.cap_octet.specs.{Checks.first_failing, Packet.Captured, declared.fault.Fault.Fault}
@@ -25,11 +25,11 @@ interface_of p = record { link = p.link; snap = p.snap; name = p.name }
 abbrev pub is_same : Interface → Interface → Bool
 is_same i j = i.link == j.link && (i.snap == j.snap && pointwise nat_eq i.name j.name)
 
--- whether one of these interfaces is the same
+-- whether one of these interfaces is the same as another
 abbrev pub is_among : List Interface → Interface → Bool
 is_among interfaces i = list_any (is_same i) interfaces
 
--- an interface, if it is new: none of these is the same; else none
+-- an interface, if it is the same as none of these; else none
 abbrev pub new_among : List Interface → Interface → List Interface
 new_among interfaces i = if is_among interfaces i then [] else i ∷ []
 
@@ -46,7 +46,7 @@ pub record FitFile (interfaces : List Interface) : Type 0 where
   pub count : length interfaces ≤ most_output_interfaces
   pub names : All (λ i. length i.name ≤ 255) interfaces
 
--- ---- texts
+-- ---- bytes
 
 -- the start of a file: a file header with this link type, or a section header
 abbrev pub file_start : Format → ℕ → List ℕ
@@ -58,14 +58,14 @@ file_start Pcapng link = pcapng.section_text
 abbrev pub record_text : Resolution → Captured → List ℕ
 record_text resolution p = pcap.record_header resolution p ++ p.bytes
 
--- ---- one packet more, by what a file keeps of those before it
+-- ---- one more packet, after those that a file has
 
--- the state after one packet more; that of a sink that failed is unchanged
+-- the state after one more packet; that of a sink that failed is unchanged
 abbrev pub state_after_packet : SinkState → Captured → SinkState
 state_after_packet Empty p = Started p.link
 state_after_packet state p = state
 
--- the interfaces after one packet more: pcap forms have none
+-- the interfaces after one more packet; the pcap formats have none
 abbrev pub interfaces_after_packet : Format → List Interface → Captured → List Interface
 interfaces_after_packet Pcapng interfaces p = interfaces ++ new_among interfaces (interface_of p)
 interfaces_after_packet format interfaces p = interfaces
@@ -80,24 +80,24 @@ abbrev pub has_room : List Interface → Captured → Bool
 has_room interfaces p =
     nat_le (length (interfaces ++ new_among interfaces (interface_of p))) most_output_interfaces
 
--- the checks of a packet that must be put, in order
+-- the checks of a packet before it is written, in order
 abbrev pub checks_in : Format → SinkState → List Interface → Captured → List (Bool × Fault)
 checks_in Pcapng state interfaces p =
     pcapng.block_fit_checks p ++ (has_room interfaces p, TooManyOutputInterfaces) ∷ []
 checks_in format state interfaces p = (has_link state p, LinkTypesDiffer) ∷ pcap.record_fit_checks p
 
--- whether a packet takes memory: in pcapng, if its interface is new
+-- whether a packet needs memory: in pcapng, if its interface is new
 abbrev pub takes_memory_in : Format → List Interface → Captured → Bool
 takes_memory_in Pcapng interfaces p = not (is_among interfaces (interface_of p))
 takes_memory_in format interfaces p = false
 
--- the bytes written before the first packet; none before others
+-- the bytes written before the first packet; none before later ones
 abbrev pub file_start_in : Format → SinkState → ℕ → List ℕ
 file_start_in format Empty link = file_start format link
 file_start_in format state link = []
 
--- the bytes of a packet itself: in pcapng its interface is described before it if that is new, and
--- has as its number the count of the interfaces before it
+-- the bytes of a packet itself; in pcapng a new interface is described before it, whose number is
+-- the count of the interfaces so far
 abbrev pub appended_packet : Format → List Interface → Captured → List ℕ
 appended_packet Pcap interfaces p = record_text Microseconds p
 appended_packet NsecPcap interfaces p = record_text Nanoseconds p
@@ -113,7 +113,7 @@ abbrev pub state_after : List Captured → SinkState
 state_after [] = Empty
 state_after (p ∷ ps) = Started p.link
 
--- the different interfaces of these packets, in the order of first use; pcap forms have none
+-- the different interfaces of these packets, in the order of first use; the pcap formats have none
 abbrev pub kept_interfaces : Format → List Captured → List Interface
 kept_interfaces format packets = fold (interfaces_after_packet format) [] packets
 
@@ -122,23 +122,23 @@ abbrev pub refusal_of : Format → List Captured → Captured → Option Fault
 refusal_of format earlier p =
     first_failing (checks_in format (state_after earlier) (kept_interfaces format earlier) p)
 
--- whether a packet that comes after these takes memory
+-- whether a packet after these needs memory
 abbrev pub takes_memory : Format → List Captured → Captured → Bool
 takes_memory format earlier p = takes_memory_in format (kept_interfaces format earlier) p
 
--- the bytes that a packet adds to the text of those before it
+-- the bytes that a packet adds after those before it
 abbrev pub added_text : Format → List Captured → Captured → List ℕ
 added_text format earlier p =
     file_start_in format (state_after earlier) p.link
     ++ appended_packet format (kept_interfaces format earlier) p
 
--- the bytes of packets that come after these
+-- the bytes of packets after these
 abbrev pub packets_text : Format → List Captured → List Captured → List ℕ
 packets_text format earlier [] = []
 packets_text format earlier (p ∷ ps) =
     added_text format earlier p ++ packets_text format (earlier ++ p ∷ []) ps
 
--- the text of a file with these packets; for none it is empty, without the header that a finish
--- writes then
+-- the bytes of a file with these packets; none without packets: the header is then written by a
+-- finish
 abbrev pub text : Format → List Captured → List ℕ
 text format packets = packets_text format [] packets

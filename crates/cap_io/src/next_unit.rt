@@ -42,8 +42,8 @@ pub(crate) struct UnitReader<I: Input, A: Allocator> {
     pub(crate) input: I,
     /// What the units read so far determine for the next ones, besides the interfaces of a section.
     pub(crate) file: FileState,
-    /// The current unit is at its start, but the file header of pcap isn't held; the bytes after
-    /// the unit are of no use.
+    /// Begins with the current unit (the file header of pcap isn't held); the bytes after the unit
+    /// have no meaning.
     pub(crate) buffer: Vec<u8, A>,
     /// The interfaces of the current section.
     pub(crate) table: Table<A>,
@@ -51,9 +51,9 @@ pub(crate) struct UnitReader<I: Input, A: Allocator> {
     pub(crate) spans: PacketSpans,
 }
 
-/// Lends the next unit, and puts the place of its packet into `spans`, if it has one, the device
-/// has all of it at hand and would pass it, it has at most `room` bytes, and it fails no check.
-/// `false` if not: then nothing changes.
+/// Lends the next unit and puts the place of its packet into `spans`. Does so only if the unit has
+/// a packet, the device has all of it at hand and would pass it, it has at most `room` bytes, and
+/// it fails no check. `false` if not: then nothing changes.
 #[inline(always)]
 pub(crate) fn lend_unit<I: Input, A: Allocator>(
     input: &mut Lending<I>,

@@ -50,7 +50,7 @@ impl<O: Output, A: Allocator> Model for Sink<O, A> {
 impl<O: Output, A: Allocator + Copy> Sink<O, A> {
     ghost use Rattle.cap_io.specs.Sink.{sink_at};
 
-    /// A sink to which nothing was put. It takes no memory.
+    /// A sink to which nothing was put. Allocates nothing.
     pub fn new(alloc: A, output: O, format: Format) -> Self
         ensures { result ≡ sink_at format (O.written output) (O.failures output) (O.room output) }
     {
@@ -76,7 +76,7 @@ impl<O: Output, A: Allocator> Sink<O, A> {
     /// same error.
     /// - `LinkTypesDiffer` (pcap forms), `TooLong`, `TimeOutOfRange` (pcap forms),
     ///   `TooManyOutputInterfaces` (pcapng): the format doesn't hold it;
-    /// - `NoMemory`: none was left for a new interface (pcapng);
+    /// - `NoMemory`: the allocation for a new interface failed (pcapng);
     /// - `WriteFailed`: the device failed in this call.
     pub fn put(&mut self, packet: &Packet<'_>) -> Result<(), Fault>
         ensures bytes { IsTrue O.tells → PutWrites self.old.state self.old (captured packet.now)
@@ -95,11 +95,11 @@ impl<O: Output, A: Allocator> Sink<O, A> {
     }
 
     /// Writes the file header or section header if nothing was put, with the link type `first`,
-    /// or that of Ethernet if there is none. It takes no memory, and nothing but `release` and
-    /// `into_output` is of use after it.
+    /// or that of Ethernet if there is none. Allocates nothing. Call only `release` and
+    /// `into_output` after it.
     ///
-    /// `WriteFailed`: the device failed in this call, after a beginning of the header. After an
-    /// error of an earlier call it returns that again.
+    /// `WriteFailed`: the device failed in this call, after a prefix of the header. After an error
+    /// of an earlier call it returns that again.
     pub fn finish(&mut self, first: Option<u16>) -> Result<(), Fault>
         ensures bytes { IsTrue O.tells
             → FinishWrites self.old.state self.old first result self.new }
@@ -122,7 +122,7 @@ impl<O: Output, A: Allocator> Sink<O, A> {
     }
 
     /// Passes on what the device holds back, and returns whether that succeeded. The sink's state
-    /// stays as it was in either case.
+    /// is unchanged in either case.
     pub fn release(&mut self) -> bool
         ensures kept { self.new ≡ self.old }
         ensures sure { IsTrue O.tells → result ≡ true }

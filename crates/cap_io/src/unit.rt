@@ -8,7 +8,7 @@ ghost use Rattle.cap_io.specs.inside.Reading.{FrontCame, FrontMissing, Moves, Re
 use cap_octet::{Fault, Input, read_full};
 use std::alloc::Allocator;
 
-/// A buffer that grows has room for as many bytes at least, as most units have.
+/// A buffer that grows gets room for at least this many bytes: most units are shorter.
 const SHORT_UNIT: usize = 256;
 
 /// Fills `front` with the first bytes of a unit that follows others; `false` if the file ends
@@ -37,8 +37,8 @@ pub(crate) fn read_front<I: Input>(input: &mut I, front: &mut [u8]) -> Result<bo
     Ok(true)
 }
 
-/// Grows the buffer to `size` bytes at least, for a unit of as many, or returns `NoMemory`. It
-/// never shrinks, and nobody needs what it held.
+/// Grows the buffer to at least `size` bytes, the length of a unit, or returns `NoMemory`. It
+/// never shrinks. Its earlier contents are no longer needed.
 pub(crate) fn make_room<A: Allocator>(buffer: &mut Vec<u8, A>, size: usize) -> Result<(), Fault>
     ensures room { OnOk result (size ≤ vec_len buffer.new) }
     ensures grown { length buffer.old.items ≤ length buffer.new.items }

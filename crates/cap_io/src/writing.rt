@@ -44,8 +44,8 @@ pub(crate) fn check_packet<A: Allocator>(
     }
 }
 
-/// Writes what a file begins with: a file header with this link type, or in pcapng a section
-/// header. Out of line, since it is done once a file.
+/// Writes the start of a file: a file header with this link type, or in pcapng a section header.
+/// Out of line, since it runs once per file.
 #[cold]
 #[inline(never)]
 fn begin_file<O: Output>(output: &mut O, format: Format, link: u16) -> Result<(), DeviceFault>

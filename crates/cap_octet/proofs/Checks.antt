@@ -23,7 +23,7 @@ met_front [] more none = refl
 met_front ((true, other) ∷ rows) more none = met_front rows more none
 met_front ((false, other) ∷ rows) more none = (cc)
 
--- what a test that answered says of its checks
+-- what the result of a test means for its checks
 pub checked_ok : {X : Type 0} (fault : Option Fault) (value found : X) → checked fault value ≡ Ok found → (fault ≡ None) × (value ≡ found)
 checked_ok None value found is = (refl, (cc))
 checked_ok (Some fault) value found is = (cc)

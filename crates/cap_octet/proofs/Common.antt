@@ -1,4 +1,4 @@
--- The names that most proofs here cite, passed on from one place. Declares nothing.
+-- Re-exports the names that most proofs of this crate cite; declares nothing.
 pub use Rattle.std.proofs.Common.{◌≡◌, ℕ, ap, Bool, true, false, ◌&&◌, None, if◌then◌else◌, zero, suc, ◌+◌, ◌<◌, ◌≤◌, ◌⊎◌, inl, inr, refl, sym, ◌∙◌, arith}
 pub use Rattle.std.proofs.Common.{rules, ℤ, pos, negsuc, ◌≤ℤ◌, ◌+ℤ◌, ◌-◌, unsigned_abs, Some, nat_lt, List, ◌++◌, length, take, drop, Result, Ok, Err, IfOk}
 pub use Rattle.std.proofs.Common.{◌*◌, ◌^◌, ◌==◌, not, [], ◌∷◌, get_or, min, subst, Option, nat_le, length-append, FitsSigned, w16, w64, of_z, to_z, position}

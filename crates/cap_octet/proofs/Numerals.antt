@@ -11,7 +11,7 @@ grows radix n (c ∷ cs) h =
     let more = grows radix (n * radix + digit_value c) cs h in
     omega (arith, more, mul-le-mul_left n h)
 
--- the whole is at least the number with the digit at i
+-- the number is at least the one with the digit at i
 pub whole_grows : (radix n i : ℕ) (cs : List ℕ) → 1 ≤ radix → i < length cs → digits_value_after radix n (drop i cs) ≡ digits_value radix cs
     → n * radix + digit_value (get_or cs i 0) ≤ digits_value radix cs
 whole_grows radix n i cs h within rest =
@@ -26,7 +26,7 @@ both false b h = absurd (cc)
 below : (m n : ℕ) → nat_lt m n ≡ true → m < n
 below m n h = grind (arith, nat_tests)
 
--- bytes are digits where the test says so
+-- bytes for which the test is true are digits
 pub digits_from_test : (radix : ℕ) (ds : List ℕ) → are_digits radix ds ≡ true → AllDigits radix ds
 digits_from_test radix [] pass = tt
 digits_from_test radix (d ∷ ds) pass =

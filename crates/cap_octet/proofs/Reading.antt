@@ -6,7 +6,7 @@ use Rattle.std.specs.Io.{BufRead.DropsConsumable, KnownBytes.Consumes, KnownByte
 use Rattle.std.proofs.{Math.ListN.drop_of_length-le, lemmas.List.length-drop}
 use borrow.Rule.Slice.PartMut.{put_mid, mid_of}
 
--- what is after the first c bytes of the buffer after the first c came
+-- the bytes after the first c ones of the buffer, after the first c were read
 following : (u b : List ℕ) (c : ℕ) → c ≤ length u → drop c (take c u ++ drop c b) ≡ drop c b
 following u b c h = drop_at (take c u) (drop c b) c (length-take c u ∙ omega arith)
 
@@ -19,7 +19,7 @@ joined u b c k n h l =
     rw (front u b c h, following u b c h, drop_of_length-le (drop c b) l, take_all k (drop c b) l, drop-drop n c b, take-add c n u)
     (grind (arith, append_assoc, append-nil))
 
--- what came into the rest of a buffer came into the buffer
+-- what was read into the remainder of a buffer was read into the buffer
 pub Takes-following : (u b u1 b1 : List ℕ) (c k n : ℕ) (u2 p : List ℕ) → Takes u b c u1 b1 → Takes u1 (mid_of c k b1) n u2 p
     → c + k ≡ length b → c ≤ length b → Takes u b (c + n) u2 (put_mid c k b1 p)
 Takes-following u b u1 b1 c k n u2 p first next e h =
@@ -30,7 +30,7 @@ Takes-following u b u1 b1 c k n u2 p first next e h =
       rest = next.rest ∙ ap (λ (x : List ℕ). drop n x) first.rest ∙ drop-drop n c u;
     }
 
--- the end of a full read: the buffer is full, or nothing came
+-- the end of a full read: the buffer is full, or no bytes were read
 pub Takes-nothing : (u b u1 b1 : List ℕ) (c k n : ℕ) (u2 p : List ℕ) → Takes u b c u1 b1 → TakesSome u1 (mid_of c k b1) n u2 p
     → c + k ≡ length b → 0 < k → n ≡ 0 → length b1 ≡ length b → TakesFull u b c u2 (put_mid c k b1 p)
 Takes-nothing u b u1 b1 c k n u2 p first next e pos zero same =
@@ -50,8 +50,8 @@ pub written-again : (w b w1 w2 : List ℕ) (c n k : ℕ) → w1 ≡ w ++ take c 
 written-again w b w1 w2 c n k first next le =
     next ∙ (rw (first, take-take n k (drop c b) le, take-add c n b) (simp append_assoc))
 
--- A read that takes bytes which a reader holds takes them of what is left of it: of nothing that is
--- known where it has no room for any.
+-- A read that takes bytes from a reader's own buffer takes them from what remains of it; if the
+-- device's buffer has no room, nothing is known.
 pub held-consumed : (without : Bool) (held : List ℕ) (known after : Option (List ℕ)) (n : ℕ) → n ≤ length held
     → DropsConsumable (if without then None else prepend_known held known) after (Some (length held)) n
     → Consumes (if without then None else prepend_known held known) after (take n held)

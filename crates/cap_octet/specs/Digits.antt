@@ -7,7 +7,7 @@ use Rattle.std.specs.Str.Parse.{digits_value}
 abbrev pub are_digits : ℕ → List ℕ → Bool
 are_digits radix ds = list_all (λ b. nat_lt (digit_value b) radix) ds
 
--- the number that a text of decimal digits, one or more, writes; None of every other text
+-- the value of a text of one or more decimal digits; None for any other text
 abbrev pub decimal_value : List ℕ → Option ℕ
 decimal_value ds = if not (length ds == 0) && are_digits 10 ds then Some (digits_value 10 ds) else None
 

@@ -27,15 +27,15 @@ abbrev pub header_by_version : ℕ → NetworkHeader
 header_by_version version =
     if version == 4 then Known Ipv4 else if version == 6 then Known Ipv6 else OtherVersion version
 
--- the network header of a packet: by the EtherType at this place in the link header; or of raw IP,
--- which has none, by the version of IP, which is the first four bits. `Short` if the bytes that
--- show it aren't captured.
+-- The network header of a packet, by the EtherType at this offset in the link header; for raw IP,
+-- which has no EtherType, by the version of IP in its first four bits. `Short` if the bytes that
+-- decide it aren't captured.
 abbrev pub header_after : Option ℕ → List ℕ → NetworkHeader
 header_after None p = if length p == 0 then Short else header_by_version (slice_index p 0 / 16)
 header_after (Some at) p =
     if nat_lt (length p) (at + 2) then Short else header_by_ethertype (u16_in Big p at)
 
--- the network header of a packet of this link type; `OtherLink` of a link type that isn't known
+-- the network header of a packet of this link type; `OtherLink` for an unknown link type
 abbrev pub network_header : ℕ → List ℕ → NetworkHeader
 network_header n p =
     option_map_or (λ link. header_after (type_offset link) p) (link_of n) (OtherLink n)

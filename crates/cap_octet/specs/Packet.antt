@@ -2,7 +2,7 @@
 use Rattle.std.specs.Prelude.{ℕ, List}
 use Rattle.cap_octet.specs.declared.packet.Packet.{Packet}
 
--- the view of a packet
+-- a packet, as contracts see it
 pub record Captured : Type 0 where
   -- the link type and the snap length of its interface, or of its pcap file
   pub link : ℕ

@@ -1,5 +1,4 @@
--- The results of a device over a reader or writer of std, in terms of what that reader or writer
--- returned.
+-- What a device over a reader or writer of std returns, by what that reader or writer returned.
 use Rattle.std.specs.Io.{ReadsAtMost, StartsWith, WritesAtMost}
 use Rattle.std.specs.Io.KnownBytes.{Consumes, ReadConsumes, WriteAppends}
 use Rattle.std.specs.IoError.{error_kind}
@@ -7,25 +6,25 @@ use Rattle.std.specs.Prelude.{◌≡◌, ◌⊎◌, ℕ, ◌+◌, ◌^◌, ◌�
 use Rattle.std.specs.declared.io.{Error.Error, ErrorKind.ErrorKind, ErrorKind.TheVariants.WriteZero}
 use Rattle.cap_octet.specs.declared.device.DeviceFault.{DeviceFault}
 
--- The device returns what the reader did, after `given` bytes were given. If it fails
--- though the reader did not, the read would have reached 2^63 bytes in all.
+-- The device returns what the reader returned; `given` bytes were given before. If it fails though
+-- the reader didn't, the read would have reached 2^63 bytes in all.
 abbrev pub HandsOver : ℕ → Result ℕ Error → Result ℕ DeviceFault → Type 0
 HandsOver given (Ok n) (Ok count) = count ≡ n
 HandsOver given (Ok n) (Err fault) = 2 ^ 63 ≤ given + n
 HandsOver given (Err e) (Ok count) = ⊥
 HandsOver given (Err e) (Err fault) = Unit {0}
 
--- The reader was read once in this call; or not at all, and the device's buffer is filled with the
--- first bytes that the reader's own held. So if the device fails the reader was read.
+-- The reader was read once in this call. Or it wasn't read, and the device's buffer has the first
+-- bytes that the reader's own buffer held; so a device that fails has read its reader.
 abbrev pub ReadsOnce : (held : List ℕ) (calls : ℕ) → Result ℕ DeviceFault → (buf' : List ℕ)
     (calls' : ℕ) → Type 0
 ReadsOnce held calls (Ok n) buf' calls' =
     (calls' ≡ calls + 1) ⊎ ((calls' ≡ calls) × (n ≡ length buf') × StartsWith held buf')
 ReadsOnce held calls (Err fault) buf' calls' = calls' ≡ calls + 1
 
--- One read of a reader into this buffer, and what the device makes of what it returned (`answer`).
--- All that std states of a read is known: so no byte is lost of a reader whose bytes are known,
--- unless the read reaches 2^63 bytes in all, which is a failure.
+-- One read of a reader into this buffer, and what the device returns for what the reader returned
+-- (`answer`). All that std states of a read is known: no byte is lost of a reader whose bytes are
+-- known, unless the read reaches 2^63 bytes in all, which is a failure.
 pub record IsOneRead (held : List ℕ) (remaining : Option (List ℕ)) (given calls : ℕ)
     (result : Result ℕ DeviceFault) (remaining' : Option (List ℕ)) (buf' : List ℕ)
     (calls' : ℕ) : Type 0 where
@@ -35,30 +34,31 @@ pub record IsOneRead (held : List ℕ) (remaining : Option (List ℕ)) (given ca
   pub bytes : ReadConsumes remaining remaining' answer buf'
   pub hands : HandsOver given answer result
 
--- `count` bytes that a reader's buffer held are consumed, as by a read that gave them (true); or
--- none, and the same bytes remain as before (false).
+-- The next `count` bytes, which the reader's buffer held, are consumed as by a read (true); or no
+-- bytes are, and the same remain as before (false).
 abbrev pub IsPassed : (held : List ℕ) (remaining : Option (List ℕ)) (count : ℕ) → Bool
     → (remaining' : Option (List ℕ)) → Type 0
 IsPassed held remaining count true remaining' =
     (count ≤ length held) × Consumes remaining remaining' (take count held)
 IsPassed held remaining count false remaining' = remaining' ≡ remaining
 
--- The device returns what the writer did. If it fails though the writer did not, the writer took
--- nothing of some bytes.
+-- The device returns what the writer returned. If it fails though the writer didn't, the writer
+-- accepted 0 of one or more bytes.
 abbrev pub TakesOver : List ℕ → Result ℕ Error → Result ℕ DeviceFault → Type 0
 TakesOver buf (Ok n) (Ok count) = count ≡ n
 TakesOver buf (Ok n) (Err fault) = (n ≡ 0) × (0 < length buf)
 TakesOver buf (Err e) (Ok count) = ⊥
 TakesOver buf (Err e) (Err fault) = Unit {0}
 
--- Why the writer failed last: as its own error says, or since it took nothing of some bytes; None
--- if it hasn't failed yet. A write that succeeds doesn't change what was known.
+-- Why the writer last failed: by its own error, or because it accepted 0 of one or more bytes; None
+-- if it never failed. A write that succeeds doesn't change this.
 abbrev pub cause_after : Option ErrorKind → Result ℕ Error → Result ℕ DeviceFault → Option ErrorKind
 cause_after cause answer (Ok count) = cause
 cause_after cause (Ok n) (Err fault) = Some WriteZero
 cause_after cause (Err e) (Err fault) = Some (error_kind e)
 
--- one write of these bytes to a writer, and what the device makes of what it returned (`answer`)
+-- one write of these bytes to a writer, and what the device returns for what the writer returned
+-- (`answer`)
 pub record IsOneWrite (contents : Option (List ℕ)) (cause : Option ErrorKind) (calls : ℕ)
     (buf : List ℕ) (result : Result ℕ DeviceFault) (contents' : Option (List ℕ))
     (cause' : Option ErrorKind) (calls' : ℕ) : Type 0 where

@@ -3,8 +3,8 @@ use Rattle.std.specs.Prelude.{ℕ, Bool, List, Option}
 use Rattle.cap_octet.specs.declared.device.Input as input
 use Rattle.cap_octet.specs.declared.device.Output as output
 
--- an input before a call: the bytes that it has left, the number of bytes that it gave and of its
--- failures, and the number of bytes in all that it gives at least before it fails (None: never)
+-- an input before a call: its unread bytes, how many bytes it has given, how often it has failed,
+-- and how many bytes it gives at least before it first fails (None: it never fails)
 pub record FreshInput : Type 0 where
   pub text : List ℕ
   pub given : ℕ
@@ -34,8 +34,8 @@ output_view written failures = record { written = written; failures = failures }
 abbrev pub device_view : {O : Type 0} → output.Ghosts O → O → OutputView
 device_view device o = output_view (device.written o) (device.failures o)
 
--- an output before a call, with the number of bytes in all that it takes at least before it fails,
--- and whether contracts know its bytes
+-- an output before a call, with how many bytes it takes at least before it first fails, and whether
+-- contracts know its bytes
 pub record FreshOutput : Type 0 where
   pub view : OutputView
   pub room : ℕ

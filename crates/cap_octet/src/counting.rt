@@ -1,6 +1,6 @@
 //! std's buffered readers and writers, with a count of the reads or writes that are made of them.
-//! The lines of `read`, `write` and `flush` are all that must be believed of the counts: only they
-//! count, and each makes its call.
+//! Three lines must be believed, not proved: those of `read`, `write` and `flush`, which make std's
+//! call and count it. Nothing else counts.
 ghost use Rattle.std.specs.Io.Buffered.{reader_buffer, reader_remaining, writer_buffer};
 ghost use Rattle.std.specs.Io.{BufRead.DropsConsumable, Buffered.writer_contents};
 ghost use Rattle.std.specs.Io.{ReadsAtMost, WritesAtMost};

@@ -1,10 +1,10 @@
-//! What every layer speaks of: devices, numbers in bytes, times, packets, formats and faults.
+//! What all layers share: devices, numbers in bytes, times, packets, formats and faults.
 //!
 //! Most crates use it, from the readers of files and the compiler to the program and the library.
 //! [`Input`] and [`Output`] are the devices that bytes are read from and written to. A [`Packet`]
 //! is one packet with its time and its lengths, whatever file it came from.
 //!
-//! Nothing here takes memory.
+//! Nothing here allocates.
 #![tactic(auto)]
 
 pub mod assigned;

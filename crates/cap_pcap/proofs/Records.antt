@@ -52,7 +52,7 @@ unfolding missing
 record_fault-whole head text enough none whole =
     past_first head text enough ∙ met_front (field_checks head text) (missing head text) none ∙ rw (le-leb (record_size head text) (length text) whole) refl
 
--- ---- what the checks say of a text
+-- ---- the checks on bytes
 
 pub record Passes (head : Head) (text : List ℕ) : Type 0 where
   pub enough : 16 ≤ length text
@@ -82,7 +82,7 @@ IsRecord-front head bytes more is =
       omega (arith, same, is.whole),
     )
 
--- bytes that came one after another are a record
+-- bytes that were read one after another are a record
 pub IsRecord-came : (head : Head) (bytes : List ℕ) → 16 ≤ length bytes → first_failing (field_checks head (take 16 bytes)) ≡ None
     → length bytes ≡ 16 + captured_len head (take 16 bytes) → IsRecord head bytes
 IsRecord-came head bytes enough none size =
@@ -97,7 +97,7 @@ IsRecord-came head bytes enough none size =
       whole = omega arith;
     }
 
--- the record at the front of a text that passes
+-- the record at the start of bytes that fail no check
 pub IsRecord-take : (head : Head) (text : List ℕ) → record_fault head text ≡ None → IsRecord head (take (record_size head text) text)
 IsRecord-take head text none =
     let p = passes head text none in

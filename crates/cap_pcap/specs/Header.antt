@@ -7,13 +7,13 @@ use Rattle.cap_octet.specs.declared.number.Order.{Order, TheVariants.Little, The
 use Rattle.cap_pcap.specs.declared.header.{Head.Head, Resolution.Resolution}
 use Rattle.cap_pcap.specs.declared.header.Resolution.TheVariants.{Microseconds, Nanoseconds}
 
--- the magic number of a file of this resolution: its first four bytes
+-- the magic number of a file of this resolution, which its first four bytes hold
 abbrev pub magic : Resolution → ℕ
 magic Microseconds = 0xa1b2c3d4
 magic Nanoseconds = 0xa1b23c4d
 
--- the byte order in which the first four bytes read as a magic number, and the resolution that this
--- number shows; None if they read as one in neither order
+-- the byte order in which the first four bytes are a magic number, and the resolution that this
+-- number means; None if they are one in neither order
 abbrev pub form_in : List ℕ → Option (Order × Resolution)
 form_in text =
     if u32_in Little text 0 == magic Microseconds then Some (Little, Microseconds)
@@ -22,12 +22,12 @@ form_in text =
     else (if u32_in Big text 0 == magic Nanoseconds then Some (Big, Nanoseconds)
     else None)))
 
--- byte order and resolution of a file; any without a magic number, since the first check
+-- byte order and resolution of a file; arbitrary without a magic number, since the first check
 -- fails then
 abbrev pub form_of : List ℕ → Order × Resolution
 form_of text = unwrap_or (form_in text) (Little, Microseconds)
 
--- the checks of a file header, in order, on a text that begins with it
+-- the checks of a file header, in order, on bytes that begin with it
 abbrev pub header_checks : List ℕ → List (Bool × Fault)
 header_checks text =
     let order = (form_of text).0 in
@@ -37,11 +37,11 @@ header_checks text =
     ∷ (nat_lt (u32_in order text 20) 65536, BadLinkTypeField)
     ∷ []
 
--- why a text doesn't begin with a file header: the first check that fails; None if it does
+-- the first check of a file header that these bytes fail; None if they begin with one
 abbrev pub header_fault : List ℕ → Option Fault
 header_fault text = first_failing (header_checks text)
 
--- what a file header says
+-- the fields of a file header
 abbrev pub header_in : List ℕ → Head
 header_in text =
     let form = form_of text in
@@ -52,7 +52,7 @@ header_in text =
       link = u32_in form.0 text 20;
     }
 
--- These bytes are a file header, which passes every check and says this.
+-- These bytes are a file header, which fails no check and has these fields.
 pub record IsHeader (bytes : List ℕ) (head : Head) : Type 0 where
   pub passes : header_fault bytes ≡ None
   pub whole : length bytes ≡ 24

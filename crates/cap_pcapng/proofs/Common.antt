@@ -1,4 +1,4 @@
--- The names that most proofs here cite, passed on from one place. Declares nothing.
+-- Re-exports the names that most proofs of this crate cite; declares nothing.
 pub use Rattle.std.proofs.Common.{◌≡◌, ℕ, ◌+◌, ◌-◌, ◌/◌, ◌*◌, ◌^◌, ◌<◌, ◌≤◌, Bool, true, false, List, [], ◌∷◌, length, take, drop, Option, Some, None, Ok, refl}
 pub use Rattle.std.proofs.Common.{sym, ap, ap₂, subst, ◌∙◌, arith, lit≤, leb-true, length-drop, inl, inr, if◌then◌else◌, nat_lt, is_some, unwrap_or, zero, suc}
 pub use Rattle.std.proofs.Common.{◌++◌, Result, Err, cond, ◌==◌, eqb-true, slice_index, IfOk, IfErr, ◌||◌, lit<, ltb-false, lt-ltb, le-ltb, le-leb, eq-eqb}

@@ -1,4 +1,4 @@
--- A block finds its place in the table of interfaces, and its packet its data.
+-- A block is entered into the table of interfaces, and its packet has the data of the definitions.
 use Rattle.cap_pcapng.proofs.Common.{◌≡◌, ℕ, ◌+◌, ◌-◌, ◌^◌, ◌<◌, ◌≤◌, Bool, true, false, List, [], ◌∷◌, length, take, drop, Option, Some, None, Ok, refl, sym}
 use Rattle.cap_pcapng.proofs.Common.{ap, ap₂, subst, ◌∙◌, arith, lit≤, leb-true, length-drop, inl, inr, if◌then◌else◌, nat_lt, is_some, unwrap_or}
 use Rattle.cap_pcapng.proofs.Common.{AllByRecursion, slice_get, option_map, ok_or, drop-drop, drop-take, take-take, length-take-le, length-take, take_all}
@@ -15,7 +15,7 @@ use Rattle.cap_pcapng.specs.inside.Effect.{PacketFound, fault_among}
 
 -- ---- a packet's data
 
--- captured bytes lie in what is left of a body where their padding does
+-- captured bytes are within the remainder of a body if they are with their padding
 captured_fits : (captured : ℕ) (rest : List ℕ) → first_failing (data_checks captured rest) ≡ None → captured ≤ length rest
 captured_fits captured rest none = omega (arith, leb-true (padded_length captured) (length rest) (all_met (data_checks captured rest) none).0)
 
@@ -35,7 +35,7 @@ options_after padding optional rest options there is count =
     let at : 28 + length rest - optional - 28 ≡ padding = omega arith in
     ap (λ n. take optional (drop n rest)) at ∙ ap (take optional) (sym is) ∙ take_all optional options (omega arith)
 
--- what is found passes its checks
+-- what is found fails none of its checks
 abbrev pub IsFound : List (Bool × Fault) → Type 0 → Type 0
 IsFound checks Found = (first_failing checks ≡ None) × Found
 
@@ -175,7 +175,7 @@ packet_enters frame interfaces block rest parts skip spans whole least is passes
       known = found.known;
     }
 
--- what is left of the body after the fields of an enhanced packet lies in the block
+-- the remainder of the body after the fields of an enhanced packet is within the block
 pub enhanced_room : (frame : Frame) (block : List ℕ) (b : EnhancedBlock) → length block ≡ frame.length → 12 ≤ frame.length
     → parts_of (Block.Enhanced b) ≡ parts_in frame block → block_fault frame block ≡ None → 28 + length b.rest.now ≤ frame.length
 enhanced_room frame block b whole least is none =

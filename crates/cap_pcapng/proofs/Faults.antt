@@ -1,5 +1,5 @@
--- What holds of the faults of all checks holds of the first that fails; and which faults options
--- have.
+-- What is true of the faults of all checks is true of the first that fails; and which faults
+-- options have.
 use Rattle.cap_pcapng.proofs.Common.{◌≡◌, ℕ, zero, suc, Bool, true, false, List, [], ◌∷◌, ◌++◌, length, drop, Some, Result, Ok, Err, cond, subst, ◌==◌, is_some}
 use Rattle.cap_pcapng.proofs.Common.{AllByRecursion, first_failing, Fault, BadOption, BadTimeResolution, Order, Parts, InterfaceParts, option_checks}
 use Rattle.cap_pcapng.proofs.Common.{checks_after, first_value, list_checks, name_checks, name_code, offset_checks, offset_code, resolution_checks}
@@ -8,7 +8,7 @@ use Rattle.cap_pcapng.specs.OptionList.{options_in, options_within}
 
 -- ---- the faults of some rows
 
--- what holds of the faults of all rows holds of the first that fails
+-- what is true of the faults of all rows is true of the first that fails
 abbrev pub AreAll : (Fault → Type 0) → List (Bool × Fault) → Type 0
 AreAll P rows = AllByRecursion (λ row. P row.1) rows
 

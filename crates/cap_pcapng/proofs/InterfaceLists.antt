@@ -1,4 +1,4 @@
--- Options of an interface, read one after another.
+-- The options of an interface, read one after another.
 use Rattle.cap_pcapng.proofs.Common.{◌≡◌, ℕ, Bool, true, false, List, [], ◌∷◌, ◌++◌, cond, refl, sym, ap, ◌∙◌, eqb-true, Option, Some, None, Result, Ok, ◌<◌}
 use Rattle.cap_pcapng.proofs.Common.{◌≤◌, ◌^◌, ◌-◌, nat_lt, unwrap_or, arith, is_some, if◌then◌else◌, ◌==◌, slice_index, option_map, option_or, met_front}
 use Rattle.cap_pcapng.proofs.Common.{failing_front, first_failing, Fault, Order, checks_after, first_checks, first_value, fitting_options, list_checks}
@@ -8,7 +8,8 @@ use Rattle.std.specs.Borrow.{Bor}
 use Rattle.cap_pcapng.specs.declared.interface.FoundOptions.{FoundOptions}
 use Rattle.cap_pcapng.specs.inside.Interface.{Adds, IsFound, is_found, value_for}
 
--- what an iterator of options has left, once some were read and passed, and this was found in them
+-- the options that an iterator still returns after some were read without a fault, and this was
+-- found in them
 pub record HasRead (order : Order) (all rest : List (Result CodedValue Fault)) (found : FoundOptions) : Type 0 where
   pub before : List CodedValue
   pub checks : first_failing (list_checks [] all) ≡ first_failing (list_checks before rest)
@@ -61,7 +62,7 @@ by_code false false true given name units offset a b c n u f = ap (λ g. cond g 
 by_code false false false true name units offset a b c n u f = refl
 by_code false false false false name units offset a b c n u f = refl
 
--- an option of which one of its code stands before isn't checked
+-- an option after another one with its code isn't checked
 pub checks_after-found : (order : Order) (before : List CodedValue) (o : CodedValue) (found : FoundOptions) → IsFound order before found
     → checks_after before o ≡ (if is_found found o.code then [] else first_checks o)
 checks_after-found order before o found is =

@@ -1,4 +1,4 @@
--- What the answer of a reader says of its value and of its fault.
+-- A reader's result, by its value or by its fault.
 use Rattle.cap_pcapng.proofs.Common.{◌≡◌, Bool, List, None, Some, Result, Ok, Err, IfOk, IfErr, first_failing, Fault}
 use Rattle.cap_pcapng.specs.Answer.{ChecksGive}
 

@@ -1,4 +1,4 @@
--- What a list of options begins with.
+-- The first option of a list, and those after it.
 use Rattle.cap_pcapng.proofs.Common.{◌≡◌, ℕ, zero, suc, ◌+◌, ◌<◌, ◌≤◌, Bool, true, false, List, [], ◌∷◌, ◌||◌, cond, length, drop, refl, sym, ap, ap₂, ◌∙◌, ◌-◌}
 use Rattle.cap_pcapng.proofs.Common.{take, arith, lit<, ltb-false, lt-ltb, le-ltb, le-leb, eq-eqb, ne_eqb, length-drop, min, ◌≢◌, Result, Ok, Err, IsErr}
 use Rattle.cap_pcapng.proofs.Common.{lt-leb, drop_min, take_rest, nat_lt, u16_in, Fault, BadOption, Order, fitting_options, CodedValue, item_of, option_at}
@@ -92,7 +92,7 @@ options_in-next order text code len following code_is len_is there more within i
 pub options_in-none : (order : Order) → options_in order [] ≡ []
 options_in-none order = options_in-short order [] (lit< tt)
 
--- an item fewer is left
+-- one item fewer remains
 pub shorter_by : {X : Type 0} (x : X) (all rest : List X) → all ≡ x ∷ rest → length rest < length all
 shorter_by x all rest is = let e : length all ≡ length rest + 1 = ap length is ∙ omega arith in omega arith
 

@@ -12,7 +12,7 @@ use Rattle.cap_pcapng.specs.OptionList.{options_in, options_within}
 length-option_text : (code : ℕ) (value : List ℕ) → length (option_text code value) ≡ padded_length (4 + length value)
 length-option_text code value = simp (length-append, length-replicate) (omega arith)
 
--- an option in front of others
+-- an option before others
 pub options_in-option : (code : ℕ) (value rest : List ℕ) → code < 2 ^ 16 → (code ≡ 0 → ⊥) → length value < 2 ^ 16
     → options_in Little (option_text code value ++ rest) ≡ Ok (record { code = code; value = value }) ∷ options_in Little rest
 options_in-option code value rest upper_bound some short =

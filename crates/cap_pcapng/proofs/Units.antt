@@ -1,4 +1,4 @@
--- What a text begins with is told by its first bytes alone: a block.
+-- The first bytes determine which block they begin with.
 use Rattle.cap_pcapng.proofs.Common.{◌≡◌, Parts, ℕ, ◌+◌, ◌-◌, ◌<◌, ◌≤◌, Bool, true, false, ◌&&◌, List, [], ◌∷◌, ◌++◌, length, take, drop, Option, Some, None}
 use Rattle.cap_pcapng.proofs.Common.{refl, sym, ap, ap₂, ◌∙◌, arith, leb-true, le-leb, nat_le, ◌==◌, lt-leb, length-take-le, take-append-drop, take-append-le}
 use Rattle.cap_pcapng.proofs.Common.{drop-append-le, first_failing, Fault, BadBlockLength, Truncated, Order, Little, Big, all_met, failing_front, met_front}
@@ -46,7 +46,7 @@ parts_in-append frame front more least whole = ap (parts_in_body frame.block_typ
 
 -- ---- the checks, one after another
 
--- the checks of the whole block, and those of its place among others
+-- the checks of the block by itself, and those that need its section
 after_frame : Option Section → List ℕ → List (Bool × Fault)
 after_frame before text =
     block_checks (frame_after before text) text ++ checks_among (interfaces_before before) (parts_after before text)
@@ -98,7 +98,7 @@ unit_fault-among before text enough framed whole blocked =
     after_size before text enough framed whole
     ∙ met_front (block_checks (frame_after before text) text) (checks_among (interfaces_before before) (parts_after before text)) blocked
 
--- ---- what the checks say of a text
+-- ---- the checks on bytes
 
 pub record Passes (before : Option Section) (text : List ℕ) : Type 0 where
   pub enough : 12 ≤ length text
@@ -117,7 +117,7 @@ and_first : (a b : Bool) → (a && b) ≡ true → a ≡ true
 and_first true b is = refl
 and_first false b is = is
 
--- a frame that passes has a total length of 12 at least
+-- a frame that fails no check has a total length of at least 12
 pub least_length : (section : Option Order) (text : List ℕ) → first_failing (frame_checks section text) ≡ None → 12 ≤ length_in section text
 least_length section text framed =
     leb-true 12 (length_in section text) (and_first (nat_le 12 (length_in section text)) _ (all_met (frame_checks section text) framed).1.1.0)
@@ -148,7 +148,7 @@ passes before text none =
 pub unit_fault-passes : (before : Option Section) (text : List ℕ) → Passes before text → unit_fault before text ≡ None
 unit_fault-passes before text p = unit_fault-among before text p.enough p.framed p.whole p.blocked ∙ p.among
 
--- ---- a block in front of more
+-- ---- a block before other bytes
 
 pub parts_after-append : (before : Option Section) (front more : List ℕ) → 12 ≤ length front → 12 ≤ block_size before front
     → block_size before front ≤ length front → parts_after before (front ++ more) ≡ parts_after before front
@@ -189,7 +189,7 @@ IsBlock-front before bytes more is =
     let p = passes before bytes is.passes in
     (unit_fault-append before bytes more p.enough p.least p.whole ∙ is.passes, block_size-append before bytes more p.enough ∙ sym is.whole)
 
--- the block at the front of a text that passes
+-- the block at the start of bytes that fail no check
 pub IsBlock-take : (before : Option Section) (text : List ℕ) → unit_fault before text ≡ None → IsBlock before (take (block_size before text) text)
 IsBlock-take before text none =
     let p = passes before text none in

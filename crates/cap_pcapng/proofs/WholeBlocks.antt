@@ -1,4 +1,4 @@
--- All checks of a block by itself, and those of a block among others.
+-- All checks of a block by itself, and those that need its section.
 use Rattle.cap_pcapng.proofs.Common.{◌≡◌, ℕ, ◌-◌, ◌≤◌, ◌⊎◌, inl, inr, Bool, true, false, List, [], ◌∷◌, ◌++◌, length, Some, None, refl, sym, ap, ◌∙◌, le-leb}
 use Rattle.cap_pcapng.proofs.Common.{eq-eqb, first_failing, u32_in, Fault, block_checks, block_fault, body_checks, body_in, option_checks, parts_in}
 use Rattle.cap_pcapng.proofs.Common.{parts_in_body, Frame}
@@ -13,7 +13,7 @@ block_fault-body frame text body least whole same is =
     rw (le-leb 12 frame.length least, le-leb frame.length (length text) whole, eq-eqb (u32_in frame.order text (frame.length - 4)) frame.length same)
     (ap (λ t. first_failing (body_checks frame.block_type frame.order t ++ option_checks (parts_in_body frame.block_type frame.order t))) is)
 
--- ---- what the answer of all checks says of each
+-- ---- what the result of all checks means for each
 
 either_fails : (rows more : List (Bool × Fault)) (fault : Fault) → first_failing (rows ++ more) ≡ Some fault
     → (first_failing rows ≡ Some fault) ⊎ ((first_failing rows ≡ None) × (first_failing more ≡ Some fault))

@@ -1,10 +1,10 @@
--- A block is its pieces, joined.
+-- A block that is written is its parts, joined.
 use Rattle.cap_pcapng.proofs.Common.{◌≡◌, ℕ, ◌+◌, ◌-◌, ◌<◌, ◌≤◌, List, [], ◌∷◌, ◌++◌, length, take, drop, replicate, refl, sym, ap, ap₂, ◌∙◌, arith}
 use Rattle.cap_pcapng.proofs.Common.{append_assoc, length-append, ne_eqb, ◌/◌, ◌%◌, ◌^◌, ◌==◌, false, true, false≢true, append-nil, drop_at, length-replicate}
 use Rattle.cap_pcapng.proofs.Common.{replicate-append-replicate, take_all, little_bytes, Captured, padded_length, comment_text, end_text, interface_body}
 use Rattle.cap_pcapng.proofs.Common.{interface_header, interface_text, name_text, packet_body, packet_header, packet_block, padded_text, resolution_text}
 
--- the last of the zeros in front of more bytes, and these
+-- the last zeros before other bytes, and these
 block_end : (k zeros n : ℕ) (more end : List ℕ) → zeros ≤ k → end ≡ replicate k 0 ++ more → n ≡ k + length more
     → take (n - (k - zeros)) (drop (k - zeros) end) ≡ replicate zeros 0 ++ more
 block_end k zeros n more end upper_bound is size =
@@ -23,7 +23,7 @@ length-packet_body number p =
     ++ little_bytes 4 p.orig ++ padded_text p.bytes) (comment_text p.comment)
     ∙ ap (λ (n : ℕ). n + length (comment_text p.comment)) (simp (length-append, length-replicate) (omega arith))
 
--- a comment's bytes with the end of the options are whole fours
+-- the length of a comment with the end of the options is a multiple of four
 pub length-comment_text : (comment : List ℕ) → (length comment == 0) ≡ false → length (comment_text comment) ≡ 8 + padded_length (length comment)
 length-comment_text [] some = absurd (false≢true (sym some))
 length-comment_text (b ∷ bytes) some = simp (length-append, length-replicate) (omega arith)

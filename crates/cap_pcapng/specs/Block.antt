@@ -9,14 +9,14 @@ use Rattle.cap_pcapng.specs.{InterfaceOptions.list_checks, OptionList.options_in
 use Rattle.cap_pcapng.specs.declared.blocks.{Block.Block, InterfaceBlock.InterfaceBlock}
 use Rattle.cap_pcapng.specs.declared.frames.{BlockType.BlockType, Frame.Frame}
 
--- the body of the block that a text begins with: the bytes between its two total lengths
+-- the body of the block that these bytes begin with: the bytes between its two total lengths
 abbrev pub body_in : Frame → List ℕ → List ℕ
 body_in frame text = take (frame.length - 12) (drop 8 text)
 
 -- ---- the checks
 
--- the checks of a body, in order: that it is long enough for its type, and a section's version; an
--- obsolete packet block passes none
+-- the checks of a body, in order: it is long enough for its type, and a section's version is known;
+-- an obsolete packet block fails always
 abbrev pub body_checks : BlockType → Order → List ℕ → List (Bool × Fault)
 body_checks BlockType.Section order body =
     (nat_le 16 (length body), BadBody)
@@ -32,33 +32,33 @@ body_checks BlockType.SimplePacket order body = (nat_le 4 (length body), BadBody
 body_checks BlockType.EnhancedPacket order body = (nat_le 20 (length body), BadBody) ∷ []
 body_checks BlockType.Other order body = []
 
--- the checks of a whole block, on a text that begins with it, in order: that its second total
--- length is the first, and those of its body; not those of options or of the interfaces before it
+-- the checks of a whole block, in order, on bytes that begin with it: its second total length
+-- equals the first, and its body's checks; options and earlier interfaces aren't checked here
 abbrev pub block_checks : Frame → List ℕ → List (Bool × Fault)
 block_checks frame text =
     (u32_in frame.order text (frame.length - 4) == frame.length, BadBlockLength)
     ∷ body_checks frame.block_type frame.order (body_in frame text)
 
--- the checks of a block's length, in order: there is room for its header and end, and all its bytes
--- are there
+-- the checks of a block's length, in order: it has room for the header and the end, and all its
+-- bytes are present
 abbrev pub size_checks : Frame → List ℕ → List (Bool × Fault)
 size_checks frame text =
     (nat_le 12 frame.length, BadBlockLength) ∷ (nat_le frame.length (length text), Truncated) ∷ []
 
 -- ---- a packet's data
 
--- the captured length of a simple packet, in an interface of this snap length; 0 means no limit
+-- the captured length of a simple packet of an interface with this snap length; 0 means no limit
 abbrev pub simple_captured : (orig snap : ℕ) → ℕ
 simple_captured orig snap = if snap == 0 then orig else min orig snap
 
--- the check that this many captured bytes with their padding lie in what is left of a body
+-- the check that this many captured bytes and their padding fit the remainder of a body
 abbrev pub data_checks : ℕ → List ℕ → List (Bool × Fault)
 data_checks captured rest = (nat_le (padded_length captured) (length rest), BadBody) ∷ []
 
 -- ---- the parts
 
--- The parts of a block. The rest of a packet's body is its padded data, and in an enhanced packet
--- block the options after them.
+-- The parts of a block. What follows them in the body is a packet's padded data, and in an enhanced
+-- packet block the options after it.
 pub data Parts : Type 0 where
   SectionParts : Parts
   InterfaceParts : (link snap : ℕ) → (order : Order) → (options : List ℕ) → Parts
@@ -78,7 +78,7 @@ parts_in_body BlockType.EnhancedPacket order body =
     (u32_in order body 12) (u32_in order body 16) order (drop 20 body)
 parts_in_body kind order body = SkippedParts
 
--- the parts of the block with this frame that a text begins with
+-- the parts of the block with this frame at the start of these bytes
 abbrev pub parts_in : Frame → List ℕ → Parts
 parts_in frame text = parts_in_body frame.block_type frame.order (body_in frame text)
 
@@ -102,14 +102,14 @@ IsDescribedIfAny block = Unit {0}
 
 -- ---- all checks of a block by itself
 
--- the checks of an interface's options; none of every other block
+-- the checks of an interface's options; none for any other block
 abbrev pub option_checks : Parts → List (Bool × Fault)
 option_checks (InterfaceParts link snap order options) = list_checks [] (options_in order options)
 option_checks parts = []
 
--- The first check that the block which a text begins with fails, after those of its frame; None if
--- it fails none. The checks that need the interfaces before it are in `Unit`: one of them, of the
--- number of interfaces, comes before those of options.
+-- The first check, after those of its frame, that fails for the block at the start of these bytes;
+-- None if none does. The checks that need the interfaces before it are in `Unit`: that of the
+-- number of interfaces comes before those of options.
 abbrev pub block_fault : Frame → List ℕ → Option Fault
 block_fault frame text =
     first_failing

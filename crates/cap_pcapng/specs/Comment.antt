@@ -7,8 +7,8 @@ use Rattle.cap_pcapng.specs.{InterfaceOptions.first_value, InterfaceOptions.fitt
 abbrev pub comment_code : ℕ
 comment_code = 1
 
--- The comment in a packet's options: the value of the first option of its code, or empty. The
--- options end at code 0, at the end of their bytes and at a value that doesn't fit, none of which
+-- The comment in a packet's options: the value of the first option with its code, or empty. The
+-- options end at code 0, at the end of their bytes, or at a value that doesn't fit; none of these
 -- is a fault.
 abbrev pub comment_in : Order → List ℕ → List ℕ
 comment_in order options =

@@ -9,7 +9,7 @@ use Rattle.cap_pcapng.specs.Unit.{Section, checks_among, packet_by, packet_of, s
 use Rattle.cap_pcapng.specs.declared.effect.{BlockEffect.BlockEffect, PacketSpans.PacketSpans, Span.Span}
 use Rattle.cap_pcapng.specs.declared.frames.Frame.{Frame}
 
--- the bytes of a text that a span has
+-- the bytes of a span
 abbrev pub span_bytes : Span → List ℕ → List ℕ
 span_bytes span text = take span.length (drop span.start text)
 
@@ -22,8 +22,8 @@ is_interface parts = false
 abbrev pub section_of : Order → List Described → Section
 section_of order interfaces = record { order = order; interfaces = interfaces }
 
--- the packet with these data and options, in this byte order, and the interface, time and original
--- length that its spans show; None if that interface isn't among these
+-- the packet with these data and options, in this byte order, with the interface, time and original
+-- length that its spans name; None if that interface isn't declared
 abbrev pub held_packet : Order → List Described → PacketSpans → (bytes options : List ℕ)
     → Option Captured
 held_packet order interfaces spans bytes options =
@@ -31,7 +31,7 @@ held_packet order interfaces spans bytes options =
     (λ (i : Described). packet_of i spans.time spans.orig bytes (comment_in order options))
     (slice_get interfaces spans.interface)
 
--- a block has a packet, and its spans lend it
+-- A block has a packet, and these are its spans.
 pub record PacketStands (order : Order) (interfaces : List Described) (parts : Parts)
     (block : List ℕ) (spans : PacketSpans) : Type 0 where
   pub packet : Captured
@@ -39,9 +39,9 @@ pub record PacketStands (order : Order) (interfaces : List Described) (parts : P
   pub is_lent : held_packet order interfaces spans (span_bytes spans.bytes block)
       (span_bytes spans.options block) ≡ Some packet
 
--- the number of a packet's interface, and the places of its data and its options, as in its block:
--- an enhanced packet has its data after 28 bytes, and its options after the padding of the data; a
--- simple packet is of interface 0, has its data after 12 bytes, and has no options
+-- The interface number of a packet, and the offsets of its data and options in the block. In an
+-- enhanced packet the data is at offset 28, and the options follow its padding; a simple packet is
+-- of interface 0, has its data at offset 12, and has no options.
 abbrev pub LieAsSaid : Parts → PacketSpans → Type 0
 LieAsSaid (EnhancedParts number ticks captured orig order rest) spans =
     (spans.interface ≡ number) × (spans.bytes ≡ record { start = 28; length = captured })
@@ -55,7 +55,7 @@ LieAsSaid (SimpleParts orig rest) spans =
     × (spans.options ≡ record { start = 12; length = 0 })
 LieAsSaid parts spans = ⊥
 
--- the block has no packet, or these spans lend it
+-- the block has no packet, or these are its packet's spans
 abbrev pub PacketIfAny : Order → List Described → Parts → List ℕ → Option PacketSpans → Type 0
 PacketIfAny order interfaces parts block None = packet_by interfaces parts ≡ None
 PacketIfAny order interfaces parts block (Some spans) =
@@ -73,8 +73,8 @@ abbrev pub KnowsIfAny : List Described → Option PacketSpans → Type 0
 KnowsIfAny interfaces None = Unit {0}
 KnowsIfAny interfaces (Some spans) = is_some (slice_get interfaces spans.interface) ≡ true
 
--- a block passed all of its checks after those of its frame, and the table of interfaces is that
--- after it
+-- a block fails none of its checks after those of its frame, and the table has the interfaces of
+-- the section after it
 pub record Enters (frame : Frame) (interfaces : List Described) (block : List ℕ)
     (spans : Option PacketSpans) (interfaces' : List Described) : Type 0 where
   pub passes : first_failing (block_checks frame block) ≡ None
@@ -96,18 +96,18 @@ interfaces_after BlockEffect.Section interfaces = []
 interfaces_after (BlockEffect.Interface i) interfaces = interfaces ++ description_of i ∷ []
 interfaces_after other interfaces = interfaces
 
--- a block passed all of its checks after those of its frame, and has this effect
+-- a block fails none of its checks after those of its frame, and has this effect
 abbrev pub HasEffect : Frame → List Described → List ℕ → BlockEffect → Type 0
 HasEffect frame interfaces block does =
     Enters frame interfaces block (packet_in_effect does) (interfaces_after does interfaces)
 
--- if the block has a packet, its spans are as the block states
+-- if the block has a packet, its spans are those of the data and options in the block
 abbrev pub LiesAsSaid : Parts → BlockEffect → Type 0
 LiesAsSaid parts (BlockEffect.Packet spans) = LieAsSaid parts spans
 LiesAsSaid parts other = Unit {0}
 
--- the first check that a block fails after those of its frame: one of its own, or else one of those
--- that need the interfaces before it
+-- the first check that a block fails after those of its frame: its own come first, then those that
+-- need the interfaces before it
 abbrev pub IsBlockFault : Frame → List Described → List ℕ → Fault → Type 0
 IsBlockFault frame interfaces block fault =
     (first_failing (block_checks frame block) ≡ Some fault)

@@ -1,11 +1,11 @@
--- Blocks as they are written, all of them little-endian.
+-- Blocks as they are written; all are little-endian.
 use Rattle.std.specs.Prelude.{ℕ, ◌+◌, ◌-◌, ◌/◌, ◌%◌, ◌^◌, Bool, List, [], ◌∷◌, ◌++◌, length, replicate, nat_le}
 use Rattle.byteorder.specs.Endian.{little_bytes}
 use Rattle.cap_octet.specs.{Packet.Captured, declared.fault.Fault.Fault, declared.fault.Fault.TheVariants.TooLong}
 use Rattle.cap_pcapng.specs.{Comment.comment_code, Frame.byte_order_magic, Frame.most_block, Frame.section_type}
 use Rattle.cap_pcapng.specs.{InterfaceOptions.name_code, InterfaceOptions.resolution_code, Padding.padded_length}
 
--- type, total length, body, total length
+-- a block: type, total length, body, total length
 abbrev pub block_text : (type : ℕ) → (body : List ℕ) → List ℕ
 block_text type body =
     little_bytes 4 type ++ little_bytes 4 (12 + length body) ++ body
@@ -23,18 +23,18 @@ option_text code value = little_bytes 2 code ++ little_bytes 2 (length value) ++
 abbrev pub end_text : List ℕ
 end_text = little_bytes 2 0 ++ little_bytes 2 0
 
--- a section header block: byte-order magic, version 1.0, a section length that isn't told
+-- a section header block: byte-order magic, version 1.0, an unspecified section length
 abbrev pub section_text : List ℕ
 section_text = block_text section_type
     (little_bytes 4 byte_order_magic ++ little_bytes 2 1 ++ little_bytes 2 0
     ++ little_bytes 8 (2 ^ 64 - 1))
 
--- the option of a name; one that is empty isn't written
+-- the option if_name; nothing for an empty name
 abbrev pub name_text : List ℕ → List ℕ
 name_text [] = []
 name_text (b ∷ bytes) = option_text name_code (b ∷ bytes)
 
--- the option of the resolution: nanoseconds
+-- the option if_tsresol: nanoseconds
 abbrev pub resolution_text : List ℕ
 resolution_text = option_text resolution_code (9 ∷ [])
 
@@ -54,7 +54,7 @@ interface_header size link snap =
     little_bytes 4 1 ++ little_bytes 4 size ++ little_bytes 2 link ++ little_bytes 2 0
     ++ little_bytes 4 snap
 
--- the option of a comment and the end of the options; neither is written if the comment is empty
+-- the option opt_comment and the end of the options; nothing for an empty comment
 abbrev pub comment_text : List ℕ → List ℕ
 comment_text [] = []
 comment_text (b ∷ bytes) = option_text comment_code (b ∷ bytes) ++ end_text
@@ -78,7 +78,7 @@ packet_header size number p =
     ++ little_bytes 4 (p.time / 2 ^ 32)
     ++ little_bytes 4 (p.time % 2 ^ 32) ++ little_bytes 4 (length p.bytes) ++ little_bytes 4 p.orig
 
--- the checks of a packet that must be written: its block isn't too long to be read
+-- the check before a packet is written: its block isn't longer than the longest that is read
 abbrev pub block_fit_checks : Captured → List (Bool × Fault)
 block_fit_checks p = (
   nat_le (32 + padded_length (length p.bytes) + length (comment_text p.comment))

@@ -10,11 +10,11 @@ use Rattle.cap_pcapng.specs.declared.frames.{BlockType.BlockType, Frame.Frame}
 abbrev pub most_block : ℕ
 most_block = 1048576
 
--- the type of a section header block, which reads the same in both orders
+-- the type of a section header block, which is the same in both byte orders
 abbrev pub section_type : ℕ
 section_type = 0x0a0d0d0a
 
--- the number at place 8 of a section header, which shows its byte order
+-- the number at offset 8 of a section header, which shows its byte order
 abbrev pub byte_order_magic : ℕ
 byte_order_magic = 0x1a2b3c4d
 
@@ -27,11 +27,11 @@ type_of_block number =
     else (if number == 6 then BlockType.EnhancedPacket
     else BlockType.Other)))
 
--- whether a text begins with the type of a section header
+-- whether these bytes begin with the type of a section header
 abbrev pub is_section : List ℕ → Bool
 is_section text = u32_in Little text 0 == section_type
 
--- the byte order in which bytes 8 to 11 are the byte-order magic; None if they are it in neither
+-- the byte order in which bytes 8 to 11 are the byte-order magic; None if they are in neither
 abbrev pub magic_order : List ℕ → Option Order
 magic_order text =
     if u32_in Little text 8 == byte_order_magic then Some Little
@@ -43,18 +43,19 @@ magic_order text =
 abbrev pub order_in : Option Order → List ℕ → Order
 order_in section text = unwrap_or (if is_section text then magic_order text else section) Little
 
--- the type of the block that a text begins with
+-- the type of the block that these bytes begin with
 abbrev pub type_in : Option Order → List ℕ → BlockType
 type_in section text =
     if is_section text then BlockType.Section else type_of_block (u32_in (order_in section text) text 0)
 
--- the total length
+-- the total length of the block that these bytes begin with
 abbrev pub length_in : Option Order → List ℕ → ℕ
 length_in section text = u32_in (order_in section text) text 4
 
--- The checks of a block's first 12 bytes, in order, after a section of this byte order or after
--- none: with no section before it a block is a section header; a section header has the byte-order
--- magic; the total length is a multiple of four, at least 12 and at most that of the longest block.
+-- The checks of a block's first 12 bytes, in order, in a section of this byte order or before any
+-- section (None): before any section, the block is a section header; a section header has the
+-- byte-order magic; the total length is a multiple of four, at least 12, and at most that of the
+-- longest block.
 abbrev pub frame_checks : Option Order → List ℕ → List (Bool × Fault)
 frame_checks section text =
     (is_section text || is_some section, NotACaptureFile)
@@ -63,7 +64,7 @@ frame_checks section text =
     ∷ (nat_le (length_in section text) most_block, TooLong)
     ∷ []
 
--- the first check of a block's first 12 bytes that fails; None if all pass
+-- the first check of a block's first 12 bytes that fails; None if none does
 abbrev pub frame_fault : Option Order → List ℕ → Option Fault
 frame_fault section text = first_failing (frame_checks section text)
 

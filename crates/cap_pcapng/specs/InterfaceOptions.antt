@@ -1,4 +1,4 @@
--- The options of an interface description block: their checks, in order, and what they say
+-- The options of an interface description block: their checks, in order, and what they mean
 -- (draft-ietf-opsawg-pcapng, "Interface Description Block").
 use Rattle.std.specs.Int.{cast_signed, w64}
 use Rattle.std.specs.Prelude.{ℕ, ◌==◌, if◌then◌else◌, Bool, false, ℤ, List, [], ◌∷◌, ◌++◌, length, slice_index, nat_le, Option, Some, None, is_some, Result, Ok, Err}
@@ -7,7 +7,7 @@ use Rattle.cap_octet.specs.declared.fault.Fault.{Fault, TheVariants.BadOption, T
 use Rattle.cap_octet.specs.declared.number.Order.{Order}
 use Rattle.cap_pcapng.specs.{OptionList.CodedValue, Time.is_resolution, Time.units_per_second}
 
--- the codes of the options that are looked at
+-- the codes of the options that are read
 abbrev pub name_code : ℕ
 name_code = 2
 
@@ -30,8 +30,8 @@ resolution_checks value =
 abbrev pub offset_checks : List ℕ → List (Bool × Fault)
 offset_checks value = (length value == 8, BadOption) ∷ []
 
--- the checks of an option that is the first of its code: those of a name, a resolution or an
--- offset; other codes aren't looked at
+-- the checks of the first option with its code: those of a name, a resolution or an offset; options
+-- with other codes aren't checked
 abbrev pub first_checks : CodedValue → List (Bool × Fault)
 first_checks option =
     if option.code == name_code then name_checks option.value
@@ -39,19 +39,19 @@ first_checks option =
     else (if option.code == offset_code then offset_checks option.value
     else []))
 
--- the value of the first option of a code; None if there is none
+-- the value of the first option with a code; None if there is none
 abbrev pub first_value : ℕ → List CodedValue → Option (List ℕ)
 first_value code [] = None
 first_value code (option ∷ options) =
     if option.code == code then Some option.value else first_value code options
 
--- the checks of an option after these: among options with one code only the first is checked
+-- the checks of an option after these: if an option is repeated, only the first is checked
 abbrev pub checks_after : List CodedValue → CodedValue → List (Bool × Fault)
 checks_after before option =
     if is_some (first_value option.code before) then [] else first_checks option
 
--- the checks of a list of options after these, in order: that the value fits, and then those of
--- its code
+-- the checks of a list of options after these, in order: for each, that its value fits, then those
+-- of its code
 abbrev pub list_checks : List CodedValue → List (Result CodedValue Fault) → List (Bool × Fault)
 list_checks before [] = []
 list_checks before (Err fault ∷ items) = (false, fault) ∷ list_checks before items

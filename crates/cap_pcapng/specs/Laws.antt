@@ -1,4 +1,4 @@
--- What is written of an interface and of a packet reads back as they are.
+-- Laws: interfaces and packets that are written read back unchanged.
 use Rattle.std.specs.List.{slice_get}
 use Rattle.std.specs.Prelude.{◌≡◌, ℕ, ◌^◌, ◌<◌, ◌≤◌, pos, List, [], ◌∷◌, ◌++◌, length, Option, Some, None}
 use Rattle.cap_octet.specs.Checks.{first_failing}
@@ -7,7 +7,7 @@ use Rattle.cap_pcapng.specs.Encoding.{block_fit_checks, interface_text, packet_b
 use Rattle.cap_pcapng.specs.Interface.{Described, most_interfaces}
 use Rattle.cap_pcapng.specs.Unit.{IsBlock, Section, packets_in, section_after}
 
--- These bytes are one block, after which the section is this, and they hold these packets.
+-- These bytes are one block, with these packets, and the section after it is this one.
 pub record ReadsAs (before : Option Section) (bytes : List ℕ) (after : Section)
     (packets : List Captured) : Type 0 where
   pub is_block : IsBlock before bytes
@@ -18,17 +18,17 @@ pub record ReadsAs (before : Option Section) (bytes : List ℕ) (after : Section
 abbrev pub written_section : List Described → Section
 written_section interfaces = record { order = Little; interfaces = interfaces }
 
--- an interface as it is written: its ticks are nanoseconds
+-- the interface that is read back: its ticks are nanoseconds
 abbrev pub written_interface : (link snap : ℕ) → (name : List ℕ) → Described
 written_interface link snap name =
     record { link = link; snap = snap; name = name; units = NANOS_PER_SECOND; offset = pos 0 }
 
--- a section header that is written begins a section without interfaces
+-- a section header that is written reads back as the start of a section without interfaces
 abbrev pub SectionBack : Type 0
 SectionBack = (before : Option Section) → ReadsAs before section_text (written_section []) []
 
--- an interface that is written gets the next number of its section, if that isn't full and the
--- interface's values are in their ranges
+-- an interface that is written reads back with the next number of its section, if that isn't full
+-- and the interface's values are in range
 abbrev pub InterfaceBack : Type 0
 InterfaceBack =
     (interfaces : List Described) (link snap : ℕ) (name : List ℕ)
@@ -37,8 +37,8 @@ InterfaceBack =
     → ReadsAs (Some (written_section interfaces)) (interface_text link snap name)
     (written_section (interfaces ++ written_interface link snap name ∷ [])) []
 
--- a packet that is written, of an interface that was written, is the packet of its block, if its
--- values are in their ranges and the block isn't too long
+-- a packet that is written, of an interface that was written before, reads back unchanged, if its
+-- values are in range and the block isn't too long
 abbrev pub PacketBack : Type 0
 PacketBack = (interfaces : List Described) (number : ℕ) (p : Captured)
     → slice_get interfaces number ≡ Some (written_interface p.link p.snap p.name)

@@ -10,26 +10,27 @@ pub record CodedValue : Type 0 where
   pub code : ℕ
   pub value : List ℕ
 
--- the size of the option at the start of a text, as its length states, without its padding
+-- the size of the option at the start of these bytes: its header and the length that it states,
+-- without padding
 abbrev pub option_size : Order → List ℕ → ℕ
 option_size order text = 4 + u16_in order text 2
 
--- code and value of the option at the start of a text
+-- code and value of the option at the start of these bytes
 abbrev pub option_at : Order → List ℕ → CodedValue
 option_at order text =
     record { code = u16_in order text 0; value = take (u16_in order text 2) (drop 4 text) }
 
--- whether a list of options ends here: fewer than four bytes are left, or the code is 0, whose
--- length isn't looked at
+-- whether a list of options ends here: fewer than four bytes remain, or the code is 0, whatever its
+-- length
 abbrev pub ends_at : Order → List ℕ → Bool
 ends_at order text = nat_lt (length text) 4 || (u16_in order text 0 == 0)
 
--- whether the value of the option at the start lies within the text
+-- whether the value of the option at the start lies within these bytes
 abbrev pub fits_at : Order → List ℕ → Bool
 fits_at order text = nat_le (option_size order text) (length text)
 
--- the options of a text, in order, at most a given number of them; one whose value doesn't fit is a
--- fault, and the last
+-- the options in these bytes, in order, at most a given number of them; an option whose value
+-- doesn't fit is a fault, and ends the list
 unfoldable pub options_within : ℕ → Order → List ℕ → List (Result CodedValue Fault)
 options_within zero order text = []
 options_within (suc most) order text =
@@ -39,11 +40,11 @@ options_within (suc most) order text =
     ∷ options_within most order (drop (padded_length (option_size order text)) text)
     else Err BadOption ∷ [])
 
--- the options of a text; each has a byte at least, so that there are no more of them than bytes
+-- the options in these bytes; each has at least one byte, so there are at most as many as bytes
 unfoldable pub options_in : Order → List ℕ → List (Result CodedValue Fault)
 options_in order text = options_within (length text) order text
 
--- the options that are left to an iterator
+-- the options that an iterator hasn't returned yet
 abbrev pub options_left : Options → List (Result CodedValue Fault)
 options_left options = options_in options.order options.rest.now
 

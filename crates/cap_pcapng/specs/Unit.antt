@@ -1,5 +1,4 @@
--- A block after the blocks in front of it: all of its checks, in order, what it declares, and its
--- packet.
+-- A block in its section: all of its checks, in order, what it declares, and its packet.
 use Rattle.std.specs.List.{slice_get}
 use Rattle.std.specs.Option.{option_and_then, option_map, option_map_or, option_to_list}
 use Rattle.std.specs.Prelude.{◌≡◌, ℕ, Bool, List, [], ◌∷◌, ◌++◌, length, nat_le, nat_lt, take, drop, Option, None, is_some, unwrap_or}
@@ -24,15 +23,15 @@ order_before before = option_map (λ (s : Section). s.order) before
 abbrev pub interfaces_before : Option Section → List Described
 interfaces_before before = option_map_or (λ (s : Section). s.interfaces) before []
 
--- the frame of the block that a text begins with
+-- the frame of the block that these bytes begin with
 abbrev pub frame_after : Option Section → List ℕ → Frame
 frame_after before text = frame_in (order_before before) text
 
--- the total length of the block that a text begins with
+-- the total length of the block that these bytes begin with
 abbrev pub block_size : Option Section → List ℕ → ℕ
 block_size before text = (frame_after before text).length
 
--- the parts of the block that a text begins with
+-- the parts of the block that these bytes begin with
 abbrev pub parts_after : Option Section → List ℕ → Parts
 parts_after before text = parts_in (frame_after before text) text
 
@@ -63,7 +62,7 @@ checks_among interfaces (SimpleParts orig rest) =
     ∷ data_checks (captured_of (slice_get interfaces 0) orig) rest
 checks_among interfaces parts = []
 
--- all checks of the block that a text begins with, in order
+-- all checks, in order, of the block that these bytes begin with
 abbrev pub unit_checks : Option Section → List ℕ → List (Bool × Fault)
 unit_checks before text =
     (nat_le 12 (length text), Truncated)
@@ -72,11 +71,11 @@ unit_checks before text =
     ∷ block_checks (frame_after before text) text
     ++ checks_among (interfaces_before before) (parts_after before text)
 
--- why a text doesn't begin with a block: the first check that fails; None if it does
+-- the first check of a block that these bytes fail; None if they begin with one
 abbrev pub unit_fault : Option Section → List ℕ → Option Fault
 unit_fault before text = first_failing (unit_checks before text)
 
--- These bytes are one block, which passes every check.
+-- These bytes are one block, which fails no check.
 pub record IsBlock (before : Option Section) (bytes : List ℕ) : Type 0 where
   pub passes : unit_fault before bytes ≡ None
   pub whole : length bytes ≡ block_size before bytes
@@ -112,8 +111,8 @@ packet_of i time orig bytes comment = record {
   comment = comment;
 }
 
--- The packet of a block, if it has one. The comment of an enhanced packet is among the options
--- after its data. A simple packet is one of interface 0, at time 0, without a comment.
+-- The packet of a block, if it has one. The comment of an enhanced packet is an option after its
+-- data. A simple packet belongs to interface 0, and has time 0 and no comment.
 abbrev pub packet_by : List Described → Parts → Option Captured
 packet_by interfaces (EnhancedParts number ticks captured orig order rest) =
     option_map
@@ -126,7 +125,7 @@ packet_by interfaces (SimpleParts orig rest) =
     (slice_get interfaces 0)
 packet_by interfaces parts = None
 
--- the packet of the block that these bytes are, or none
+-- the packet of the block with these bytes, if it has one
 abbrev pub packets_in : Option Section → List ℕ → List Captured
 packets_in before bytes =
     option_to_list (packet_by (interfaces_before before) (parts_after before bytes))

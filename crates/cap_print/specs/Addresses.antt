@@ -15,7 +15,7 @@ ipv4_text p at =
     (decimal (slice_index p (at + 1))
     ++ 46 ∷ (decimal (slice_index p (at + 2)) ++ 46 ∷ decimal (slice_index p (at + 3))))
 
--- the first groups of an IPv6 address from a place, two bytes each: one, and this many more
+-- groups of an IPv6 address from this place, two bytes each: one, and this many more
 abbrev pub groups : List ℕ → ℕ → ℕ → List ℕ
 groups p at zero = hex_group (network_u16 p at)
 groups p at (suc n) = groups p at n ++ 58 ∷ hex_group (network_u16 p (at + 2 + 2 * n))
@@ -29,7 +29,7 @@ abbrev pub port_text : Option ℕ → List ℕ
 port_text None = []
 port_text (Some port) = 46 ∷ decimal port
 
--- the first bytes of an Ethernet address from a place: one, and this many more
+-- bytes of an Ethernet address from this place: one, and this many more
 abbrev pub bytes_with_colons : List ℕ → ℕ → ℕ → List ℕ
 bytes_with_colons p at zero = hex_two (slice_index p at)
 bytes_with_colons p at (suc n) =

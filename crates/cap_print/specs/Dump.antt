@@ -7,19 +7,19 @@ use Rattle.cap_print.specs.Hexadecimal.{hex_two, hex_place}
 abbrev pub link_payload : ℕ → List ℕ → List ℕ
 link_payload link p = drop (link_header_length link) p
 
--- a blank and four digits for each two bytes; a last single byte has two digits
+-- a blank and four digits for each two bytes; a single last byte has two digits
 abbrev pub pairs : List ℕ → List ℕ
 pairs [] = []
 pairs (a ∷ []) = 32 ∷ hex_two a
 pairs (a ∷ b ∷ more) = 32 ∷ (hex_two a ++ (hex_two b ++ pairs more))
 
--- the row of these bytes after k others: a tab, the place of its first byte, and its bytes
+-- the row for these bytes, which come after k others: a tab, the offset of the first, and the bytes
 unfoldable pub row : List ℕ → ℕ → List ℕ
 row bytes k =
     9 ∷ (codes "0x"
     ++ (hex_place (16 * k) ++ (58 ∷ (pairs (take 16 (drop (16 * k) bytes)) ++ 10 ∷ []))))
 
--- how many rows a given number of bytes have
+-- the number of rows for a number of bytes
 abbrev pub row_count : ℕ → ℕ
 row_count count = (count + 15) / 16
 
@@ -28,6 +28,6 @@ abbrev pub first_rows : List ℕ → ℕ → List ℕ
 first_rows bytes zero = []
 first_rows bytes (suc k) = first_rows bytes k ++ row bytes k
 
--- all rows; there is none without bytes
+-- all rows; none if there are no bytes
 abbrev pub rows : List ℕ → List ℕ
 rows bytes = first_rows bytes (row_count (length bytes))

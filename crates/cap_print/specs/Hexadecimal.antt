@@ -23,7 +23,7 @@ hex_eight n = hex_four (n / 0x1_0000) ++ hex_four (n % 0x1_0000)
 unfoldable pub hex_sixteen : ℕ → List ℕ
 hex_sixteen n = hex_eight (n / 0x1_0000_0000) ++ hex_eight (n % 0x1_0000_0000)
 
--- digits without the zeros in front, of which at most a given number are left out
+-- digits without leading zeros, of which at most a given number are removed
 abbrev pub without_zeros : ℕ → List ℕ → List ℕ
 without_zeros zero digits = digits
 without_zeros (suc most) [] = []

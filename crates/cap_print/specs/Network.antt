@@ -1,4 +1,4 @@
--- The part of a line about the network header, which begins at place `l` of the captured bytes `p`.
+-- The network header in a line; it begins at offset `l` of the captured bytes `p`.
 use Rattle.std.specs.Prelude.{ℕ, ◌+◌, ◌*◌, ◌%◌, nat_lt, nat_le, ◌==◌, ◌&&◌, ◌||◌, not, Bool, false, if◌then◌else◌, List, ◌++◌, length, slice_index, decimal, Option, Some, None, codes}
 use Rattle.cap_octet.specs.Assigned.{IPPROTO_ICMP, IPPROTO_TCP, IPPROTO_UDP, IPPROTO_ICMPV6}
 use Rattle.cap_octet.specs.NetworkHeader.{link_header_length, network_header}
@@ -9,7 +9,7 @@ use Rattle.cap_print.specs.Addresses.{network_u16, ipv4_text, ipv6_text, port_te
 use Rattle.cap_print.specs.Hexadecimal.{hex_four}
 use Rattle.cap_print.specs.declared.network.{Ip.Ip, Ip.TheVariants.V4, Ip.TheVariants.V6, IpLayout.IpLayout}
 
--- the places in an IP header of its protocol and its two addresses, and how long they are (RFC 791,
+-- the offsets of protocol and addresses in an IP header, and the length of an address (RFC 791,
 -- section 3.1; RFC 8200, section 3)
 abbrev pub layout_of : Ip → IpLayout
 layout_of V4 = record { protocol = 9; addresses = 12; address_length = 4 }
@@ -19,12 +19,12 @@ layout_of V6 = record { protocol = 6; addresses = 8; address_length = 16 }
 abbrev pub addresses_end : Ip → ℕ → ℕ
 addresses_end ip l = l + (layout_of ip).addresses + 2 * (layout_of ip).address_length
 
--- the version's own ICMP
+-- the ICMP protocol of this version of IP
 abbrev pub icmp : Ip → ℕ
 icmp V4 = IPPROTO_ICMP
 icmp V6 = IPPROTO_ICMPV6
 
--- what a line calls the ICMP of this version of IP
+-- the name in a line of the ICMP of this version of IP
 abbrev pub icmp_name : Ip → List ℕ
 icmp_name V4 = codes "ICMP"
 icmp_name V6 = codes "ICMP6"
@@ -54,27 +54,27 @@ ip_endpoints ip l p ports =
     ++ (address_with_port ip p (l + (layout_of ip).addresses + (layout_of ip).address_length)
     ports.1 ++ codes ": "))
 
--- a later fragment of IPv4: its offset isn't 0
+-- whether this is a later fragment of IPv4, whose offset isn't 0
 abbrev pub is_later_fragment : Ip → ℕ → List ℕ → Bool
 is_later_fragment V4 l p = not (network_u16 p (l + 6) % 8192 == 0)
 is_later_fragment V6 l p = false
 
--- the end of the header: that of IPv4 states it, that of IPv6 has 40 bytes
+-- the end of the header: an IPv4 header states its length, an IPv6 header has 40 bytes
 abbrev pub header_end : Ip → ℕ → List ℕ → ℕ
 header_end V4 l p = 4 * (slice_index p l % 16) + l
 header_end V6 l p = addresses_end V6 l
 
--- TCP and UDP, whose headers begin with the two ports
+-- whether a protocol is TCP or UDP, whose headers begin with two ports
 abbrev pub has_ports : ℕ → Bool
 has_ports n = (n == IPPROTO_TCP) || (n == IPPROTO_UDP)
 
--- the two ports from a place, if this protocol has some and they are captured
+-- the two ports at an offset, if this protocol has ports and they are captured
 abbrev pub ports_at : ℕ → ℕ → List ℕ → Option ℕ × Option ℕ
 ports_at n at p =
     if has_ports n && nat_le (at + 4) (length p)
     then (Some (network_u16 p at), Some (network_u16 p (at + 2))) else (None, None)
 
--- what a line says of a header of IP after its name
+-- an IP header in a line, after its name
 unfoldable pub ip_part : Ip → ℕ → List ℕ → List ℕ
 ip_part ip l p =
     if nat_lt (length p) (addresses_end ip l) then codes "[short]"
@@ -83,7 +83,7 @@ ip_part ip l p =
     (ports_at (slice_index p (l + (layout_of ip).protocol)) (header_end ip l p) p)
     ++ protocol_text ip (slice_index p (l + (layout_of ip).protocol))
 
--- what a line says of an ARP or RARP header after its name
+-- an ARP or RARP header in a line, after its name
 unfoldable pub arp_part : ℕ → List ℕ → List ℕ
 arp_part l p =
     if nat_lt (length p) (l + 28) then codes " [short]"
@@ -91,11 +91,11 @@ arp_part l p =
     ++ (decimal (network_u16 p (l + 6))
     ++ (codes " " ++ (ipv4_text p (l + 14) ++ (codes " > " ++ ipv4_text p (l + 24)))))
 
--- an EtherType, as `type 0x0800`
+-- an EtherType in a line, as `type 0x0800`
 unfoldable pub type_text : ℕ → List ℕ
 type_text type = codes "type 0x" ++ hex_four type
 
--- what a line says of a packet with this network header
+-- a line's part for a packet with this network header
 unfoldable pub header_part : NetworkHeader → ℕ → List ℕ → List ℕ
 header_part (Known Ipv4) l p = codes "IP " ++ ip_part V4 l p
 header_part (Known Ipv6) l p = codes "IP6 " ++ ip_part V6 l p
@@ -106,6 +106,6 @@ header_part (OtherVersion version) l p = codes "version " ++ decimal version
 header_part (OtherLink link) l p = codes "link " ++ decimal link
 header_part Short l p = codes "[short]"
 
--- what a line says of the network header that a packet of this link type has
+-- a line's part for the network header of a packet of this link type
 unfoldable pub network_part : ℕ → List ℕ → List ℕ
 network_part link p = header_part (network_header link p) (link_header_length link) p

@@ -1,4 +1,4 @@
--- The names that most proofs here cite, passed on from one place. Declares nothing.
+-- Re-exports the names that most proofs of this crate cite; declares nothing.
 pub use Rattle.std.proofs.Common.{◌≡◌, ℕ, zero, suc, ◌+◌, ◌-◌, ◌^◌, ◌<◌, ◌≤◌, ◌&&◌, ◌==◌, Bool, true, false, if◌then◌else◌, nat_le, List, [], ◌∷◌, ◌++◌, length}
 pub use Rattle.std.proofs.Common.{Option, None, Some, refl, sym, ◌∙◌, ap, arith, subst, ◌↔◌, not, IsTrue, Ok, drop, codes, Err, min, max, inl, inr, add-zero}
 pub use Rattle.std.proofs.Common.{take, nat_lt, nat_eq, ◌≢◌, get_or, set, length-append, length-drop, eq-zero-or-pos, Bor, rules, ◌⊎◌, MutBor}

@@ -136,7 +136,8 @@ index_without mask ms ls heads newest wide none long small = record {
   trees = λ e. (let bound = small (hash_of mask e) (hash_fits mask e heads wide) in Ends (omega arith) (λ lacks j low high. absurd (omega arith)));
 }
 
--- the fields of a window after a mark came, whose marks kept their numbers or got smaller ones
+-- the fields of a window after a mark was added, when the marks kept their numbers or got smaller
+-- ones
 pub sound_push : (mask : ℕ) (ms : List Mark) (most : ℕ) (ls : List Links) (link_most : ℕ) (heads heads' : List ℕ) (newest : ℕ) (e : Mark) (l : Links)
     (placed : List Links) (new : ℕ)
     → IsSoundIndex mask ms most ls link_most heads newest → IsLowered (set heads (hash_of mask e) (newest + 1)) heads' (newest + 1 - new)

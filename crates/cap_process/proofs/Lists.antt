@@ -116,7 +116,7 @@ verdict_end input p (PassLast q) later = Some Complete
 verdict_end input p Skip later = later
 verdict_end input p (Refuse fault) later = Some (FaultIn input fault p.offset)
 
--- how the verdicts end a job, after that many packets that were decided; None where it goes on
+-- how the verdicts end a job after a number of decided packets; None if it goes on
 abbrev pub policy_end : Policy → ℕ → SelectorState → List Event → Option SequenceEnd
 policy_end a k state [] = None
 policy_end a k state (Packet input p ∷ es) =
@@ -193,8 +193,8 @@ pub end-stays : (a : Policy) (w : JobProgress) (input : ℕ) (kind : Option Kind
 end-stays Count w input kind size judges = (cc)
 end-stays _ w input kind size judges = refl
 
--- what is written of what passes is all up to the first that the form refuses, at which the job ends; where it refuses
--- none, the verdicts end it
+-- the kept packets are written up to the first that the form refuses, at which the job ends; if it
+-- refuses none, the verdicts end it
 pub comes : (a : Policy) (f : Form) (k : ℕ) (state : SelectorState) (out : List Captured) (reports : List Report) (es : List Event)
     → is_count a ≡ false → Judged a f k state out reports es
 comes a f k state out reports [] judges = (sym (append-nil out), refl)
@@ -207,7 +207,7 @@ comes a f k state out reports (InputEnd input kind size ∷ es) judges =
 
 -- ---- the packet at which it ends
 
--- a job that goes on from there ends at one of these events, the first packet that is refused, for this
+-- a job that goes on ends at one of these events, the first packet that is refused, with this fault
 pub record AtRefused (a : Policy) (f : Form) (k : ℕ) (state : SelectorState) (out : List Captured) (reports : List Report) (es : List Event)
     (fault : Fault) : Type 0 where
   pub before : List Event
@@ -278,7 +278,7 @@ placed-next a f k state out reports input p es next fault hit = by (judge a stat
           ends = ap end_by is ∙ ends ∙ there.ends;
         }
 
-    -- whether the form refuses a packet that passes
+    -- whether the form refuses a packet that is kept
     passing : (q : Captured) → verdict ≡ Pass q → (o : Option Fault) → form_refuses f out q ≡ o → AtRefused a f k state out reports (Packet input p ∷ es) fault
     passing q is None taken =
         further (Pass q) is (out ++ q ∷ []) (λ ds. ap (λ (o : Option Fault). option_or o (first_refusal f (out ++ q ∷ []) (rest ds))) taken)
@@ -329,7 +329,7 @@ placed a f k state out reports (InputEnd input kind size ∷ es) judges fault hi
       ends = ap (λ (w : JobProgress). (apply_events a f w es).end) (end-stays a (under_way k state out reports) input kind size judges) ∙ there.ends;
     }
 
--- packets of which the form refuses none, wherever it comes among them, are all written
+-- packets none of which the form refuses, at any place among them, are all written
 pub none-refused : (f : Form) (before ps : List Captured) → ((xs : List Captured) (p : Captured) (ys : List Captured) → before ++ ps ≡ xs ++ p ∷ ys
     → form_refuses f xs p ≡ None)
     → (packets_written f before ps ≡ ps) × (first_refusal f before ps ≡ None)
@@ -345,7 +345,7 @@ pub packets-of-input : (input : ℕ) (ps : List Placed) → event_packets (packe
 packets-of-input input [] = refl
 packets-of-input input (p ∷ ps) = ap (λ (l : List Captured). p.packet ∷ l) (packets-of-input input ps)
 
--- what the verdicts say is seen where nothing is refused in writing
+-- the verdicts decide if no packet is refused when it must be written
 pub judged-is : (a : Policy) (ps : List Placed) → is_count a ≡ false
     → ((apply_events a (AsReports []) no_progress (packet_events 0 ps)).packets ≡ judged a 0 initial_state (packets_of ps))
     × ((apply_events a (AsReports []) no_progress (packet_events 0 ps)).end ≡ policy_end a 0 initial_state (packet_events 0 ps))
@@ -391,7 +391,7 @@ at-none : (count : Option ℕ) (passed : ℕ) → IsBelow count passed → (at_m
 at-none None passed below = (refl, refl)
 at-none (Some n) passed below = let more : 0 < n - passed = omega (arith, below) in (take-nil (n - passed), grind (arith, nat_tests, more))
 
--- a filter passes the packets that it keeps, and ends as they say
+-- a filter keeps the packets that its decisions keep, and ends as they do
 abbrev Filtered : Rule → Option ℕ → Ending → ℕ → SelectorState → List Placed → Type 0
 Filtered rule count ending k state ps =
     (judged (Filter rule count) k state (packets_of ps) ≡ at_most (still count state.passed) (kept rule (packets_of ps)))
@@ -497,8 +497,8 @@ noted (Some n) state before p b kept is =
       kept = ap (λ (ms : List Mark). last (n - 1) (ms ++ m ∷ [])) kept ∙ last-last (n - 1) before m;
     }
 
--- how far a job is after packets, the first with this number, where these passed and these marks
--- came before
+-- the progress of a job after packets, the first of which has this number, if these were kept and
+-- these marks came before
 record Follows (s : EditRule) (number : ℕ) (before : List Mark) (out : List Captured) (ps : List Placed) (w : JobProgress) : Type 0 where
   passed : w.packets ≡ out ++ unique_after s.window before (packets_selected s number (packets_of ps))
   kept : IsKept s.window (before ++ marks (packets_selected s number (packets_of ps))) w.state.window

@@ -98,8 +98,8 @@ stayed-written : (refusal : Option Fault) (bytes output_text output_text' : List
 stayed-written None bytes output_text output_text' is writes = writes
 stayed-written (Some fault) bytes output_text output_text' is writes = writes
 
--- why a packet that passes isn't put into a capture: the format refuses it; there was no memory; or
--- the device failed
+-- why a kept packet isn't put into a capture: the format refuses it, memory ran out, or the device
+-- failed
 abbrev pub WhyUnput : Fault → SinkView → List Captured → Captured → SinkView → Type 0
 WhyUnput WriteFailed old ps q new = (refusal_of old.format ps q ≡ None) × (new.failures ≡ old.failures + 1)
     × Stops old.written (added_text old.format ps q) new.written
@@ -139,7 +139,7 @@ unput before ps q old new fault has puts writes =
 
 -- ---- the clean end
 
--- where a packet passed, nothing is added at a clean end
+-- if a packet was kept, a clean end adds nothing
 pub closing-none : (form : Form) (link : Option ℕ) (ps : List Captured) → (0 ≡ length ps → ⊥) → closing_text form link ps ≡ []
 closing-none (AsCapture format) link [] some = absurd (some refl)
 closing-none _ link _ some = refl

@@ -33,7 +33,7 @@ module _ {mask : ℕ} {ms : List Mark} {ls : List Links} {e : Mark} where
   least (Ends past none) = omega arith
   least (Goes within step agrees none below) = step
 
-  -- at the end of a way all marks were passed
+  -- at the end of a path all marks were searched
   pub ended : {depth limit d : ℕ} → IsWay mask ms ls e depth limit d → limit < d → Lacks ms e limit → Lacks ms e 0
   ended (Ends past none) far = none
   ended (Goes within step agrees none below) far = absurd (omega arith)

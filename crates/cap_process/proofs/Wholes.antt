@@ -23,9 +23,9 @@ use Rattle.cap_process.proofs.{Outcomes.progress-append, Selectors.upper_bound}
 use Rattle.std.proofs.lemmas.Bool.{and_right}
 use Rattle.cap_io.proofs.{Cuts.cut_tells, Cuts.has_cut, Cuts.items_from-units}
 
--- ---- the packets that a merge passes
+-- ---- the packets that a merge keeps
 
--- all of fewer than 2^63, and it goes on
+-- all of fewer than 2^63 packets, and it goes on
 merged : (k : ℕ) (state : SelectorState) (es : List Event) → k + length (event_packets es) < 2 ^ 63
     → (judged KeepAll k state (event_packets es) ≡ event_packets es) × (policy_end KeepAll k state es ≡ None)
 merged k state [] less = (refl, refl)
@@ -110,7 +110,7 @@ placed-packets [] = refl
 placed-packets (Packet input p ∷ es) = ap (λ (l : List Captured). p.packet ∷ l) (placed-packets es)
 placed-packets (InputEnd input kind size ∷ es) = placed-packets es
 
--- of at most as many packets as these events have, those that the policy passes are these
+-- of at most as many packets as these events have, the policy keeps these
 abbrev Passes : Policy → (List Captured → List Captured) → List Event → Type 0
 Passes a passing es =
     (ds : List Event) → length (event_packets ds) ≤ length (event_packets es) → judged a 0 initial_state (event_packets ds) ≡ passing (event_packets ds)

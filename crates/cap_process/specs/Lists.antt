@@ -1,5 +1,4 @@
--- Lists of packets: what is counted of them, which of them are kept, and which equal an earlier
--- one.
+-- Lists of packets: their counts, which of them are kept, and which equal an earlier one.
 use Rattle.std.specs.{List.sum_by, Option.is_none, Option.option_map}
 use Rattle.std.specs.Prelude.{◌≡◌, ℕ, ◌+◌, ◌-◌, ◌^◌, ◌<◌, ◌&&◌, Bool, true, false, if◌then◌else◌, nat_le, min, max, List, [], ◌∷◌, ◌++◌, length, map, take, Option, None, Some, IfSome}
 use Rattle.cap_octet.specs.{Packet.Captured, declared.fault.Fault.TheVariants.TimeOutOfRange}
@@ -9,7 +8,7 @@ use Rattle.cap_process.specs.{Marks.mark_of, Marks.has_same, Marks.last, declare
 use Rattle.cap_process.specs.{Outcome.AsReports, Outcome.no_progress, Outcome.apply_events, Reports.Tally}
 use Rattle.cap_process.specs.Verdict.{Count, Filter, Edit, EditRule, edited_packet_with, is_selected, shifted_time}
 
--- the packets without their places
+-- packets without their offsets
 abbrev pub packets_of : List Placed → List Captured
 packets_of ps = map (λ (p : Placed). p.packet) ps
 
@@ -19,18 +18,18 @@ packets_of ps = map (λ (p : Placed). p.packet) ps
 abbrev pub times : List Captured → List ℕ
 times ps = map (λ (p : Captured). p.time) ps
 
--- the least number, 0 of none
+-- the least number; 0 if there is none
 abbrev pub least : List ℕ → ℕ
 least [] = 0
 least (a ∷ []) = a
 least (a ∷ b ∷ ns) = min a (least (b ∷ ns))
 
--- the greatest number, 0 of none
+-- the greatest number; 0 if there is none
 abbrev pub greatest : List ℕ → ℕ
 greatest [] = 0
 greatest (a ∷ ns) = max a (greatest ns)
 
--- the last number, 0 of none
+-- the last number; 0 if there is none
 abbrev pub final : List ℕ → ℕ
 final [] = 0
 final (a ∷ []) = a
@@ -42,8 +41,8 @@ ascends [] = true
 ascends (a ∷ []) = true
 ascends (a ∷ b ∷ ns) = nat_le a b && ascends (b ∷ ns)
 
--- how many packets there are; the sums of their original and of their captured lengths; the least,
--- the greatest and the last of their times, and whether these ascend
+-- the number of packets; the sums of their original and of their captured lengths; the least, the
+-- greatest and the last of their times, and whether these ascend
 abbrev pub tally_of : List Captured → Tally
 tally_of ps = record {
   count = length ps;
@@ -64,8 +63,8 @@ CountsAll =
 
 -- ---- what a filter keeps
 
--- by the decision on a packet: it and the rest if it is kept; the rest if it is skipped; none
--- if it is refused
+-- by the decision on a packet: it and the remaining ones if it is kept; the remaining ones if it is
+-- skipped; none if it is refused
 abbrev pub kept_by : Decision → Captured → List Captured → List Captured
 kept_by Keep p rest = p ∷ rest
 kept_by Skip p rest = rest
@@ -76,13 +75,13 @@ abbrev pub packets_kept : Rule → List Captured → List Captured
 packets_kept rule [] = []
 packets_kept rule (p ∷ ps) = kept_by (rule_decides rule p) p (packets_kept rule ps)
 
--- the first n packets, or all of fewer; all without an n
+-- the first n packets, or all if there are fewer; all without an n
 abbrev pub at_most : Option ℕ → List Captured → List Captured
 at_most None ps = ps
 at_most (Some n) ps = take n ps
 
--- of fewer than 2^63 packets those pass that the rule keeps, up to the first that it refuses; the
--- first of them if a count, which is at least 1, is given
+-- among fewer than 2^63 packets, those are kept that the rule keeps, up to the first that it
+-- refuses; only the first of them if a count, which is at least 1, is given
 abbrev pub PassesFiltered : Type 0
 PassesFiltered =
     (rule : Rule) (count : Option ℕ) (ps : List Placed) → IfSome count (λ (n : ℕ). 0 < n)
@@ -92,27 +91,27 @@ PassesFiltered =
 
 -- ---- what an edit selects
 
--- a selected packet at its moved time, before the rest; if it has no such time, neither it nor
--- the rest
+-- a selected packet at its shifted time, before the remaining ones; if it has no such time, neither
+-- it nor they
 abbrev pub selected_at : EditRule → Captured → Option ℕ → List Captured → List Captured
 selected_at s p None rest = []
 selected_at s p (Some time) rest = edited_packet_with s p time ∷ rest
 
--- of packets that are numbered on from `number` those that are selected, as the edit changes them;
--- up to the first selected one whose moved time is out of range
+-- the selected ones of packets that are numbered from `number` on, as the edit changes them, up to
+-- the first selected one whose shifted time is out of range
 abbrev pub packets_selected : EditRule → ℕ → List Captured → List Captured
 packets_selected s number [] = []
 packets_selected s number (p ∷ ps) =
     if is_selected s number p then selected_at s p (shifted_time s.shift p.time)
     (packets_selected s (number + 1) ps) else packets_selected s (number + 1) ps
 
--- whether one of the n - 1 marks just before is the same; without an n none is looked up
+-- whether one of the n - 1 marks just before is equal; without an n none is compared
 abbrev pub is_repeated : Option ℕ → List Mark → Mark → Bool
 is_repeated None before m = false
 is_repeated (Some n) before m = has_same (last (n - 1) before) m
 
--- the packets whose mark (length and digest) none of the n - 1 marks just before has; `before` are
--- the marks before the first packet; all packets without an n
+-- the packets whose mark (length and digest) equals none of the n - 1 marks just before; `before`
+-- are the marks before the first packet; all packets without an n
 abbrev pub unique_after : Option ℕ → List Mark → List Captured → List Captured
 unique_after n before [] = []
 unique_after n before (p ∷ ps) =
@@ -124,8 +123,8 @@ unique_after n before (p ∷ ps) =
 abbrev pub marks : List Captured → List Mark
 marks ps = map (λ (p : Captured). mark_of p.bytes) ps
 
--- after fewer than 2^63 packets the window has the marks of the last n - 1 that were selected, with
--- their bytes as they were cut, up to the first whose moved time is out of range
+-- after fewer than 2^63 packets the window has the marks of the last n - 1 selected ones, from
+-- their bytes as they were cut, up to the first whose shifted time is out of range
 abbrev pub HasLastMarks : Type 0
 HasLastMarks = (s : EditRule) (n : ℕ) (ps : List Placed) → s.window ≡ Some n → length ps < 2 ^ 63
     → (apply_events (Edit s) (AsReports []) no_progress (packet_events 0 ps)).state.window
@@ -133,25 +132,25 @@ HasLastMarks = (s : EditRule) (n : ℕ) (ps : List Placed) → s.window ≡ Some
 
 -- ---- how an edit ends
 
--- whether the packet with this number is selected, and the shift moves its time below 0, or to 2^63
--- nanoseconds or later
+-- whether the packet with this number is selected, and the shift makes its time less than 0 or at
+-- least 2^63 nanoseconds
 abbrev pub has_no_time_after_shift : EditRule → ℕ → Captured → Bool
 has_no_time_after_shift s number p = is_selected s number p && is_none (shifted_time s.shift p.time)
 
--- the place of the first packet that is selected and has no time after the shift, or None; the
--- packets are numbered on from `number`
+-- the offset of the first selected packet that has no time after the shift, or None; the packets
+-- are numbered from `number` on
 abbrev pub first_without_time : EditRule → ℕ → List Placed → Option ℕ
 first_without_time s number [] = None
 first_without_time s number (p ∷ ps) =
     if has_no_time_after_shift s number p.packet then Some p.offset else first_without_time s (number + 1) ps
 
--- the end of a job by the place of such a packet: `TimeOutOfRange` at it; None without one
+-- the end of a job by the offset of such a packet: `TimeOutOfRange` there; None without one
 abbrev pub end_at_time : Option ℕ → Option SequenceEnd
 end_at_time place = option_map (FaultIn 0 TimeOutOfRange) place
 
--- An edit of fewer than 2^63 packets ends by a fault at the first that is selected and whose moved
--- time is below 0 or above 2^63 - 1 nanoseconds, and goes on if there is none; those that pass are
--- the unique ones of those selected before it.
+-- An edit of fewer than 2^63 packets ends with a fault at the first selected packet whose shifted
+-- time is below 0 or above 2^63 - 1 nanoseconds, and goes on if there is none; it keeps the unique
+-- ones of those selected before it.
 abbrev pub EndsWithoutTime : Type 0
 EndsWithoutTime = (s : EditRule) (ps : List Placed) → length ps < 2 ^ 63
     → ((apply_events (Edit s) (AsReports []) no_progress (packet_events 0 ps)).end

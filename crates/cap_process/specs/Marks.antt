@@ -4,7 +4,7 @@ use Rattle.std.specs.Prelude.{ℕ, ◌-◌, ◌==◌, ◌&&◌, Bool, List, leng
 use Rattle.md5.specs.Md5.{md5}
 use Rattle.cap_process.specs.declared.mark.Mark.{Mark}
 
--- the mark of captured bytes: how many there are, and their MD5
+-- the mark of captured bytes: their number and their MD5
 abbrev pub mark_of : List ℕ → Mark
 mark_of bytes = record { length = length bytes; digest = md5 bytes }
 
@@ -12,7 +12,7 @@ mark_of bytes = record { length = length bytes; digest = md5 bytes }
 abbrev pub is_same_mark : Mark → Mark → Bool
 is_same_mark x y = x.length == y.length && pointwise nat_eq x.digest y.digest
 
--- whether one of the marks is the same
+-- whether one of these marks is equal to another
 abbrev pub has_same : List Mark → Mark → Bool
 has_same marks m = list_any (is_same_mark m) marks
 

@@ -1,4 +1,4 @@
--- The messages about the end of a command.
+-- The messages at the end of a command.
 use Rattle.std.specs.Fmt.{decimal}
 use Rattle.std.specs.Prelude.{◌≡◌, ℕ, ◌+◌, Bool, IsTrue, List, [], ◌∷◌, ◌++◌, Result, codes}
 use Rattle.cap_octet.specs.{Device.AppendsOrStops, Device.failures_of, Fault.fault_text, Views.OutputView}
@@ -12,17 +12,17 @@ use Rattle.cap_filter.specs.declared.filter.Refusal.TheVariants.{Expression, Lis
 abbrev pub line_feed : List ℕ
 line_feed = 10 ∷ []
 
--- a fault at an offset, in bytes, of the input of this name
+-- the message on a fault at a byte offset of the input with this name
 abbrev pub fault_message : List ℕ → ℕ → Fault → List ℕ
 fault_message name offset fault =
     codes "capkit: " ++ name ++ codes ": offset " ++ decimal offset ++ codes ": "
     ++ fault_text fault ++ line_feed
 
--- the device of the output of this name failed
+-- the message if the device of the output with this name failed
 abbrev pub write_failed_message : List ℕ → List ℕ
 write_failed_message name = codes "capkit: " ++ name ++ codes ": write failed" ++ line_feed
 
--- out of memory to begin, or for a filter or an expression
+-- the message if there is no memory to start, or for a filter or an expression
 abbrev pub no_memory_message : List ℕ
 no_memory_message = codes "capkit: no memory" ++ line_feed
 
@@ -34,7 +34,7 @@ expression_message text = codes "capkit: expression: " ++ text ++ line_feed
 abbrev pub code_message : List ℕ → List ℕ
 code_message text = codes "capkit: code: " ++ text ++ line_feed
 
--- a refused filter, or an expression that isn't compiled, or out of memory for it
+-- the message if a filter is refused, an expression isn't compiled, or memory for it runs out
 abbrev pub refusal_message : Refusal → List ℕ
 refusal_message (Expression ExprFault.Memory) = no_memory_message
 refusal_message (Expression fault) = expression_message (message_of fault)
@@ -42,8 +42,8 @@ refusal_message (Listing ListingFault.Memory) = no_memory_message
 refusal_message (Listing fault) = code_message (listing_message fault)
 refusal_message (Program fault at) = code_message (check_message fault at)
 
--- A message is written whole; or a prefix of it that isn't the whole, if its device failed once.
--- On a device that doesn't show its bytes only its failures are known.
+-- A message is written completely; or, if its device failed once, a prefix but not all of it. For a
+-- device whose bytes contracts don't know, only its failures are stated.
 pub record IsTold (tells : Bool) (old : OutputView) (message : List ℕ)
     (new : OutputView) : Type 0 where
   pub answer : Result (Unit {0}) DeviceFault

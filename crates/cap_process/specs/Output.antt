@@ -7,9 +7,9 @@ use Rattle.cap_process.specs.Outcome.{Form, AsCapture, AsReports, AsLines, lines
 use Rattle.cap_process.specs.Reports.{Report, reports_text}
 use Rattle.cap_process.specs.declared.output.{Device.Device, Writing.Writing}
 
--- The view of an output: a capture, a text or the lines of packets. A text and lines have the bytes
--- written, the number of failures, and the number of bytes in all that the output takes at least
--- before it fails.
+-- The view of an output: a capture, a text or the lines of packets. For a text and for lines: the
+-- bytes written, how often the output failed, and how many bytes it takes at least before it first
+-- fails.
 pub data Target : Type 0 where
   Capture : (sink : SinkView) → Target
   Text : (written : List ℕ) → (failures room : ℕ) → Target
@@ -23,7 +23,7 @@ target_of written failures room (Device.Text output) =
 target_of written failures room (Device.Lines options line output) =
     Lines options (written output) (failures output) (room output)
 
--- the target with which a job begins; its output took these bytes before
+-- the target at the start of a job; its output held these bytes before
 abbrev pub target_at : Writing → List ℕ → ℕ → ℕ → Target
 target_at (Writing.Capture format) written failures room =
     Capture (sink_at format written failures room)
@@ -36,7 +36,7 @@ form_to names (Capture sink) = AsCapture sink.format
 form_to names (Text written failures room) = AsReports names
 form_to names (Lines options written failures room) = AsLines options
 
--- the bytes that a target's output took
+-- the bytes that a target's output has taken
 abbrev pub written_to : Target → List ℕ
 written_to (Capture sink) = sink.written
 written_to (Text written failures room) = written
@@ -48,13 +48,13 @@ failures_to (Capture sink) = sink.failures
 failures_to (Text written failures room) = failures
 failures_to (Lines options written failures room) = failures
 
--- the number of bytes in all that a target's output takes at least before it fails
+-- how many bytes a target's output takes at least before it first fails
 abbrev pub room_to : Target → ℕ
 room_to (Capture sink) = sink.room
 room_to (Text written failures room) = room
 room_to (Lines options written failures room) = room
 
--- a capture has no more interfaces than a file may have, with names of at most 255 bytes
+-- a capture has at most as many interfaces as a file may have, with names of at most 255 bytes
 abbrev pub HasFewOutputInterfaces : Target → Type 0
 HasFewOutputInterfaces (Capture sink) = FitFile sink.interfaces
 HasFewOutputInterfaces target = Unit {0}

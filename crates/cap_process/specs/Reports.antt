@@ -5,7 +5,7 @@ use Rattle.cap_octet.specs.Date.{NANOS_PER_SECOND, date_text, digits}
 use Rattle.cap_octet.specs.{Format.format_name, Packet.Captured, declared.format.Format.Format}
 use Rattle.cap_io.specs.declared.source.Kind.{Kind}
 
--- the counts of the packets of a file: their number, the sums of original and captured lengths,
+-- the counts over the packets of a file: their number, the sums of original and captured lengths,
 -- the least, the greatest and the last time, and whether no time is less than the one before it
 pub record Tally : Type 0 where
   pub count : ℕ
@@ -30,7 +30,7 @@ nothing_counted =
       ascends = true;
     }
 
--- a tally with one packet more
+-- a tally with one more packet
 abbrev pub tally_with : Tally → Captured → Tally
 tally_with t p = record {
   count = t.count + 1;
@@ -49,18 +49,18 @@ pub record Report : Type 0 where
   pub size : ℕ
   pub tally : Tally
 
--- the name of a format; a file of no format has a fault, and no report
+-- the name of a format; a file without one has a fault, and no report
 abbrev pub kind_name : Option Kind → List ℕ
 kind_name None = []
 kind_name (Some Kind.Pcap) = format_name Format.Pcap
 kind_name (Some Kind.NsecPcap) = format_name Format.NsecPcap
 kind_name (Some Kind.Pcapng) = format_name Format.Pcapng
 
--- a time as a date, or "none" of no packets
+-- a time as a date; "none" if there are no packets
 abbrev pub date_or_none : ℕ → ℕ → List ℕ
 date_or_none count time = if count == 0 then codes "none" else date_text time
 
--- a number of nanoseconds in seconds, with a point and nine digits
+-- a number of nanoseconds, written in seconds with a point and nine digits
 abbrev pub seconds : ℕ → List ℕ
 seconds time = decimal (time / NANOS_PER_SECOND) ++ 46 ∷ digits 9 (time % NANOS_PER_SECOND)
 
@@ -69,14 +69,13 @@ abbrev pub yes_or_no : Bool → List ℕ
 yes_or_no true = codes "yes"
 yes_or_no false = codes "no"
 
--- `LABEL: VALUE` on a line each, and what comes after them; 58, 32 and 10 are a colon, a space and
--- the end of a line
+-- `LABEL: VALUE`, each on a line, and then these bytes; 58, 32 and 10 are a colon, a blank and the
+-- end of a line
 abbrev pub lines : List (List ℕ × List ℕ) → List ℕ → List ℕ
 lines [] following = following
 lines ((label, value) ∷ more) following = label ++ (58 ∷ 32 ∷ (value ++ 10 ∷ lines more following))
 
--- labels and values on a file's format, its number of packets, its size and the sizes of its
--- packets
+-- labels and values: a file's format, its number of packets, its size and the sizes of its packets
 abbrev pub size_lines : Option Kind → ℕ → Tally → List (List ℕ × List ℕ)
 size_lines kind size t =
     (codes "Type", kind_name kind)
@@ -86,7 +85,7 @@ size_lines kind size t =
     ∷ (codes "Captured size", decimal t.captured_size)
     ∷ []
 
--- labels and values on the times of the packets
+-- labels and values: the times of the packets
 abbrev pub time_lines : Tally → List (List ℕ × List ℕ)
 time_lines t =
     (codes "Earliest", date_or_none t.count t.least)

@@ -47,24 +47,24 @@ policy_of (policy.Filter filter count) = Filter (rule_of filter) count
 policy_of policy.KeepAll = KeepAll
 policy_of policy.Count = Count
 
--- the programs that judge packets
+-- the programs of a policy's filter
 abbrev pub programs_in : {Z : Type 0} → code_policy.Policy Z → List Content
 programs_in (policy.Filter filter count) = programs_of filter
 programs_in other = []
 
--- the programs for a rule, whether or not they ran: for an expression one for each link, each of
--- which accepts exactly the packets that match; none for the empty expression; or the listing's
+-- the programs for a rule, whether they ran or not: for an expression one for each link, which
+-- accepts exactly the packets that match; none for the empty expression; or the listing's
 abbrev pub AreFor : rules.Rule → List Content → Type 0
 AreFor (by_reading empty) programs = programs ≡ []
 AreFor (by_reading (truth a)) programs = AreMade (truth a) all_links programs
 AreFor (by_answer prog) programs = map (λ program. program.insns) programs ≡ prog ∷ []
 
--- the programs are those for the policy: only a filter has any
+-- the programs are the policy's: only a filter has any
 abbrev pub HavePrograms : Policy → List Content → Type 0
 HavePrograms (Filter rule count) programs = AreFor rule programs
 HavePrograms other programs = programs ≡ []
 
--- the programs after a packet was judged: under a filter one of them may have run once
+-- the programs after a packet was judged: one of a filter's may have run once
 abbrev pub spent_by : Policy → Captured → List Content → List Content
 spent_by (Filter rule count) p programs = spent_on rule p programs
 spent_by other p programs = programs
@@ -74,7 +74,8 @@ abbrev pub most_spent : Policy → ℕ
 most_spent (Filter rule count) = most_cost rule
 most_spent other = 0
 
--- the programs after a packet with this number was judged: one too many is refused before any runs
+-- the programs after the packet with this number was judged: a packet with too great a number is
+-- refused before any runs
 abbrev pub spent_by_verdict : Policy → ℕ → Captured → List Content → List Content
 spent_by_verdict policy number p programs =
     if is_too_many policy number then programs else spent_by policy p programs
@@ -89,17 +90,17 @@ abbrev pub marks_in : Option WindowView → List Mark
 marks_in None = []
 marks_in (Some w) = w.marks
 
--- the number of packets in a row, with the current one, among which duplicates are searched for;
--- None if they aren't
+-- the number of packets in a row, including the current one, among which duplicates are searched
+-- for; None if they aren't searched for
 abbrev pub window_of : Policy → Option ℕ
 window_of (Edit s) = s.window
 window_of other = None
 
--- the most marks in a window for n packets in a row: n - 1; 0 if no window is asked for
+-- the most marks in a window for n packets in a row: n - 1; 0 without a window
 abbrev pub places : Option ℕ → ℕ
 places None = 0
 places (Some n) = n - 1
 
--- the sums of a tally are no more than n packets may have
+-- the sums of a tally are at most those of n packets
 abbrev pub IsWithin : ℕ → Tally → Type 0
 IsWithin n t = (t.count ≤ n) × (t.data_size ≤ n * 2 ^ 32) × (t.captured_size ≤ n * most_in_unit)

@@ -18,26 +18,27 @@ use Rattle.cap_process.specs.Outcome.{Form, AsCapture, AsReports, AsLines, Outco
 use Rattle.cap_process.specs.Reports.{Report, name_at, reports_text}
 use Rattle.cap_process.specs.Verdict.{Edit, EditRule, Filter, KeepAll, Count}
 
--- ---- what is written of packets that pass
+-- ---- what is written of kept packets
 
--- a packet and those after it, unless it is refused
+-- a packet and those after it; none if it is refused
 abbrev pub written_unless : Option Fault → Captured → List Captured → List Captured
 written_unless None p rest = p ∷ rest
 written_unless (Some fault) p rest = []
 
--- the packets that are written after those in `before`: all up to the first that the form refuses
+-- the packets that are written after those in `before`: all, up to the first that the form refuses
 abbrev pub packets_written : Form → List Captured → List Captured → List Captured
 packets_written form before [] = []
 packets_written form before (p ∷ ps) =
     written_unless (form_refuses form before p) p (packets_written form (before ++ p ∷ []) ps)
 
--- the bytes that the end of a command with this status adds: those of a clean end for 0, else none
+-- the bytes that the end of a command with this status adds: those of a clean end if it is 0, else
+-- none
 abbrev pub closing_if : (status : ℕ) → Form → Option ℕ → List Captured → List ℕ
 closing_if zero form link ps = closing_text form link ps
 closing_if (suc n) form link ps = []
 
--- The bytes of packets that a command writes which ends with this status. If there are none, and
--- it ends cleanly, they are the start of a file with a link type.
+-- The bytes of packets that a command with this status writes. Without packets and with status 0
+-- they are the start of a file with a link type.
 abbrev pub written_text : Form → (status : ℕ) → Option ℕ → List Captured → List ℕ
 written_text form status link ps = output_text form ps [] ++ closing_if status form link ps
 
@@ -53,32 +54,33 @@ file_packets file = packets_of (items file).packets
 
 -- ---- how a command ends
 
--- It ends cleanly: nothing is reported, and the status is 0.
+-- The command ends cleanly: it reports nothing, and its status is 0.
 pub record EndsCleanly (o : Outcome) : Type 0 where
   pub messages : o.messages ≡ []
   pub status : o.status ≡ 0
 
--- It ends by this fault of this input, at this offset: that is reported, and the status is 1.
+-- The command ends with this fault of this input, at this offset: it reports that, and its status
+-- is 1.
 pub record EndsByFault (names : List (List ℕ)) (input : ℕ) (fault : Fault) (offset : ℕ)
     (o : Outcome) : Type 0 where
   pub messages : o.messages ≡ fault_message (name_at names input) offset fault
   pub status : o.status ≡ 1
 
--- it ends like this
+-- the command ends like this
 abbrev pub EndsAs : List (List ℕ) → SequenceEnd → Outcome → Type 0
 EndsAs names Complete o = EndsCleanly o
 EndsAs names (FaultIn input fault offset) o = EndsByFault names input fault offset o
 
--- why a form refuses the first of these packets that it refuses, where these were before them;
--- None if it refuses none
+-- why a form refuses the first packet that it refuses among these, after the others; None if it
+-- refuses none
 abbrev pub first_refusal : Form → List Captured → List Captured → Option Fault
 first_refusal form before [] = None
 first_refusal form before (p ∷ ps) =
     option_or (form_refuses form before p) (first_refusal form (before ++ p ∷ []) ps)
 
--- The first packet among these events that the form refuses, and why: no packet that passes with the
--- events before it is refused, and one is if it comes with them. `passing` gives the packets that
--- pass.
+-- The first packet among these events that the form refuses, and why: no kept packet among the
+-- events before it is refused, but one is if it comes with them. `passing` gives the packets that
+-- are kept.
 pub record IsFirstRefused (form : Form) (passing : List Captured → List Captured) (es : List Event)
     (fault : Fault) : Type 0 where
   pub before : List Event
@@ -90,19 +92,21 @@ pub record IsFirstRefused (form : Form) (passing : List Captured → List Captur
   pub refused : first_refusal form [] (passing (event_packets (before ++ Packet input p ∷ [])))
       ≡ Some fault
 
--- it ends by this fault, at the first packet that the form refuses
+-- the command ends with this fault, at the first packet that the form refuses
 pub record EndsAtPacket (names : List (List ℕ)) (form : Form) (passing : List Captured → List Captured)
     (es : List Event) (fault : Fault) (o : Outcome) : Type 0 where
   pub first : IsFirstRefused form passing es fault
   pub by : EndsByFault names first.input fault first.p.offset o
 
--- if the form refuses a packet for this, it ends at the first such packet; else like this
+-- if the form refuses a packet with this fault, the command ends at the first such packet; else
+-- like this
 abbrev pub EndsByRefusal : List (List ℕ) → Form → (List Captured → List Captured) → List Event → Option Fault
     → SequenceEnd → Outcome → Type 0
 EndsByRefusal names form passing es None end o = EndsAs names end o
 EndsByRefusal names form passing es (Some fault) end o = EndsAtPacket names form passing es fault o
 
--- It ends at the first packet of these events that the form refuses; if it refuses none, like this.
+-- The command ends at the first packet of these events that the form refuses; if it refuses none,
+-- like this.
 abbrev pub EndsUnlessRefused : List (List ℕ) → Form → (List Captured → List Captured) → List Event
     → SequenceEnd → Outcome → Type 0
 EndsUnlessRefused names form passing es end o =
@@ -118,13 +122,13 @@ file_events file = (sequence_of InTurn (whole_input file ∷ [])).events
 abbrev pub edit_work : EditRule → Format → Work
 edit_work s format = record { order = InTurn; policy = Edit s; form = AsCapture format }
 
--- the packets of a file that an edit writes: the unique ones of those that it selects
+-- the packets of a file that an edit writes: the unique ones among those that it selects
 abbrev pub packets_edited : EditRule → List Captured → List Captured
 packets_edited s ps = unique_after s.window [] (packets_selected s 1 ps)
 
--- An edit of a file with fewer than 2^63 packets writes the unique ones of the selected packets, up
--- to the first whose moved time is out of range or that the format refuses; if there are none, and
--- it ends with status 0, the start of a file.
+-- An edit of a file with fewer than 2^63 packets writes the unique ones among the selected packets,
+-- up to the first whose shifted time is out of range or that the format refuses. If there are none,
+-- and it ends with status 0, it writes the start of a file.
 abbrev pub EditWrites : Type 0
 EditWrites =
     (s : EditRule) (format : Format) (names : List (List ℕ)) (file : List ℕ)
@@ -135,9 +139,9 @@ EditWrites =
     (first_link (whole_input file ∷ []))
     (packets_written (AsCapture format) [] (packets_edited s (file_packets file)))
 
--- Such an edit ends at the first packet that the format refuses; if it refuses none, at the
--- first that is selected and whose moved time is out of range; if there is none, as the file
--- does: cleanly, with status 0, or by its fault.
+-- Such an edit ends at the first packet that the format refuses; if it refuses none, at the first
+-- selected packet whose shifted time is out of range; if there is none, as the file does: cleanly,
+-- with status 0, or with its fault.
 abbrev pub EditEnds : Type 0
 EditEnds =
     (s : EditRule) (format : Format) (names : List (List ℕ)) (file : List ℕ)
@@ -149,17 +153,18 @@ EditEnds =
 
 -- ---- print
 
--- the work of a print by this filter, which ends after `count` packets, if there is a count
+-- the work of a print with this filter, which ends after `count` packets, if there is a count
 abbrev pub print_work : Rule → Option ℕ → Form → Work
 print_work rule count form = record { order = InTurn; policy = Filter rule count; form = form }
 
--- the packets of a file that a print writes: those that the rule keeps, the first of them by a count
+-- the packets of a file that a print writes: those that the rule keeps, only the first ones if
+-- there is a count
 abbrev pub packets_printed : Rule → Option ℕ → List Captured → List Captured
 packets_printed rule count ps = at_most count (packets_kept rule ps)
 
--- A print of a file with fewer than 2^63 packets as a capture writes those that the rule keeps, the
--- first of them if a count, which is at least 1, is given, up to the first that the rule or the
--- format refuses; for none, if it ends with status 0, the start of a file.
+-- A print of a file with fewer than 2^63 packets as a capture writes those that the rule keeps,
+-- only the first ones if a count, which is at least 1, is given, up to the first that the rule or
+-- the format refuses. If there are none, and it ends with status 0, it writes the start of a file.
 abbrev pub PrintWrites : Type 0
 PrintWrites =
     (rule : Rule) (count : Option ℕ) (format : Format) (names : List (List ℕ)) (file : List ℕ)
@@ -170,8 +175,8 @@ PrintWrites =
     (first_link (whole_input file ∷ []))
     (packets_written (AsCapture format) [] (packets_printed rule count (file_packets file)))
 
--- A print of such a file as lines writes those of the packets that the rule keeps, the first of
--- them if a count, which is at least 1, is given, up to the first that the rule refuses.
+-- A print of such a file as lines writes the lines of the packets that the rule keeps, only of the
+-- first ones if a count, which is at least 1, is given, up to the first that the rule refuses.
 abbrev pub PrintLines : Type 0
 PrintLines =
     (rule : Rule) (count : Option ℕ) (options : Options) (names : List (List ℕ)) (file : List ℕ)
@@ -179,12 +184,12 @@ PrintLines =
     → (outcome (print_work rule count (AsLines options)) names (whole_input file ∷ [])).output
     ≡ lines_text options (packets_printed rule count (file_packets file))
 
--- a rule refuses a packet, or goes on
+-- the end at a packet that a rule refuses; else the end that comes later
 abbrev pub end_by_decision : Decision → Placed → (later : SequenceEnd) → SequenceEnd
 end_by_decision (Refuse fault) p later = FaultIn 0 fault p.offset
 end_by_decision decision p later = later
 
--- the first packet of a file that a rule refuses, or the file's end
+-- the end at the first packet of a file that a rule refuses, or the file's own end
 abbrev pub rule_end : Rule → Ending → List Placed → SequenceEnd
 rule_end rule ending [] = end_of 0 ending
 rule_end rule ending (p ∷ ps) =
@@ -195,15 +200,15 @@ abbrev pub is_reached : (count : Option ℕ) → (kept : ℕ) → Bool
 is_reached None kept = false
 is_reached (Some count) kept = nat_le count kept
 
--- the end of a print whose packets are all written
+-- the end of a print all of whose packets are written
 abbrev pub print_end : Rule → Option ℕ → Items → SequenceEnd
 print_end rule count file =
     if is_reached count (length (packets_kept rule (packets_of file.packets))) then Complete
     else rule_end rule file.ending file.packets
 
 -- Such a print ends at the first packet that the form refuses; if it refuses none, cleanly, with
--- status 0, once as many passed as may; else at the first packet that the rule refuses; else as the
--- file does: cleanly, with status 0, or by its fault. Lines refuse none.
+-- status 0, once it has kept `count` packets; else at the first packet that the rule refuses; else
+-- as the file does: cleanly, with status 0, or with its fault. Lines refuse no packet.
 abbrev pub PrintEnds : Type 0
 PrintEnds =
     (rule : Rule) (count : Option ℕ) (form : Form) (names : List (List ℕ)) (file : List ℕ)
@@ -218,7 +223,7 @@ PrintEnds =
 abbrev pub merge_work : PacketOrder → Format → Work
 merge_work order format = record { order = order; policy = KeepAll; form = AsCapture format }
 
--- all packets, as a merge passes them
+-- the packets that a merge keeps: all
 abbrev pub packets_merged : List Captured → List Captured
 packets_merged ps = ps
 
@@ -226,9 +231,9 @@ packets_merged ps = ps
 abbrev pub packets_in_order : PacketOrder → List InputItems → List Captured
 packets_in_order order rs = event_packets (sequence_of order rs).events
 
--- A merge of inputs of which fewer than 2^63 packets come before the first fault writes these in
--- its order, up to the first that its format refuses; for none, if it ends with status 0, the
--- start of a file.
+-- A merge of inputs with fewer than 2^63 packets before the first fault writes these in its order,
+-- up to the first that its format refuses. If there are none, and it ends with status 0, it writes
+-- the start of a file.
 abbrev pub MergeWrites : Type 0
 MergeWrites =
     (order : PacketOrder) (format : Format) (names : List (List ℕ)) (rs : List InputItems)
@@ -238,7 +243,7 @@ MergeWrites =
     (first_link rs) (packets_written (AsCapture format) [] (packets_in_order order rs))
 
 -- Such a merge ends at the first packet that its format refuses; if it refuses none, as the order
--- of its inputs does: cleanly, with status 0, or by the fault of one.
+-- of its inputs does: cleanly, with status 0, or with the fault of one.
 abbrev pub MergeEnds : Type 0
 MergeEnds =
     (order : PacketOrder) (format : Format) (names : List (List ℕ)) (rs : List InputItems)
@@ -252,12 +257,12 @@ MergeEnds =
 abbrev pub infos_work : List (List ℕ) → Work
 infos_work names = record { order = InTurn; policy = Count; form = AsReports names }
 
--- the report of an input, and those after it, unless it ends by a fault
+-- the report of an input, and those of the inputs after it; none if it ends with a fault
 abbrev pub reports_by : Ending → Report → List Report → List Report
 reports_by End r rest = r ∷ rest
 reports_by (FaultAt fault offset) r rest = []
 
--- the reports of inputs, up to the first that ends by a fault; they are numbered on from `input`
+-- the reports of inputs, up to the first that ends with a fault; the first input has number `input`
 abbrev pub reports_of : (input : ℕ) → List InputItems → List Report
 reports_of input [] = []
 reports_of input (r ∷ rs) =
@@ -270,13 +275,13 @@ reports_of input (r ∷ rs) =
     })
     (reports_of (input + 1) rs)
 
--- `infos` writes the report of each input in turn, up to the first that ends by a fault.
+-- `infos` writes the report of each input in turn, up to the first that ends with a fault.
 abbrev pub InfosReports : Type 0
 InfosReports =
     (names : List (List ℕ)) (rs : List InputItems)
     → (outcome (infos_work names) names rs).output ≡ reports_text names (reports_of 0 rs)
 
--- `infos` ends cleanly, with status 0, if all inputs do, else by the fault of the first that
+-- `infos` ends cleanly, with status 0, if all inputs do, else with the fault of the first that
 -- doesn't.
 abbrev pub InfosEnds : Type 0
 InfosEnds =
@@ -299,31 +304,31 @@ no_options = record {
   window = None;
 }
 
--- A merge of one file has the outcome of its edit without options.
+-- A merge of one file has the same outcome as its edit without options.
 abbrev pub MergesOne : Type 0
 MergesOne =
     (order : PacketOrder) (format : Format) (names : List (List ℕ)) (file : List ℕ)
     → outcome (merge_work order format) names (whole_input file ∷ [])
     ≡ outcome (edit_work no_options format) names (whole_input file ∷ [])
 
--- A file's packets are these, one or more and fewer than 2^63, and the format carries them.
+-- A file has these packets, one or more and fewer than 2^63, and the format carries them.
 pub record HasCarried (format : Format) (file : List ℕ) (p : Captured) (ps : List Captured) : Type 0 where
   pub packets : file_packets file ≡ p ∷ ps
   pub few : length (p ∷ ps) < 2 ^ 63
   pub carried : Carries format (p ∷ ps)
 
--- the bytes that an edit without options writes of a file
+-- the bytes that an edit without options writes for a file
 abbrev pub copy_of : Format → List (List ℕ) → List ℕ → List ℕ
 copy_of format names file = (outcome (edit_work no_options format) names (whole_input file ∷ [])).output
 
 -- If the format carries all packets of a file, one or more and fewer than 2^63, an edit without
--- options writes a file of the same packets.
+-- options writes a file with the same packets.
 abbrev pub EditKeeps : Type 0
 EditKeeps =
     (format : Format) (names : List (List ℕ)) (file : List ℕ) (p : Captured) (ps : List Captured)
     → HasCarried format file p ps → file_packets (copy_of format names file) ≡ file_packets file
 
--- Such an edit ends as the file does: cleanly, with status 0, or by its fault.
+-- Such an edit ends as the file does: cleanly, with status 0, or with its fault.
 abbrev pub CopyEnds : Type 0
 CopyEnds =
     (format : Format) (names : List (List ℕ)) (file : List ℕ) (p : Captured) (ps : List Captured)
@@ -331,8 +336,7 @@ CopyEnds =
     → EndsAs names (end_of 0 (items file).ending)
     (outcome (edit_work no_options format) names (whole_input file ∷ []))
 
--- For such a file an edit without options, and such an edit of what that wrote, write the same
--- bytes.
+-- Another edit without options of what such an edit wrote writes the same bytes again.
 abbrev pub EditsAlike : Type 0
 EditsAlike =
     (format : Format) (names : List (List ℕ)) (file : List ℕ) (p : Captured) (ps : List Captured)
@@ -347,7 +351,7 @@ is_rejection Rejected = true
 is_rejection r = false
 
 -- whether an expression rejects a packet on a link: it needs a byte that isn't captured, or divides
--- by 0; never without a link
+-- by 0; false without a link
 abbrev pub is_rejected_on : TruthTree → Option Link → Captured → Bool
 is_rejected_on a None p = false
 is_rejected_on a (Some link) p = is_rejection (holds (truth a) link p.bytes p.orig)
@@ -359,14 +363,15 @@ packets_rejected a (p ∷ ps) =
     if is_rejected_on a (link_of p.link) p then p ∷ packets_rejected a ps
     else packets_rejected a ps
 
--- expressions are read on the link type of each packet
+-- expressions support the link type of each packet
 abbrev pub AreRead : List Captured → Type 0
 AreRead [] = Unit {0}
 AreRead (p ∷ ps) = (is_some (link_of p.link) ≡ true) × AreRead ps
 
--- For packets with link types that expressions are read on there are three lists: those that an
--- expression keeps, those that its negation keeps, and those that it rejects. Whatever is summed of
--- packets, the sums over the three add up to that over all: each packet is in one list, once.
+-- Packets whose link types expressions support are divided into three lists: those that an
+-- expression keeps, those that its negation keeps, and those that it rejects. For any sum over
+-- packets, the sums over the three lists add up to that over all packets: each packet is in exactly
+-- one list.
 abbrev pub NegationParts : Type 0
 NegationParts =
     (a : TruthTree) (ps : List Captured) (f : Captured → ℕ) → AreRead ps
@@ -376,7 +381,7 @@ NegationParts =
 
 -- ---- a capture that is cut
 
--- The packets of a file that is cut anywhere are the first ones of the whole file's.
+-- The packets of a file that is cut anywhere are a prefix of those of the whole file.
 abbrev pub CutsGivePrefixes : Type 0
 CutsGivePrefixes =
     (file : List ℕ) (n : ℕ)

@@ -1,4 +1,4 @@
--- The steps that decide the current packet.
+-- The steps that decide the current packet, and what they write.
 use Rattle.cap_tools.proofs.Coming.{carries-decided, true-wholes, true-fit, true-fits, get-at, At, stands-split, stands-join, rests-join, come-on}
 use Rattle.cap_tools.proofs.Common.{◌≡◌, ◌⊎◌, inl, inr, ℕ, ◌+◌, ◌<◌, ◌≤◌, Bool, true, false, List, [], ◌∷◌, ◌++◌, length, map, Option, None, Some, Result, Ok}
 use Rattle.cap_tools.proofs.Common.{Err, refl, sym, ◌∙◌, ap, arith, subst, append-nil, map-append, slice_get, slice_set, Stops, Captured, Fault, NoMemory}
@@ -188,7 +188,7 @@ stops-course ss cursors order es e policy form w w' c ahead far on went end =
 
 -- ---- it is not put
 
--- a packet that passes isn't put into a capture
+-- a kept packet isn't put into a capture
 unput-capture : (ss : List InputPast) (before : List ℕ) (cursors : List InputView) (order : PacketOrder) (turn : ℕ) (policy : Policy)
     (state state' : SelectorState) (names : List (List ℕ)) (sink sink' : SinkView) (decided : ℕ) (new : JobState) (x : Placed) (q : Captured)
     (o : Option SequenceEnd) (fault : Fault)
@@ -282,7 +282,7 @@ reject-leaves ss before cursors order turn policy state state' names output deci
           (ap written_to same) (ap failures_to same)));
     }
 
--- what an answer leaves: `new` is the machine where the packet is decided, `failed` where it isn't
+-- the job after an answer: `new` if the packet is decided, `failed` if it isn't
 abbrev pub AnswerLeaves : {ss : List InputPast} {before : List ℕ} {old : JobState} → PacketsDecided ss before old → Result code.Verdict JobEnd
     → JobState → JobState → Type 0
 AnswerLeaves {ss} {before} {old} d (Ok verdict) new failed = StepLeaves d (end_after verdict) new

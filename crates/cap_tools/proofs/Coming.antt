@@ -1,4 +1,4 @@
--- What has come when an input is read on, or its packet is decided.
+-- The events that have come after an input is read on, or its packet is decided.
 use Rattle.cap_tools.proofs.Common.{◌≡◌, ℕ, suc, ◌+◌, Bool, true, false, List, [], ◌∷◌, ◌++◌, length, drop, map, None, Some, Result, Ok, refl, sym, ◌∙◌, ap}
 use Rattle.cap_tools.proofs.Common.{arith, subst, add-zero, Option, option_to_list, append_assoc, append-nil, length-append, Captured, Fault, Declared, Placed}
 use Rattle.cap_tools.proofs.Common.{placed_at, Items, Ending, End, FaultAt, NoUnit, items, items_from, after_packets, no_items, front_of, kind_of, SourceView}
@@ -115,10 +115,10 @@ pub finish-here : (us vs : List InputPast) (s : InputPast) (i : ℕ) (bytes : Li
 finish-here [] vs s i bytes packets place = rw (← place) refl
 finish-here (a ∷ us) vs s i bytes packets place = rw (← place) (ap (λ (l : List InputPast). a ∷ l) (finish-here us vs s (length us) bytes packets refl))
 
--- ---- what has come, when one input goes on
+-- ---- the events so far, after one input is read on
 
--- For each future after the change there is one before it: the whole is the same, and what is left
--- begins with the new events.
+-- For each future after the change there is one before it: all items are the same, and the
+-- remaining ones begin with the new events.
 pub record Carries (s s' : InputPast) (xs ys : List InputView) (h h' : InputView) (order : PacketOrder) (new : List Event) (f' : Future) : Type 0 where
   pub future : Future
   pub fit : Fit h future
@@ -363,7 +363,7 @@ true-fits [] (h ∷ hs) st = absurd st
 true-fits (s ∷ ss) [] st = absurd st
 true-fits (s ∷ ss) (h ∷ hs) st = (true-fit s h st.0, true-fits ss hs st.1)
 
--- what came is the first of the order of the whole inputs
+-- the events so far come first in the order of the complete inputs
 pub come-first : (ss : List InputPast) (inputs : InputsView) (es : List Event) → AreInputsAfter ss inputs.cursors → AreSettled ss inputs es
     → ComeFirst (sequence_of inputs.order (wholes_of ss)) es
 come-first ss inputs es following come = record {

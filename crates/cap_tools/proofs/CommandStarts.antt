@@ -1,4 +1,4 @@
--- The job of a command of which nothing is done.
+-- The job of each command, before its first step.
 use Rattle.cap_tools.proofs.Coming.{come-first}
 use Rattle.cap_tools.proofs.Common.{◌≡◌, inl, inr, ℕ, ◌+◌, ◌≤◌, Bool, true, not, List, [], map, length, None, Option, Result, Ok, Err, refl, sym, ap, arith}
 use Rattle.cap_tools.proofs.Common.{subst, ◌∙◌, nat_eq, nat_le, ◌&&◌, add-zero, DeviceFault, Stops, listing, Target, Capture, Text, Lines, target_at}

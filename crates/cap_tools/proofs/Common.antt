@@ -1,4 +1,4 @@
--- The names that most proofs here cite, passed on from one place. Declares nothing.
+-- Re-exports the names that most proofs of this crate cite; declares nothing.
 pub use Rattle.std.proofs.Common.{◌≡◌, ◌⊎◌, inl, inr, ℕ, ◌+◌, ◌<◌, ◌≤◌, Bool, true, false, List, [], ◌∷◌, ◌++◌, length, map, Option, None, Some, Result, Ok}
 pub use Rattle.std.proofs.Common.{Err, refl, sym, ◌∙◌, ap, arith, subst, not, nat_eq, if◌then◌else◌, ◌-◌, suc, drop, add-zero, option_to_list, IsTrue, nat_le}
 pub use Rattle.std.proofs.Common.{◌&&◌, get_or, zero, cond, max, ◌*◌, ◌^◌, ap₂, string_bytes, String}

@@ -40,7 +40,7 @@ among-same cursors i h h' a b = let e = sym (get-input cursors i h a) ∙ get-in
 abbrev pub past-of : InputPast → List ℕ → List Placed → InputPast
 past-of s bytes packets = record { text = s.text; done = s.done ++ bytes; packets = s.packets ++ packets }
 
--- the job goes on, with what these events make of its progress
+-- the job goes on, with its progress after these events
 pub goes-one : (us vs : List InputPast) (s : InputPast) (before : List ℕ) (xs ys : List InputView) (h h' : InputView) (order : PacketOrder) (turn : ℕ)
     (policy : Policy) (state state' : SelectorState) (names : List (List ℕ)) (output output' : Target) (decided decided' : ℕ) (finished : List ℕ)
     (placed : List Placed) (new : List Event) (packets : List Captured) (reports : List Report)
@@ -115,7 +115,7 @@ found-goes us vs s before xs ys h s' order turn policy state names output decide
 
 -- ---- a clean end is met
 
--- what holds of the inputs then
+-- what is true of the inputs then
 record ReadOut (us vs : List InputPast) (s : InputPast) (xs ys : List InputView) (h' : InputView) (order : PacketOrder) (events : List Event)
     (bytes : List ℕ) : Type 0 where
   pub following : AreInputsAfter (us ++ past-of s bytes [] ∷ vs) (xs ++ h' ∷ ys)
@@ -141,7 +141,7 @@ closed-out us vs s before xs ys h s' order turn policy state names output decide
           s'.declared h.greatest s'.offset fs gs before with_front) waits advances found f' fit);
     }
 
--- it goes on, with what closing the input makes of the progress
+-- the job goes on, with its progress after the input is closed
 closed-goes : (us vs : List InputPast) (s : InputPast) (before : List ℕ) (xs ys : List InputView) (h : InputView) (s' : SourceView)
     (order : PacketOrder) (turn : ℕ) (policy : Policy) (state : SelectorState) (names : List (List ℕ)) (output : Target) (decided : ℕ)
     (state' : SelectorState) (output' : Target) (reports : List Report)
@@ -191,7 +191,7 @@ comes-broken ss before m rs d new input fault offset is same device = record {
   device = device;
 }
 
--- the device failed, and had given as many bytes as it was sure to
+-- the device failed, and had given at least as many bytes as it was sure to
 record Risen (h : InputView) (s' : SourceView) : Type 0 where
   failed : h.source.failures < s'.failures
   enough : HasGiven h.source.sure s'.given
@@ -416,9 +416,10 @@ closed-core us vs s before xs ys h s' order turn policy state names output decid
     by_answer (Err fault) reports = report-stops us vs s before xs ys h s' order turn policy state names output decided (with_empty_tally state)
         output' fault laws tells front at back advances steps d asks reports
 
--- ---- all of them
+-- ---- all cases
 
--- what is made of an answer: at its end an input is closed, and else the rest stays
+-- what follows from the result of a read: an input at its end is closed; otherwise nothing else
+-- changes
 abbrev pub Follows : Result Bool Fault → List (List ℕ) → InputsView → ℕ → PolicyState → Target → Option JobEnd → PolicyState → Target → Type 0
 Follows (Ok true) names inputs i selector old r selector' new = (r ≡ None) × (selector' ≡ selector) × (new ≡ old)
 Follows (Ok false) names inputs i selector old r selector' new = Closes names inputs i (sieve selector old) r (sieve selector' new)

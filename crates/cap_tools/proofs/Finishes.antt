@@ -1,4 +1,4 @@
--- The step that ends the output.
+-- The step that completes the output.
 use Rattle.cap_tools.proofs.Coming.{true-whole, true-wholes, true-fit, true-fits, At}
 use Rattle.cap_tools.proofs.Common.{None, all_ends, ◌≡◌, ℕ, ◌+◌, List, [], ◌∷◌, ◌++◌, map, Option, Some, Result, Ok, Err, refl, sym, ◌∙◌, ap, subst, add-zero}
 use Rattle.cap_tools.proofs.Common.{append-nil, option_or, Stops, Captured, DeviceFault, Fault, WriteFailed, first_link_of, items, SinkView, FinishesEmpty}
@@ -11,7 +11,7 @@ use Rattle.cap_tools.proofs.Common.{progress_of, progress_over, wholes_of, Next}
 use Rattle.cap_tools.proofs.{Fetches.mk, Fetches.inputs_at, Laws.OverAt, Laws.over-at}
 use Rattle.cap_tools.proofs.Nexts.{all-course, stops-at, once-closing}
 
--- all events came
+-- all events have come
 over-all : (ss : List InputPast) (before : List ℕ) (cursors : List InputView) (order : PacketOrder) (policy : Policy) (state : SelectorState)
     (names : List (List ℕ)) (output : Target) (decided : ℕ) → OverAt order cursors
     → (d : PacketsDecided ss before (mk cursors order policy state names output decided))

@@ -1,4 +1,4 @@
--- What a place says of what is left, for inputs in turn and for a merge.
+-- The items that remain after a position, for inputs in turn and for a merge.
 use Rattle.cap_tools.proofs.Coming.{from_turn, left-decided, turn-closes, turn-broken, hand_is, At, Fit, fits-join, rests-join, rests-length}
 use Rattle.cap_tools.proofs.Common.{append-nil, ◌≡◌, inl, inr, ℕ, zero, suc, ◌+◌, ◌≤◌, Bool, true, false, cond, not, max, List, [], ◌∷◌, ◌++◌, length, drop}
 use Rattle.cap_tools.proofs.Common.{Option, None, Some, refl, sym, ◌∙◌, ap, arith, subst, Captured, Fault, Kind, Declared, Items, no_items, kind_of, IsAt}
@@ -81,7 +81,7 @@ merge-decides xs ys h p fs gs f waits held over from fits_x fits_y whole =
 
 -- ---- which inputs are ready
 
--- an input that is ready, by what is done of it
+-- an input that is ready, by its done part
 ready-one : (s : InputPast) (h : InputView) → At s h → IsReady h → InputFrom 0 h
 ready-one s h at ready = by_waiting h.waiting refl ready
   where
@@ -291,7 +291,7 @@ decide-at ByTime ss cursors i tells following =
           (subst P a.splits (all-ready ss cursors following tells.0)) l.over l.from;
     }
 
--- ---- nothing is left
+-- ---- nothing remains
 
 -- all inputs are at their ends
 pub record OverAt (order : PacketOrder) (cursors : List InputView) : Type 0 where
@@ -304,7 +304,7 @@ drop-all [] (suc n) h = refl
 drop-all (r ∷ rs) zero h = absurd (omega (arith, h))
 drop-all (r ∷ rs) (suc n) h = drop-all rs n (omega (arith, h))
 
--- inputs at their ends, of which none waits
+-- inputs at their ends, none of which waits
 ended-from-all : (hs : List InputView) → NoneWaits hs → AllEnded hs → InputsFrom 0 hs
 ended-from-all [] none ended = tt
 ended-from-all (h ∷ hs) none ended = (ended_from none.0 ended.0, ended-from-all hs none.1 ended.1)

@@ -1,4 +1,4 @@
--- Each step leaves less to do, and is paid by what was read.
+-- Each step decreases the bound of the remaining steps, and the bytes read account for it.
 use Rattle.cap_tools.proofs.Common.{◌≡◌, ℕ, ◌+◌, ◌*◌, ◌^◌, ◌<◌, ◌≤◌, suc, Bool, true, false, List, [], ◌∷◌, ◌++◌, length, Result, Ok, Err, refl, sym, ◌∙◌, ap}
 use Rattle.cap_tools.proofs.Common.{arith, length-append, slice_set, Fault, SourceView, Phase, Reading, Ended, Failed, Steps, end_offset, phase_after}
 use Rattle.cap_tools.proofs.Common.{PacketOrder, InTurn, ByTime, InputView, InputsView, IsInput, MarksDecided, ReadSteps, input_after, input_after_decided}
@@ -123,7 +123,8 @@ abbrev pub Goes : Result Bool Fault → Type 0
 Goes (Ok b) = Unit {0}
 Goes (Err fault) = ⊥
 
--- reading on never leaves more to do; if there is no fault it leaves less, and is paid
+-- reading on never increases the bound of the remaining steps; without a fault it decreases it, and
+-- the bytes read account for the step
 pub record ReadOn (inputs inputs' : InputsView) (r : Result Bool Fault) : Type 0 where
   pub kept : steps_left inputs' ≤ steps_left inputs
   pub less : Goes r → steps_left inputs' < steps_left inputs

@@ -1,4 +1,4 @@
--- What comes next, as a step knows it, is what comes next in the order.
+-- The next action, as a step finds it, is that of the job's order.
 use Rattle.cap_tools.proofs.Common.{IsNextEvent, ap₂, append_assoc, append-nil, Stops, AsCapture, AsReports, AsLines, text, added_text, packets_text, text-more}
 use Rattle.cap_tools.proofs.Common.{lines_text, lines-more, report_text, reports_text, reports-more, Report, Sequence, sequence_of, no_progress, apply_events}
 use Rattle.cap_tools.proofs.Common.{end_with, final_text, output_text, text_at_end, Grows, course-grows, course-close, drained-text, StopsWriting}
@@ -81,9 +81,9 @@ once-closing link before far next names old new has is packets reports ends = re
   one = closes packets reports ends refl;
 }
 
--- ---- what the next answer adds
+-- ---- the bytes that the next event adds
 
--- a packet that passes
+-- a packet that is kept
 passes-adds : (form : Form) (w : JobProgress) (i : ℕ) (x : Placed) (v : Verdict) (state : SelectorState) (q : Captured) → PassesAs v q
     → form_refuses form w.packets q ≡ None
     → text_of_progress form (apply_verdict form w i x v state) ≡ text_of_progress form w ++ packet_bytes form w.packets q
@@ -121,7 +121,7 @@ next-adds ss before old bytes d e comes adds =
           ∙ ap (λ (v : JobProgress). text_of_progress form v ++ bytes) (sym d.progress),
     )
 
--- a packet that passes, and is taken
+-- a packet that is kept and written
 pub packet-answer : (ss : List InputPast) (before : List ℕ) (old : JobState) (d : PacketsDecided ss before old) (i : ℕ) (x : Placed) (q : Captured)
     → IsNextEvent (work_of old) (wholes_of ss) d.events (Packet i x) → PassesAs (judge old.policy old.state (old.decided + 1) x.packet).verdict q
     → form_refuses (output_form old) d.packets q ≡ None → IsNextAnswer (work_of old) (wholes_of ss) d.events (Some (Packet i x))
@@ -163,14 +163,14 @@ added (AsLines options) ps (q ∷ qs) rs ts = record {
       ap (lines_text options) (sym (append_assoc ps (q ∷ []) qs)) ∙ lines-more options ps q qs;
 }
 
--- how far the job comes where all events came
+-- the progress of the job after all events
 pub all-course : (ss : List InputPast) (before : List ℕ) (old : JobState) (d : PacketsDecided ss before old) → sequence_of old.inputs.order
     (wholes_of ss) ≡ record { events = d.events; end = Complete } → progress_over old (wholes_of ss) ≡ end_with (progress_of d) Complete
 all-course ss before old d is =
     course-close old.policy (output_form old) (sequence_of old.inputs.order (wholes_of ss)) d.events (progress_of d) Complete
     (is ∙ ap (λ (l : List Event). record { events = l; end = Complete }) (sym (append-nil d.events))) d.progress refl
 
--- the next answer, in all that would be written
+-- the next bytes, as part of the complete output
 record InWhole {ss : List InputPast} {before : List ℕ} {old : JobState} (d : PacketsDecided ss before old) (bytes : List ℕ) : Type 0 where
   back : List ℕ
   is : final_text (output_form old) (first_link (wholes_of ss)) (progress_over old (wholes_of ss)) ≡ output_text (output_form old) d.packets d.reports

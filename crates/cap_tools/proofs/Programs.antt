@@ -1,10 +1,10 @@
--- The programs of a job stay those for what is asked, whichever of them run.
+-- The programs of a job remain those for its policy, whichever of them run.
 use Rattle.cap_tools.proofs.Common.{◌≡◌, ℕ, zero, suc, List, [], ◌∷◌, map, true, false, if◌then◌else◌, Option, None, Some, refl, sym, ◌∙◌, ap, subst, Captured}
 use Rattle.cap_tools.proofs.Common.{Insn, Content, empty, truth, all_links, AreMade, ran_at, ran_if, Rule, by_reading, by_answer, AreNew, place_by, spent_on}
 use Rattle.cap_tools.proofs.Common.{Policy, Edit, Filter, KeepAll, Count, is_too_many, AreFor, HavePrograms, SelectorView, spent_by, spent_by_verdict, Spends}
 use Rattle.cap_filter.proofs.Filters.{made-ran}
 
--- a run leaves a program's instructions
+-- a run doesn't change a program's instructions
 insns-ran : (programs : List Content) (i : ℕ) (p : Captured) → map (λ (x : Content). x.insns) (ran_at i p programs) ≡ map (λ (x : Content). x.insns) programs
 insns-ran [] i p = refl
 insns-ran (x ∷ xs) zero p = refl

@@ -1,4 +1,4 @@
--- A run of a job, from its first view on, in terms of its call.
+-- A whole run of a job, in terms of its call.
 use Rattle.cap_tools.proofs.Common.{◌≡◌, ℕ, Bool, zero, suc, List, [], ◌∷◌, map, Option, None, Some, IsTrue, refl, sym, ◌∙◌, ap, subst, Placed, InputPast}
 use Rattle.cap_tools.proofs.Common.{DeviceLimits, FreshInput, fresh_view, nothing_done, device_limits, Writing, target_at, written_to, failures_to, form_to}
 use Rattle.cap_tools.proofs.Common.{room_to, failures_by, finish_at, texts, work_of, JobView, Decided, JobGives, StaysDecided, first_job, Policy, IsPolicy}
@@ -17,8 +17,8 @@ use Rattle.cap_inputs.specs.inside.Fresh.{fresh_limits}
 use Rattle.flt_words.specs.declared.fault.ExprFault.{ExprFault}
 use Rattle.flt_bpf.specs.declared.fault.ListingFault.{ListingFault}
 
--- A job goes on over the packets of a call: it does the work that is asked, of the same inputs more
--- bytes are done, and the output didn't fail.
+-- A job goes on over the packets of a call: it does the work that is asked for, more bytes of the
+-- same inputs are done, and the output didn't fail.
 pub record IsUnderWay (asked : Assignment) (call : Call) (j : JobView) : Type 0 where
   pub past : List InputPast
   pub texts : texts past ≡ map (λ (input : FreshInput). input.text) call.inputs
@@ -26,7 +26,7 @@ pub record IsUnderWay (asked : Assignment) (call : Call) (j : JobView) : Type 0 
   pub work : IsWork asked call (work_of j.state)
   pub names : j.state.names ≡ call.names
   pub output : failures_by j.state ≡ call.output.failures
-  -- what is known of the inputs' devices when the job begins holds of them
+  -- what is known of the inputs' devices when the job begins is still true
   pub limits : device_limits j.state.inputs.cursors ≡ map fresh_limits call.inputs
   pub err : j.err ≡ call.messages
 
@@ -116,7 +116,7 @@ goes-on asked call tells job new was gives policy names =
       err = gives.0 ∙ was.err;
     }
 
--- the first step goes on: over packets, or since the filter is read
+-- after the first step the job goes on: over packets, or with the filter that was read
 first-more : (output_tells tells : Bool) (asked : Assignment) (call : Call) (new : JobView) (p : Option Preparing) → asked.preparing ≡ p
     → IsTrue output_tells → (p ≡ None → JobGives tells (first_job asked call) Turn.More new) → PreparesBy p output_tells tells (first_job asked call)
     Turn.More new
@@ -154,7 +154,7 @@ pub record IsLeft (new : JobView) (r : RunResult) : Type 0 where
   pub failures : r.output.failures ≡ failures_by new.state
   pub messages : r.messages ≡ new.err
 
--- ---- what is told
+-- ---- the messages
 
 told-as : (tells : Bool) (old old' new : OutputView) (message message' : List ℕ) → message ≡ message' → old ≡ old' → IsTold tells old message new
     → IsTold tells old' message' new
@@ -173,7 +173,7 @@ never-zero (Refusal.Program fault at) none = (cc)
 
 -- ---- one of the inputs
 
--- what a map has at a place comes of what is there
+-- the element of a map at an index is made of the element there
 record From {A B : Type 0} (f : A → B) (o : Option A) (b : B) : Type 0 where
   pub from : A
   pub is : o ≡ Some from
@@ -213,7 +213,7 @@ same-count old new (all_ends next same) = ap (λ (f : InputsView). length f.curs
 
 -- ---- a job with packets
 
--- what its last step leaves
+-- the result of the last step
 packets-run : (asked : Assignment) (call : Call) (job new : JobView) (r : RunResult) → IsFilled call r → IsUnderWay asked call job
     → EndsJob call.tells job r.status new → IsLeft new r → CommandRuns asked call r
 packets-run asked call job new r filled was ended is_left = by_end ended.end refl (ended.leaves was.past before d)
@@ -252,7 +252,7 @@ packets-run asked call job new r filled was ended is_left = by_end ended.end ref
         drained-text before old.names old.output d.packets d.reports d.output
         ∙ ap (λ (v : JobProgress). before ++ text_of_progress (output_form old) v) (sym d.progress)
 
-    -- the outcome of inputs with these items is left
+    -- the run ends with the outcome of inputs with these items
     left : (rs rs' : List InputItems) (close : SequenceEnd) → rs ≡ rs' → CompletesOutput rs d last close → text ≡ message names (Some close)
         → end_status ended.end ≡ status (Some close)
         → HasLeft call (outcome w call.names rs') r
@@ -420,7 +420,7 @@ listed-run asked call new r words link filled is lists left =
           })
     ]
 
--- ---- all of it
+-- ---- all results
 
 -- the first step ends the job: over packets, or it is refused, or it lists a program
 first-done : (output_tells : Bool) (asked : Assignment) (call : Call) (new : JobView) (r : RunResult) (p : Option Preparing) → asked.preparing ≡ p

@@ -1,5 +1,5 @@
--- What a step does to a job, by the parts that it changes. `old` is the job as its invariant has it,
--- and `now` the same job as contracts see it.
+-- The effect of a step on a job, by the parts that it changes. `old` is the job as its invariant
+-- describes it, and `now` the same job as contracts see it.
 use Rattle.cap_tools.proofs.{Answers.AnswerLeaves, Answers.answer-leaves, Coming.get-input, CommandStarts.ready-none}
 use Rattle.cap_tools.proofs.Common.{is_none, ◌≡◌, ℕ, ◌+◌, ◌<◌, ◌≤◌, Bool, true, false, IsTrue, List, Captured, Option, None, Some, Result, Ok, Err, ◌&&◌, refl}
 use Rattle.cap_tools.proofs.Common.{sym, ◌∙◌, ap, arith, subst, All, Fault, InputView, InputsView, InputPast, IsInput, IsNext, IsSound, MarksDecided, ReadSteps}
@@ -22,7 +22,7 @@ with_parts j inputs selector output decided done =
 abbrev pub selector_of : JobView → SelectorView
 selector_of j = record { policy = j.state.policy; state = j.state.state; programs = j.programs }
 
--- a selector and an output that a step leaves
+-- the selector and the output after a step
 pub record Keeps (old : JobView) (selector : SelectorView) (output : Target) : Type 0 where
   pub policy : selector.policy ≡ old.state.policy
   pub programs : HavePrograms selector.policy selector.programs
@@ -95,7 +95,7 @@ fault-ends None (Ok found) goes on = refl
 fault-ends None (Err fault) goes on = absurd (goes refl)
 fault-ends (Some end) a goes on = (cc)
 
--- `a` is the answer of the read, and `r` how the job ends, if it does
+-- `a` is the result of the read, and `r` how the job ends, if it does
 pub read-step : (inputs_tell output_tells : Bool) (old now : JobView) (i : ℕ) (inputs : InputsView) (answer a : Result Bool Fault) (r : Option JobEnd)
     (selector : SelectorView) (output : Target) (done : Option ℕ) → old ≡ now → IsSound old → IsNext now.state.inputs (Next.Read i)
     → answer ≡ a → ReadSteps old.state.inputs i answer inputs → (IsTrue inputs_tell → ReadsInput old.state.inputs i answer inputs)
@@ -159,7 +159,7 @@ judges-one old i cursor inputs selector output decided done tells among spends =
       cost = spends.1;
     }
 
--- what is known of a packet that was judged, whatever the answer
+-- what is known of a packet that was judged, for every result
 pub record Judged (output_tells : Bool) (old now : JobView) (i : ℕ) (cursor : InputView) (r : Result code.Verdict JobEnd) (selector : SelectorView)
     (output : Target) : Type 0 where
   pub is : old ≡ now

@@ -1,4 +1,4 @@
--- A turn of the loop: one step, or two.
+-- A turn of the loop makes one step, or two.
 use Rattle.cap_tools.proofs.Common.{◌≡◌, ◌⊎◌, inl, inr, ℕ, ◌+◌, ◌≤◌, Bool, true, false, List, Option, None, Some, IsTrue, refl, sym, ◌∙◌, ap, arith, subst}
 use Rattle.cap_tools.proofs.Common.{OutputView, IsTold, InputsView, steps_left, next-is-of, Call, RunResult, CommandRuns, Assignment, JobEnd, JobState}
 use Rattle.cap_tools.proofs.Common.{StepGives, EndsJob, HavePrograms, Preparing, JobView, Turn, end_message, end_status, room_by, PreparesBy, StepReads}

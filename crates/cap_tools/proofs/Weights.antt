@@ -1,4 +1,4 @@
--- What a job holds is bounded.
+-- The memory that a job holds is bounded.
 use Rattle.cap_tools.proofs.Common.{◌≡◌, ℕ, ◌+◌, ◌*◌, ◌≤◌, List, [], ◌∷◌, ◌++◌, length, map, Bool, Result, sym, arith, subst, All, Fault, Declared, Nothing}
 use Rattle.cap_tools.proofs.Common.{PcapFile, PcapngFile, most_in_unit, SourceView, Phase, Reading, Ended, Failed, SectionFits, Steps, Writing}
 use Rattle.cap_tools.proofs.Common.{HasFewOutputInterfaces, Target, Capture, Text, Lines, target_at, InputView, InputsView, IsInput, ReadSteps, MarksDecided}

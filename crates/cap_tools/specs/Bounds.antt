@@ -1,5 +1,5 @@
--- The bounds of a step, whatever the devices: what it reads, how many steps were made, and what the
--- job holds.
+-- The bounds of a step, for all devices: what it reads, how many steps were made, and how much
+-- memory the job holds.
 use Rattle.std.specs.List.{All, slice_get}
 use Rattle.std.specs.Prelude.{◌≡◌, ℕ, ◌+◌, ◌*◌, ◌≤◌, ◌&&◌, Bool, IsTrue, true, false, List, [], ◌∷◌, length, map, Some, Result, Ok, Err}
 use Rattle.cap_octet.specs.{Packet.Captured, declared.fault.Fault.Fault}
@@ -12,20 +12,20 @@ use Rattle.cap_inputs.specs.declared.inputs.Next.{Next}
 use Rattle.cap_filter.specs.Programs.{spent_in}
 use Rattle.cap_tools.specs.{Jobs.JobView, Packets.JobState, Packets.asks_report}
 
--- The next input was read on, to its next packet, its end or a fault, and no further. No packet is
--- decided, and nothing is written unless the input was read to its end and must be reported.
+-- The next input was read on, to its next packet, its end or a fault, but not further. No packet is
+-- decided, and nothing is written unless the input is at its end and must be reported.
 pub record ReadsOn (tells : Bool) (old : JobView) (input : ℕ) (answer : Result Bool Fault)
     (new : JobView) : Type 0 where
   pub next : next_of old.state.inputs ≡ Next.Read input
   pub fetches : ReadSteps old.state.inputs input answer new.state.inputs
-  -- if the input shows its bytes: its next packet, its clean end or its fault, and no more
+  -- if contracts know the input's bytes: it was read to its next packet, its clean end or its fault
   pub exact : IsTrue tells → ReadsInput old.state.inputs input answer new.state.inputs
   pub decided : new.state.decided ≡ old.state.decided
   pub output : (is_clean_end answer && asks_report old.state.inputs.order old.state.policy)
       ≡ false → new.state.output ≡ old.state.output
   pub programs : new.programs ≡ old.programs
 
--- The current packet of the next input was judged, which cost one run of a program at most.
+-- The current packet of the next input was judged, by at most one run of a program.
 pub record JudgesOne (old : JobView) (input : ℕ) (new : JobView) : Type 0 where
   pub next : next_of old.state.inputs ≡ Next.Decide input
   pub cursor : InputView
@@ -42,75 +42,75 @@ pub record ReadsNothing (old new : JobView) : Type 0 where
   pub decided : new.state.decided ≡ old.state.decided
   pub programs : new.programs ≡ old.programs
 
--- whether an input was read on to a fault
+-- whether reading an input on failed
 abbrev pub is_fault : Result Bool Fault → Bool
 is_fault (Ok found) = false
 is_fault (Err fault) = true
 
--- A step reads one input on, or decides one packet, or can't decide it, or does neither. The job
--- goes on only after an input that gave no fault, or a packet that is decided; it may end after
--- these too.
+-- A step reads one input on, or decides one packet, or fails to, or does neither. The job goes on
+-- only after an input was read on without a fault, or a packet was decided; it may also end then.
 pub data StepReads (tells goes : Bool) (old new : JobView) : Type 0 where
   reads_on : (input : ℕ) → (answer : Result Bool Fault) → (goes ≡ true → is_fault answer ≡ false)
       → ReadsOn tells old input answer new → StepReads tells goes old new
   decides_one : (input : ℕ) → JudgesOne old input new
       → MarksDecided old.state.inputs input new.state.inputs
       → new.state.decided ≡ old.state.decided + 1 → StepReads tells goes old new
-  -- the packet is refused, or wasn't written
+  -- the packet is refused, or couldn't be written
   leaves_one : (input : ℕ) → goes ≡ false → JudgesOne old input new
       → new.state.inputs ≡ old.state.inputs
       → new.state.decided ≡ old.state.decided → StepReads tells goes old new
   reads_nothing : goes ≡ false → ReadsNothing old new → StepReads tells goes old new
 
--- the bytes that were read of the inputs: those that are skipped, and those of the current units
+-- the number of bytes read from the inputs: the skipped ones and those of current units
 abbrev pub reads_of : List InputView → ℕ
 reads_of [] = 0
 reads_of (h ∷ hs) = end_offset h.source + reads_of hs
 
--- the most steps that a job made which hasn't ended: two for each byte read, one for each input,
--- and one that reads a filter
+-- the most steps of a job that hasn't ended: two for each byte read, one for each input, and one to
+-- read a filter
 abbrev pub most_turns : InputsView → ℕ
 most_turns f = 2 * reads_of f.cursors + length f.cursors + 1
 
--- the bytes of interfaces with these names, with 19 for the rest of each
+-- the bytes of interfaces with these names, at 19 bytes besides each name
 abbrev pub names_weight : List (List ℕ) → ℕ
 names_weight [] = 0
 names_weight (name ∷ names) = 19 + length name + names_weight names
 
--- the bytes of the interfaces that are declared; for pcap there are none
+-- the bytes of the declared interfaces; 0 for pcap
 abbrev pub declared_weight : Declared → ℕ
 declared_weight (PcapngFile first section) = names_weight (map (λ i. i.name) section.interfaces)
 declared_weight declared = 0
 
--- the bytes held of an input: the block with its unit, its section's interfaces, 40 for the rest
+-- the bytes held for an input: the buffer with its unit, its section's interfaces, and 40 for
+-- everything else
 abbrev pub input_weight : InputView → ℕ
 input_weight h = h.source.room + declared_weight h.source.declared + 40
 
--- the bytes held of all inputs
+-- the bytes held for all inputs
 abbrev pub inputs_weight : List InputView → ℕ
 inputs_weight [] = 0
 inputs_weight (h ∷ hs) = input_weight h + inputs_weight hs
 
--- the bytes held of the output: those of its interfaces
+-- the bytes held for the output: those of its interfaces
 abbrev pub target_weight : Target → ℕ
 target_weight (Capture sink) = names_weight (map (λ i. i.name) sink.interfaces)
 target_weight target = 0
 
--- the bytes that a job holds of its inputs and of its output, 20 for each mark in its window, and
+-- the bytes that a job holds: for its inputs and its output, 20 for each mark in its window, and
 -- 128 for its counters
 abbrev pub weight : JobState → ℕ
 weight m =
     inputs_weight m.inputs.cursors + target_weight m.output + 20 * length m.state.window
     + 128
 
--- a unit for each input, 280 bytes for each interface that inputs and output may have, these
--- marks, and the counters
+-- an upper bound of these bytes: a unit for each input, 280 for each interface that inputs and
+-- output may have, the marks, and the counters
 abbrev pub most_weight : ℕ → ℕ → ℕ
 most_weight inputs marks =
     inputs * most_in_unit + (256 * inputs + most_output_interfaces) * 280 + 20 * marks + 128
 
--- of an input no more bytes are held than its block has room for, that room is at most the length
--- of the longest unit, and its interfaces are few
+-- for an input no more bytes are held than its buffer has room for, that room is at most the length
+-- of the longest unit, and the number of its interfaces is bounded
 pub record IsSmall (h : InputView) : Type 0 where
   pub held : length h.source.block ≤ h.source.room
   pub block : h.source.room ≤ most_in_unit
@@ -120,8 +120,8 @@ pub record IsSmall (h : InputView) : Type 0 where
 abbrev pub IsBounded : InputsView → Target → Type 0
 IsBounded inputs target = All IsSmall inputs.cursors × HasFewOutputInterfaces target
 
--- What a job holds of each input is bounded, and what it holds in all; a window for n packets is
--- counted with n - 1 marks, and with none if no duplicates are searched for.
+-- What a job holds for each input is bounded, and so is the sum; a window for n packets counts as
+-- n - 1 marks, and as none if duplicates aren't searched for.
 pub record IsLight (m : JobState) : Type 0 where
   pub each : IsBounded m.inputs m.output
   pub all : weight m ≤ most_weight (length m.inputs.cursors) (places (window_of m.policy))

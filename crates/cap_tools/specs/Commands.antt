@@ -1,4 +1,4 @@
--- The steps of a command's job, from the first one on.
+-- The steps of a command's job, including those before the first packet.
 use Rattle.std.specs.Prelude.{◌≡◌, ◌⊎◌, ℕ, ◌+◌, ◌<◌, ◌≤◌, Bool, List, Option, None, Some, IsTrue, ◌++◌, length}
 use Rattle.cap_octet.specs.{Device.Stops, declared.link.Link.Link}
 use Rattle.flt_bpf.specs.{Content.Content, Listing.listing, declared.insn.Insn.Insn}
@@ -15,7 +15,7 @@ use Rattle.cap_process.specs.Messages.{IsTold, refusal_message, write_failed_mes
 use Rattle.cap_process.specs.{Reports.name_at, Selector.HavePrograms, Verdict.Filter, Verdict.initial_state}
 use Rattle.cap_inputs.specs.Inputs.{InputPast, steps_left_in}
 
--- the job whose packets go through the filter, by these programs, up to `count` that pass
+-- the job that keeps up to `count` packets by this filter, which these programs implement
 abbrev pub filtering : Rule → Option ℕ → List Content → JobView → JobView
 filtering rule count programs j = record j {
   preparing = None;
@@ -25,8 +25,8 @@ filtering rule count programs j = record j {
   done = None;
 }
 
--- The filter or the expression is refused, or there was no memory for it, and nothing is read or
--- written but the message. A message that can't be written is lost.
+-- The filter or the expression is refused, or memory for it ran out; nothing is read or written
+-- except the message. A message that can't be written is lost.
 pub record RefusesStart (refusal : Refusal) (tells : Bool) (old : JobView) (status : ℕ)
     (new : JobView) : Type 0 where
   pub status_is : status ≡ refusal_status refusal
@@ -38,7 +38,7 @@ pub record RefusesStart (refusal : Refusal) (tells : Bool) (old : JobView) (stat
     done = Some (refusal_status refusal);
   }
 
--- a listing is written, and the job ended
+-- a listing is written, and the job ends
 pub record WritesListing (insns : List Insn) (old : JobView) (status : ℕ)
     (new : JobView) : Type 0 where
   pub written : written_by new.state ≡ written_by old.state ++ listing insns
@@ -46,7 +46,7 @@ pub record WritesListing (insns : List Insn) (old : JobView) (status : ℕ)
   pub quiet : new.err ≡ old.err
   pub status_is : status ≡ 0
 
--- the output's device failed after a prefix of the listing, not the whole
+-- the output's device failed after a prefix, but not all, of the listing
 pub record StopsListing (insns : List Insn) (tells : Bool) (old : JobView) (status : ℕ)
     (new : JobView) : Type 0 where
   pub stops : Stops (written_by old.state) (listing insns) (written_by new.state)
@@ -56,7 +56,7 @@ pub record StopsListing (insns : List Insn) (tells : Bool) (old : JobView) (stat
       new.err
   pub status_is : status ≡ 1
 
--- the filter is read
+-- the filter was read
 pub record IsFiltered (asked : FilterAsked) (old new : JobView) : Type 0 where
   pub rule : Rule
   pub is : IsRule asked.words asked.code rule
@@ -64,15 +64,15 @@ pub record IsFiltered (asked : FilterAsked) (old new : JobView) : Type 0 where
   pub made : AreNew rule programs
   pub new_is : new ≡ filtering rule asked.count programs old
 
--- the filter is refused, or there was no memory for it
+-- the filter is refused, or memory for it ran out
 pub record RefusesFilter (asked : FilterAsked) (tells : Bool) (old : JobView) (status : ℕ)
     (new : JobView) : Type 0 where
   pub refusal : Refusal
   pub why : IsWhy asked.words asked.code refusal
   pub refuses : RefusesStart refusal tells old status new
 
--- the first step of a print: its filter is read and the job goes on, or it is refused and the job
--- ends
+-- the first step of a print: its filter is read and the job goes on, or the filter is refused and
+-- the job ends
 abbrev pub FilterGives : FilterAsked → Bool → JobView → Turn → JobView → Type 0
 FilterGives asked tells old Turn.More new = IsFiltered asked old new
 FilterGives asked tells old (Turn.Done status) new = RefusesFilter asked tells old status new
@@ -84,14 +84,14 @@ pub record ListsSome (words : List ℕ) (link : Link) (tells : Bool) (old : JobV
   pub compiled : IsCompiled words link prog
   pub lists : WritesListing prog old status new ⊎ StopsListing prog tells old status new
 
--- the expression is refused, or there was no memory for it
+-- the expression is refused, or memory for it ran out
 pub record RefusesExpression (words : List ℕ) (tells : Bool) (old : JobView) (status : ℕ)
     (new : JobView) : Type 0 where
   pub fault : ExprFault
   pub why : IsTextFault words fault
   pub refuses : RefusesStart (Refusal.Expression fault) tells old status new
 
--- the one step of a compilation: a listing is written, or not the whole of it, or the expression is
+-- the only step of a compilation: a listing is written, or a prefix of it, or the expression is
 -- refused
 abbrev pub CompileGives : List ℕ → Link → Bool → JobView → Turn → JobView → Type 0
 CompileGives words link tells old Turn.More new = ⊥
@@ -99,7 +99,7 @@ CompileGives words link tells old (Turn.Done status) new =
     ListsSome words link tells old status new ⊎ RefusesExpression words tells old status new
 
 -- the result of a step that prepares: for a filter on all devices, for a compilation only if
--- contracts know the bytes of the output; nothing is stated if there is nothing to prepare
+-- contracts know the bytes of the output; otherwise nothing is stated
 abbrev pub PreparesBy : Option Preparing → (output_tells tells : Bool) → JobView → Turn → JobView
     → Type 0
 PreparesBy None output_tells tells old r new = Unit {0}
@@ -113,13 +113,13 @@ abbrev pub preparing_left : Option Preparing → ℕ
 preparing_left None = 0
 preparing_left (Some preparing) = 1
 
--- the most steps that are left
+-- the most remaining steps
 abbrev pub job_left : JobView → ℕ
 job_left j = preparing_left j.preparing + steps_left_in j.state.inputs.cursors
 
--- The result of every step of a job, for all devices: nothing is left to prepare, `done` has the
--- status if the job ended, a step is counted unless the job had ended before, and the memory that
--- the job holds is bounded.
+-- The result of every step of a job, for all devices: nothing remains to be prepared, `done` has
+-- the status if the job ended, a step is counted unless the job had ended before, and the memory
+-- that the job holds is bounded.
 pub record StepKeeps (old : JobView) (r : Turn) (new : JobView) : Type 0 where
   pub prepared : new.preparing ≡ None
   pub done : new.done ≡ done_by r
@@ -147,8 +147,8 @@ abbrev pub StepReadsBy : Option Preparing → (tells goes : Bool) → JobView �
 StepReadsBy None tells goes old new = StepReads tells goes old new
 StepReadsBy (Some preparing) tells goes old new = PreparesOnly old new
 
--- the invariant of a job: before its filter is read, with every rule and programs that reading may
--- give; nothing is stated of a compilation
+-- the invariant of a job; before its filter is read, for every rule and programs that this may
+-- give; nothing is stated for a compilation
 abbrev pub DecidedBy : Option Preparing → List InputPast → List ℕ → JobView → Type 0
 DecidedBy None ss before j = Decided ss before j
 DecidedBy (Some (ReadsFilter asked)) ss before j =

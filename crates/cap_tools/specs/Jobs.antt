@@ -1,4 +1,4 @@
--- The view of a whole job, with its messages, and how a job ends.
+-- The view of a whole job, including its messages, and how a job ends.
 use Rattle.std.specs.Prelude.{◌≡◌, ℕ, ◌≤◌, Bool, true, false, List, [], length, Option, None, Some}
 use Rattle.cap_process.specs.Messages.{fault_message, write_failed_message, IsTold}
 use Rattle.cap_process.specs.Output.{Target, target_at}
@@ -22,10 +22,10 @@ pub record JobView : Type 0 where
   pub err : OutputView
   -- the number of steps made
   pub turns : ℕ
-  -- the status, if it ended
+  -- the status, if the job has ended
   pub done : Option ℕ
 
--- the state of a job that has these parts
+-- the state of a job with these parts
 abbrev pub state_at : List (List ℕ) → InputsView → SelectorView → Target → ℕ → JobState
 state_at names inputs selector output decided =
     record {
@@ -55,8 +55,8 @@ first_job a call = record {
   done = None;
 }
 
--- The invariant of a job between its steps: some bytes of each input are done, their packets are
--- decided, and what they add to the output is written; and the programs are those for the policy.
+-- The invariant of a job between its steps: a part of each input is done, its packets are decided,
+-- and what they add to the output is written; and the programs are the policy's.
 pub record Decided (ss : List InputPast) (before : List ℕ) (j : JobView) : Type 0 where
   pub packets : PacketsDecided ss before j.state
   pub programs : HavePrograms j.state.policy j.programs
@@ -73,14 +73,14 @@ abbrev pub end_status : JobEnd → ℕ
 end_status JobEnd.Complete = 0
 end_status other = 1
 
--- A step ends a job with one of the ends of `JobEnd`, and with the message and the status of that
--- end. A message that can't be written is lost.
+-- A step ends a job with one of the ends of `JobEnd`, and with that end's message and status. A
+-- message that can't be written is lost.
 pub record EndsJob (tells : Bool) (old : JobView) (status : ℕ) (new : JobView) : Type 0 where
   pub end : JobEnd
   pub leaves : StepGives old.state (Some end) new.state
   pub exact : IsTold tells old.err
       (end_message old.state.names new.state.inputs.cursors end) new.err
-  -- if all went well nothing is reported
+  -- with status 0 nothing is reported
   pub quiet : status ≡ 0 → new.err ≡ old.err
   pub status_is : status ≡ end_status end
 
@@ -113,7 +113,7 @@ abbrev pub done_by : Turn → Option ℕ
 done_by Turn.More = None
 done_by (Turn.Done status) = Some status
 
--- the names of the inputs, then of the output; and the device
+-- the names of the inputs and then of the output; and the device for messages
 pub record MessagesView : Type 0 where
   pub names : List (List ℕ)
   pub device : OutputView

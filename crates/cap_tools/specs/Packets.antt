@@ -34,23 +34,23 @@ output_form m = form_to m.names m.output
 abbrev pub work_of : JobState → Work
 work_of m = record { order = m.inputs.order; policy = m.policy; form = output_form m }
 
--- the bytes that a job's output took
+-- the bytes that a job's output has taken
 abbrev pub written_by : JobState → List ℕ
 written_by m = written_to m.output
 
--- the number of failures of a job's output
+-- how often a job's output failed
 abbrev pub failures_by : JobState → ℕ
 failures_by m = failures_to m.output
 
--- the number of bytes in all that a job's output takes at least before it fails
+-- how many bytes a job's output takes at least before it first fails
 abbrev pub room_by : JobState → ℕ
 room_by m = room_to m.output
 
--- the whole inputs, of which some bytes are done
+-- the complete inputs, parts of which are done
 abbrev pub wholes_of : List InputPast → List InputItems
 wholes_of ss = map whole_input (map (λ (s : InputPast). s.text) ss)
 
--- the progress of the job, with these packets and reports
+-- the progress of the job, with these kept packets and these reports
 abbrev pub progress_at : JobState → List Captured → List Report → JobProgress
 progress_at m packets reports =
     record {
@@ -61,15 +61,14 @@ progress_at m packets reports =
       end = None;
     }
 
--- Some bytes of each input are done: their packets are decided in the job's order, their greatest
--- time is known, and the output has what the packets that passed add, or the reports of the inputs
--- that were read to their ends. `Decided` adds the programs that judge packets.
+-- A part of each input is done: its packets are decided in the job's order, their greatest time is
+-- known, and the output has what the kept packets add, or the reports of the inputs that were read
+-- to their ends. `Decided` adds the programs that judge packets.
 pub record PacketsDecided (ss : List InputPast) (before : List ℕ) (m : JobState) : Type 0 where
   pub following : AreInputsAfter ss m.inputs.cursors
   pub greatest : KnowGreatest ss m.inputs.cursors
   pub events : List Event
-  -- the events are the first of the order of the whole inputs, and they stay the first whatever
-  -- follows what was read
+  -- the events come first in the order of the complete inputs, whatever follows what was read
   pub first : ComeFirst (sequence_of m.inputs.order (wholes_of ss)) events
   pub come : AreSettled ss m.inputs events
   pub packets : List Captured
@@ -86,15 +85,15 @@ abbrev pub asks_report : PacketOrder → Policy → Bool
 asks_report InTurn policy = is_count policy
 asks_report ByTime policy = false
 
--- the inputs, with these bytes more of input `i` done, and their packets
+-- the inputs, when these bytes of input `i`, with these packets, are done too
 abbrev pub finish_at : List InputPast → ℕ → List ℕ → List Placed → List InputPast
 finish_at [] i bytes packets = []
 finish_at (s ∷ ss) zero bytes packets =
     record { text = s.text; done = s.done ++ bytes; packets = s.packets ++ packets } ∷ ss
 finish_at (s ∷ ss) (suc i) bytes packets = s ∷ finish_at ss i bytes packets
 
--- The bytes that a step adds to the output, if the job's progress is `far` before the step and
--- `next` after it: none, or those of a packet that passes, of an input's report or of a clean end.
+-- The bytes that a step adds to the output if the job's progress is `far` before it and `next`
+-- after it: none, or those of a kept packet, of an input's report or of a clean end.
 pub data OneAnswer (form : Form) (link : Option ℕ) (far next : JobProgress)
     (bytes : List ℕ) : Type 0 where
   nothing : next.packets ≡ far.packets → next.reports ≡ far.reports → bytes ≡ []
@@ -106,7 +105,7 @@ pub data OneAnswer (form : Form) (link : Option ℕ) (far next : JobProgress)
   closes : next.packets ≡ far.packets → next.reports ≡ far.reports → next.end ≡ Some Complete
       → bytes ≡ closing_text form link far.packets → OneAnswer form link far next bytes
 
--- A step appends one answer to the output, or nothing.
+-- A step appends one such piece to the output, or nothing.
 pub record AppendsOnce (form : Form) (link : Option ℕ) (far next : JobProgress)
     (old new : Target) : Type 0 where
   pub bytes : List ℕ
@@ -118,7 +117,7 @@ abbrev pub progress_of : {ss : List InputPast} {before : List ℕ} {m : JobState
     → PacketsDecided ss before m → JobProgress
 progress_of {ss} {before} {m} d = progress_at m d.packets d.reports
 
--- a job goes on, and finished some bytes of one input
+-- a job goes on, after it is done with some bytes of one input
 pub record GoesOn {ss : List InputPast} {before : List ℕ} {old : JobState}
     (d : PacketsDecided ss before old) (new : JobState) : Type 0 where
   pub input : ℕ
@@ -152,8 +151,8 @@ pub record CompletesOutput {ss : List InputPast} {before : List ℕ} {old : JobS
   -- the output's device didn't fail
   pub device : failures_by new ≡ failures_by old
 
--- This input was read on in this step, and its device failed or there was no memory for its next
--- unit: it is cut short there, at the offset of `after`.
+-- This input was read on in this step, and its device failed or memory for its next unit ran out:
+-- it is cut short there, at the offset of `after`.
 pub record EndsByCut {ss : List InputPast} {before : List ℕ} {old : JobState}
     (d : PacketsDecided ss before old) (new : JobState) (input : ℕ) (fault : Fault)
     (after : SourceView) : Type 0 where
@@ -182,8 +181,8 @@ pub data Meets (old new : InputsView) : Option Event → Type 0 where
       → Meets old new (Some (InputEnd input (kind_of read.source.declared) read.source.offset))
   all_ends : next_of old ≡ Next.Finish → new ≡ old → Meets old new None
 
--- There was no memory to write the current packet of this input, which is next in the order and
--- begins at the offset of `after`. The bytes of the output are unchanged.
+-- Memory to write the current packet of this input ran out. The packet is next in the order, and
+-- its unit is at the offset of `after`. The output is unchanged.
 pub record WantsMemory {ss : List InputPast} {before : List ℕ} {old : JobState}
     (d : PacketsDecided ss before old) (new : JobState) (input : ℕ) (fault : Fault)
     (after : SourceView) : Type 0 where
@@ -195,7 +194,8 @@ pub record WantsMemory {ss : List InputPast} {before : List ℕ} {old : JobState
   pub written : written_by new ≡ written_by old
   pub device : failures_by new ≡ failures_by old
 
--- The output's device failed in this step, after a prefix of what comes next in the whole output.
+-- The output's device failed in this step, after a prefix of the bytes that come next in the
+-- complete output.
 pub record StopsWriting {ss : List InputPast} {before : List ℕ} {old : JobState}
     (d : PacketsDecided ss before old) (new : JobState) : Type 0 where
   pub failures : failures_by new ≡ failures_by old + 1
@@ -210,15 +210,15 @@ pub record StopsWriting {ss : List InputPast} {before : List ℕ} {old : JobStat
   pub so_far : written_by old ≡ before ++ output_text (output_form old) d.packets d.reports
   pub stops : Stops (written_by old) bytes (written_by new)
 
--- the inputs end like this, or the current packet is refused; or the input is cut short; or there
--- was no memory
+-- the inputs end like this, or the current packet is refused; or the input is cut short; or memory
+-- ran out
 abbrev pub WhyBroken : {ss : List InputPast} {before : List ℕ} {old : JobState}
     → PacketsDecided ss before old → JobState → ℕ → Fault → SourceView → Type 0
 WhyBroken {ss} {before} {old} d new input fault after =
     CompletesOutput (wholes_of ss) d new (FaultIn input fault after.offset)
     ⊎ EndsByCut d new input fault after ⊎ WantsMemory d new input fault after
 
--- the job ends by a fault in this input
+-- the job ends with a fault in this input
 pub record BreaksAt {ss : List InputPast} {before : List ℕ} {old : JobState}
     (d : PacketsDecided ss before old) (new : JobState) (input : ℕ)
     (fault : Fault) : Type 0 where
@@ -239,7 +239,7 @@ abbrev pub StepLeaves : {ss : List InputPast} {before : List ℕ} {old : JobStat
 StepLeaves {ss} {before} {old} d None new = GoesOn d new
 StepLeaves {ss} {before} {old} d (Some e) new = EndLeaves d e new
 
--- the same, whatever was decided before it
+-- the result of a step, for any decided packets before it
 abbrev pub StepGives : JobState → Option JobEnd → JobState → Type 0
 StepGives old r new =
     (ss : List InputPast) (before : List ℕ) (d : PacketsDecided ss before old) → StepLeaves d r new

@@ -8,7 +8,7 @@ use Rattle.cap_process.specs.{Selector.edit_rule_of, Verdict.Policy, Verdict.Edi
 use Rattle.cap_process.specs.declared.output.Writing.{Writing}
 use Rattle.cap_io.specs.Sequence.{PacketOrder, InTurn, order_of}
 
--- a filter by these words, or by a listing, for `count` packets at most
+-- a filter by this expression or by a listing, for at most `count` packets
 pub record FilterAsked : Type 0 where
   pub words : List ℕ
   pub code : Option (List ℕ)
@@ -19,8 +19,7 @@ abbrev pub asked_by : {Z : Type 0} → Print Z → FilterAsked
 asked_by print =
     record { words = string_bytes print.expr; code = listing_of print; count = print.count }
 
--- what a job does before its first packet: it reads a filter, or it compiles an expression, and
--- nothing else
+-- what a job does before its first packet: reads a filter, or compiles an expression, or nothing
 pub data Preparing : Type 0 where
   ReadsFilter : FilterAsked → Preparing
   Compiles : (words : List ℕ) → (link : Link) → Preparing
@@ -30,26 +29,26 @@ abbrev pub preparing_of : {Z : Type 0} → Preparation Z → Preparing
 preparing_of (Preparation.Filter print) = ReadsFilter (asked_by print)
 preparing_of (Preparation.Listing compile) = Compiles (string_bytes compile.expr) compile.link
 
--- The preparation, the policy for packets, their order, and what is written. The policy of a print
--- is the filter that it reads, and a compilation has no packets: for both `policy` means nothing.
+-- The preparation, the policy for packets, their order, and what is written. A print's policy is
+-- the filter that it reads, and a compilation has no packets: for both, `policy` isn't used.
 pub record Assignment : Type 0 where
   pub preparing : Option Preparing
   pub policy : Policy
   pub order : PacketOrder
   pub writing : Writing
 
--- what a print writes: packets in a format if there is one, else their lines
+-- what a print writes: packets in a format if one is given, else their lines
 abbrev pub lines_unless : Option Format → Options → Writing
 lines_unless None options = Writing.Lines options
 lines_unless (Some format) options = Writing.Capture format
 
--- only packets, with nothing before them
+-- the assignment for packets only, without preparation
 abbrev pub without_preparation : Policy → PacketOrder → Writing → Assignment
 without_preparation policy order to =
     record { preparing = None; policy = policy; order = order; writing = to }
 
--- this is done before the first packet; the policy means nothing, and the packets that a print
--- filters come in the order of its input
+-- the assignment with this preparation; the policy isn't used, and the packets that a print filters
+-- come in the order of its input
 abbrev pub with_preparation : Preparing → Writing → Assignment
 with_preparation preparing to =
     record { preparing = Some preparing; policy = KeepAll; order = InTurn; writing = to }

@@ -1,4 +1,4 @@
--- The names that most proofs here cite, passed on from one place. Declares nothing.
+-- Re-exports the names that most proofs of this crate cite; declares nothing.
 pub use Rattle.std.proofs.Common.{◌≡◌, ◌∙◌, ap, sym, refl, subst, Bool, true, false, List, [], ◌∷◌, Option, Some, None, ◌&&◌, is_some, not, find, if◌then◌else◌}
 pub use Rattle.std.proofs.Common.{option_map, Box, ◌≤◌, ap₂, length, map, nat_lt, ℕ, unwrap_or, codes, inl, inr, lit<, suc, ◌+◌, cond, ◌<◌, ◌^◌, rules, arith}
 pub use Rattle.std.proofs.Common.{IfSome, Result, Ok, Err, ◌||◌, ◌-◌, ◌*◌, ◌==◌, take, drop, nat_le, String, string_bytes, vec_len, is_none, nat_eq}

@@ -46,7 +46,7 @@ AreNamed (s ∷ rest) = ((asked : Subcommand) × (s.name ≡ name_of asked)) × 
 abbrev IsEntered : Option (Text × List Row) → Type 0
 IsEntered into = (asked : Subcommand) × (matches : List Row) × (into ≡ Some (name_of asked, matches))
 
--- the first that a word names is one of them
+-- the first subcommand that a word names is one of them
 named_among : (words : List Text) (test : Shape → Bool) (subs : List Shape) → AreNamed subs
     → is_some (option_map (λ s. rows_at s words) (find test subs)) ≡ true
     → IsEntered (option_map (λ s. rows_at s words) (find test subs))
@@ -110,7 +110,7 @@ asks words (Some p) name matches taken named found =
     let same : p ≡ (name, matches) = λ i. (name_is i, matches_are i) in
     subst (λ (q : Text × List Row). Asks words (subcommand_of_name q.0) q.1) same (asks_pair words p taken)
 
--- clap tells the name and the matches of a subcommand apart
+-- clap distinguishes the name and the matches of a subcommand
 pub names_rows : {Z : Type 0} (found : Option (Box SubCommand Z))
     → option_map (λ b. (out-SubCommand (box_value b)).name.now) found ≡ option_map (λ p. p.0) (subcommand_rows found)
 names_rows None = refl

@@ -10,11 +10,11 @@ one_more step f xs i d old new made within adds is =
     let here : drop i xs ≡ slice_index_or xs i d ∷ drop (i + 1) xs = rw add-one (drop-cons xs i d within) in
     ap (λ a. fold step a (map f (drop (i + 1) xs))) (adds ∙ ap (step old) is) ∙ ap (λ rest. fold step old (map f rest)) (sym here)
 
--- after the last row none is left
+-- after the last row none remains
 pub no_more : {A B X : Type 0} (step : A → B → A) (f : X → B) (xs : List X) (i : ℕ) (new whole : A) → length xs ≤ i
     → fold step new (map f (drop i xs)) ≡ whole → new ≡ whole
 no_more step f xs i new whole past is = ap (λ rest. fold step new (map f rest)) (sym (drop_all i xs past)) ∙ is
 
--- an argument of one command alone leaves the command without arguments of all subcommands
+-- an argument of only one command doesn't change the other arguments of all subcommands
 pub stays : (new old own : Bool) → new ≡ (old || own) → own ≡ false → new ≡ old
 stays new old own is local = is ∙ ap (λ b. old || b) local ∙ or-false old

@@ -37,7 +37,7 @@ is_read text r is = go (range_number text) (is ∙ ap in_u64 (same_number text))
 lt_both : (n k : ℕ) → nat_lt n k ≡ nat_lt (1 + n) (suc k)
 lt_both n k = grind (arith, nat_tests)
 
--- a word has an element that passes where the first such place lies within it
+-- a word has an element for which a test is true if the first such index is within it
 pub any_by_place : {X : Type 0} (p : X → Bool) (xs : List X) → list_any p xs ≡ nat_lt (position_or_len p xs) (length xs)
 any_by_place p [] = refl
 any_by_place p (x ∷ xs) = go (p x) (any_by_place p xs)

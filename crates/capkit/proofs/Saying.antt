@@ -1,4 +1,4 @@
--- A line, or its fault, is what the words of the command line ask for.
+-- A line, or a fault, is what the words of the command line ask for.
 use Rattle.capkit.proofs.Common.{◌≡◌, inl, inr, refl, List, Some, None, Result, Ok, Err, IfOk, IfErr, OnOk, Bool, true, false, length, [], ◌∷◌, if◌then◌else◌}
 use Rattle.capkit.proofs.Common.{is_none, nat_lt, list_any, Row, Text, first_of, most_inputs, most_ranges, Asks, IsUsageOf, IsLineOf, SaysFault, SaysLine}
 use Rattle.capkit.proofs.Common.{fault_in, files_in, has_bad_time, has_exclusion, has_two_shifts, or_else, read_names, text_in, texts_in, uses_name_twice}

@@ -66,7 +66,7 @@ between (Some n) (Some m) range same = go (is_range n m) refl same
         (ap (λ (r : ℕ × ℕ). Some r.0) pair, ap (λ (r : ℕ × ℕ). Some r.1) pair, subst (λ (r : ℕ × ℕ). is_range r.0 r.1 ≡ true) pair is)
     go false is found = cc
 
--- a word with a hyphen is what stands around its first one
+-- a word with a hyphen consists of the texts before and after its first one
 around : (word : List ℕ) → list_any is_hyphen word ≡ true → before_first is_hyphen word ++ 45 ∷ after_first is_hyphen word ≡ word
 around word some =
     let within : position_or_len is_hyphen word < length word = ltb-true _ _ (sym (any_by_place is_hyphen word) ∙ some) in

@@ -8,11 +8,11 @@ use Rattle.cap_command.specs.Command.{least_window, most_window}
 use Rattle.capkit.specs.declared.ids.TheConstants as ids
 use Rattle.capkit.specs.declared.arguments.Subcommand.{Subcommand}
 
--- the greatest number of 32 bits
+-- the greatest 32-bit number
 abbrev pub most_32 : ℕ
 most_32 = 2 ^ 32 - 1
 
--- the greatest number of 64 bits
+-- the greatest 64-bit number
 abbrev pub most_64 : ℕ
 most_64 = 2 ^ 64 - 1
 
@@ -67,8 +67,8 @@ name_of Subcommand.Infos = codes "infos"
 name_of Subcommand.Print = codes "print"
 name_of Subcommand.Compile = codes "compile"
 
--- the arguments of `edit`: its options, and then those by place, each in the order in which its
--- help lists them
+-- the arguments of `edit`: its options, then its positional arguments, each in the order in which
+-- its help lists them
 abbrev pub edit_rules : (formats : ValueParser) → List Rule
 edit_rules formats =
     flag (by_letter (codes "r") ids.KEEP.now)
@@ -86,7 +86,7 @@ edit_rules formats =
     ∷ many (by_place ids.RANGE.now)
     ∷ []
 
--- the arguments of `merge`, in such an order
+-- the arguments of `merge`, in that order
 abbrev pub merge_rules : (formats : ValueParser) → List Rule
 merge_rules formats =
     flag (by_letter (codes "a") ids.APPEND.now)
@@ -96,11 +96,11 @@ merge_rules formats =
     ∷ many (by_place ids.MORE.now)
     ∷ []
 
--- the arguments of `infos`, in such an order
+-- the arguments of `infos`, in that order
 abbrev pub infos_rules : List Rule
 infos_rules = as_required (by_place ids.FILE.now) ∷ many (by_place ids.MORE.now) ∷ []
 
--- the arguments of `print`, in such an order
+-- the arguments of `print`, in that order
 abbrev pub print_rules : (formats : ValueParser) → List Rule
 print_rules formats =
     with_wide_bounds 1 most_64 (by_letter (codes "c") ids.COUNT.now)
@@ -113,7 +113,7 @@ print_rules formats =
     ∷ many (by_place ids.WORD.now)
     ∷ []
 
--- the arguments of `compile`, in such an order
+-- the arguments of `compile`, in that order
 abbrev pub compile_rules : (links : ValueParser) → List Rule
 compile_rules links =
     with_choices links (by_name (codes "link") ids.LINK.now) ∷ many (by_place ids.WORD.now) ∷ []
@@ -157,11 +157,11 @@ line_shapes formats links =
 abbrev pub line_app : (formats links : ValueParser) → App
 line_app formats links = with_shapes line_without_commands (line_shapes formats links)
 
--- the line is simple: what clap states of a parse, it states of simple commands
+-- the line is a simple command: what clap states about parsing those applies
 abbrev pub LineIsSimple : Type 0
 LineIsSimple = (formats links : ValueParser) → is_simple (line_app formats links) ≡ true
 
--- the line is simple and free: why a parse fails, clap states of such commands
+-- the line is a simple and free command: what clap states about failures to parse those applies
 abbrev pub LineIsFree : Type 0
 LineIsFree = (formats links : ValueParser) → is_simple_and_free (line_app formats links) ≡ true
 
@@ -173,13 +173,13 @@ format_names = map format_name all_formats
 abbrev pub link_names : List Text
 link_names = map link_name all_links
 
--- the values that an argument may have; a list is the program's, so no definition can name its
--- place in memory
+-- the values that an argument may have; their list is allocated by the program, so no definition
+-- can name its address
 abbrev pub AreChoices : List Text → ValueParser → Type 0
 AreChoices texts (ValueParser.Names names) = map (λ name. name.now) names.now ≡ texts
 AreChoices texts _ = ⊥
 
--- clap has nothing against the words, and they enter this subcommand with these matches
+-- clap accepts the words; they enter this subcommand with these matches
 pub record TakesWords (words : List Text) (entered : Option (Text × List Row)) : Type 0 where
   pub formats : ValueParser
   pub links : ValueParser
@@ -188,8 +188,8 @@ pub record TakesWords (words : List Text) (entered : Option (Text × List Row)) 
   pub no_fault : fault_of (line_app formats links) words ≡ []
   pub enters : subcommand_of (line_app formats links) words ≡ entered
 
--- clap gives this error for the words: it has one of the kinds of their faults, or memory ran out,
--- which is the case if clap takes the words
+-- clap returns this error for the words: one of the kinds of their faults; or, if clap accepts the
+-- words, memory ran out
 pub record RefusesWords (words : List Text) (error : Error) : Type 0 where
   pub formats : ValueParser
   pub links : ValueParser

@@ -1,4 +1,4 @@
--- How a run ends, depending on whether its output could be written.
+-- How a run ends, by whether its output could be written.
 use Rattle.std.specs.Prelude.{ℕ, Bool, true, false, ◌||◌, Option, Some, None, is_some, max, if◌then◌else◌}
 use Rattle.std.specs.declared.io.ErrorKind.{ErrorKind, TheVariants.BrokenPipe}
 
@@ -7,13 +7,13 @@ abbrev pub is_broken_pipe : Option ErrorKind → Bool
 is_broken_pipe (Some BrokenPipe) = true
 is_broken_pipe _ = false
 
--- a write of the job failed (`cause`), or the write of what was buffered, after the job (`flushed`)
+-- a write of the job failed (`cause`), or that of buffered bytes after the job (`flushed`)
 abbrev pub has_failed : (cause flushed : Option ErrorKind) → Bool
 has_failed cause flushed = is_some cause || is_some flushed
 
--- The status of a run that the job ended with `status`. The job's message reports a failed write of
--- the job. That of what was buffered isn't: None says that it is still to be reported, unless the
--- reader of a pipe went away.
+-- The exit status of a run whose job ended with `status`. The job's own message has reported its
+-- failed write, but not that of buffered bytes: None means that this must still be reported, unless
+-- the reader of a pipe went away.
 abbrev pub status_after_writes : (status : ℕ) → (cause flushed : Option ErrorKind) → Option ℕ
 status_after_writes status None None = Some status
 status_after_writes status (Some cause) flushed = Some (max status 1)

@@ -18,7 +18,7 @@ use Rattle.capkit.specs.declared.ids.TheConstants as ids
 
 -- ---- clap's matches
 
--- the first value of an argument, or the empty text
+-- the first value of an argument, or an empty text
 abbrev pub text_in : Text → List Row → Text
 text_in id matches = unwrap_or (first_of id matches) []
 
@@ -30,35 +30,36 @@ texts_in id matches = unwrap_or (all_of id matches) []
 abbrev pub flag_in : Text → List Row → Bool
 flag_in id matches = option_map_or (λ text. bytes_eq text (codes "true")) (one_of id matches) false
 
--- the format that an argument names, or pcapng if it isn't given, or names none
+-- the format that an argument names; pcapng if it isn't given, or names none
 abbrev pub format_in : Text → List Row → Format
 format_in id matches = unwrap_or (option_and_then format_of_name (first_of id matches)) Pcapng
 
--- the link that an argument names, or Ethernet if it isn't given, or names none
+-- the link that an argument names; Ethernet if it isn't given, or names none
 abbrev pub link_in : Text → List Row → Link
 link_in id matches = unwrap_or (option_and_then link_of_name (first_of id matches)) Ether
 
--- the number from `least` to `most` that a text writes; a plus sign may be in front of it
+-- the number that a text means, from `least` to `most`; it may begin with a plus sign
 abbrev pub number_between : (least most : ℕ) → Text → Option ℕ
 number_between least most text =
     if is_unsigned_in least most text then Some (digits_value 10 (without_leading_plus text))
     else None
 
--- the number of an argument; clap takes none that isn't between `least` and `most`
+-- the number that an argument has; clap accepts only those from `least` to `most`
 abbrev pub argument_number : (least most : ℕ) → Text → List Row → Option ℕ
 argument_number least most id matches =
     option_and_then (number_between least most) (one_of id matches)
 
--- the time that an argument names, in nanoseconds since 1970-01-01 00:00:00 UTC; None if it
--- isn't given, or names none
+-- the time of an argument, in nanoseconds since 1970-01-01 00:00:00 UTC; None if it isn't given, or
+-- isn't a time
 abbrev pub time_in : Text → List Row → Option ℕ
 time_in id matches = option_and_then time_value (first_of id matches)
 
--- the nanoseconds of an argument's number of seconds; None if it isn't given, or names none
+-- the nanoseconds of an argument's number of seconds; None if it isn't given, or isn't one
 abbrev pub duration_in : Text → List Row → Option ℕ
 duration_in id matches = option_and_then duration_value (first_of id matches)
 
--- times are shifted by one of the spans, in nanoseconds, or not; for both by the first
+-- the shift of times by one of these spans, in nanoseconds, or none; if both are given, by the
+-- first
 abbrev pub shift_by : (later earlier : Option ℕ) → Shift
 shift_by (Some span) earlier = Shift.Later span
 shift_by None (Some span) = Shift.Earlier span
@@ -68,7 +69,7 @@ shift_by None None = Shift.None
 abbrev pub shift_in : List Row → Shift
 shift_in matches = shift_by (duration_in ids.LATER.now matches) (duration_in ids.EARLIER.now matches)
 
--- the format in which packets are written, where `-w` names a capture; else lines are printed
+-- the format of the packets if `-w` names a capture; else None, and lines are printed
 abbrev pub write_in : List Row → Option Format
 write_in matches =
     option_map (λ name. format_in ids.FORMAT.now matches) (first_of ids.OUT.now matches)
@@ -95,15 +96,15 @@ range_fault words =
 abbrev pub name_fault : List Text → Option Text → Option Usage
 name_fault inputs output = if uses_name_twice inputs output then Some NameUsedTwice else None
 
--- an argument has a text that isn't a time
+-- whether an argument's text isn't a time
 abbrev pub is_bad_time : Text → List Row → Bool
 is_bad_time id matches = is_some (first_of id matches) && is_none (time_in id matches)
 
--- an argument has a text that isn't a number of seconds
+-- whether an argument's text isn't a number of seconds
 abbrev pub is_bad_duration : Text → List Row → Bool
 is_bad_duration id matches = is_some (first_of id matches) && is_none (duration_in id matches)
 
--- an argument for a time or for a number of seconds has a text that is none
+-- whether the text of an argument for a time or a number of seconds isn't one
 abbrev pub has_bad_time : List Row → Bool
 has_bad_time matches =
     is_bad_time ids.START.now matches || (is_bad_time ids.STOP.now matches
@@ -113,7 +114,7 @@ has_bad_time matches =
 abbrev pub time_fault : List Row → Option Usage
 time_fault matches = if has_bad_time matches then Some BadTime else None
 
--- times must be shifted both later and earlier, which can't be
+-- whether times should be shifted both later and earlier
 abbrev pub has_two_shifts : List Row → Bool
 has_two_shifts matches =
     is_some (first_of ids.LATER.now matches) && is_some (first_of ids.EARLIER.now matches)
@@ -152,29 +153,29 @@ merge_fault matches = files_fault (files_in matches) (Some (text_in ids.OUT.now 
 abbrev pub infos_fault : List Row → Option Usage
 infos_fault matches = files_fault (files_in matches) None
 
--- the names that are read: the capture's, and the listing's if there is one
+-- the names of the inputs: the capture's, and the listing's if there is one
 abbrev pub read_names : List Row → List Text
 read_names matches =
     text_in ids.FILE.now matches ∷ option_to_list (first_of ids.LISTING.now matches)
 
--- a listing and words of an expression are given, of which a print takes one
+-- whether both a listing and an expression are given; a print takes only one
 abbrev pub has_two_filters : List Row → Bool
 has_two_filters matches =
     is_some (first_of ids.LISTING.now matches)
     && nat_lt 0 (length (texts_in ids.WORD.now matches))
 
--- a capture must be written, and lines must have link headers or bytes
+-- whether a capture is written, but link headers or bytes of lines are asked for
 abbrev pub has_two_outputs : List Row → Bool
 has_two_outputs matches =
     is_some (first_of ids.OUT.now matches)
     && (flag_in ids.LINK_HEADER.now matches || flag_in ids.BYTES.now matches)
 
--- a format is given, though no capture is written
+-- whether a format is given though no capture is written
 abbrev pub has_idle_format : List Row → Bool
 has_idle_format matches =
     is_some (first_of ids.FORMAT.now matches) && is_none (first_of ids.OUT.now matches)
 
--- options are given that exclude each other
+-- whether options are given that exclude each other
 abbrev pub has_exclusion : List Row → Bool
 has_exclusion matches =
     has_two_filters matches || (has_two_outputs matches || has_idle_format matches)
@@ -191,7 +192,7 @@ print_fault matches =
 
 -- ---- lines
 
--- the edit has what the options say, besides its ranges
+-- the edit has everything that the options ask for, except its ranges
 pub record HasOptions (matches : List Row) (edit : Edit Global) : Type 0 where
   pub keep : edit.keep ≡ flag_in ids.KEEP.now matches
   pub start : edit.start ≡ time_in ids.START.now matches
@@ -224,14 +225,14 @@ pub record IsMergeOf (matches : List Row) (line : Line) : Type 0 where
   pub output : option_map string_bytes line.output ≡ Some (text_in ids.OUT.now matches)
   pub code : line.code ≡ None
 
--- the line asks for the reports that the matches ask for
+-- the line asks for the same reports as the matches
 pub record IsInfosOf (matches : List Row) (line : Line) : Type 0 where
   pub command : line.command ≡ Command.Infos
   pub inputs : map string_bytes line.inputs.items ≡ files_in matches
   pub output : line.output ≡ None
   pub code : line.code ≡ None
 
--- the line is the print that the matches ask for; the listing is named, and not yet read
+-- the line is the print that the matches ask for; its listing is named but not read yet
 pub record IsPrintOf (matches : List Row) (line : Line) : Type 0 where
   pub print : Print Global
   pub command : line.command ≡ Command.Print print
@@ -273,22 +274,22 @@ IsLineOf Subcommand.Infos matches line = IsInfosOf matches line
 IsLineOf Subcommand.Print matches line = IsPrintOf matches line
 IsLineOf Subcommand.Compile matches line = IsCompileOf matches line
 
--- a line is not read: memory ran out, or this is its first fault
+-- why a line isn't read: memory ran out, or it has this as its first fault
 abbrev pub IsUsageOf : Option Usage → Usage → Type 0
 IsUsageOf fault usage = (usage ≡ Memory) ⊎ (fault ≡ Some usage)
 
--- clap takes the words, and these are its matches of the subcommand
+-- clap accepts the words, and these are its matches for the subcommand
 abbrev pub Asks : List Text → Subcommand → List Row → Type 0
 Asks words asked matches = TakesWords words (Some (name_of asked, matches))
 
--- the words ask for the line: clap takes them, and their matches have no fault
+-- the words ask for the line: clap accepts them, and their matches have no fault
 abbrev pub SaysLine : List Text → Line → Type 0
 SaysLine words line =
     (asked : Subcommand) × (matches : List Row) × Asks words asked matches
     × (fault_in asked matches ≡ None) × IsLineOf asked matches line
 
--- the words aren't a line: clap refuses them, or it takes them, and memory ran out or this is their
--- first fault
+-- the words aren't a line: clap refuses them; or it accepts them, and memory ran out or this is
+-- their first fault
 abbrev pub SaysFault : List Text → Usage → Type 0
 SaysFault words (Refused error) = RefusesWords words error
 SaysFault words usage =
@@ -302,7 +303,7 @@ abbrev pub has_expression : {Z : Type 0} → Command Z → Bool
 has_expression (Command.Print print) = nat_lt 0 (length (string_bytes print.expr))
 has_expression _ = false
 
--- a line may be run once its listing is read
+-- whether a line may be run once its listing is read
 abbrev pub is_ready : Line → Bool
 is_ready line =
     is_proper line.command (vec_len line.inputs)

@@ -3,12 +3,12 @@ use Rattle.std.specs.{List.list_any, Option.option_map_or}
 use Rattle.std.specs.Prelude.{◌&&◌, ◌||◌, ℕ, Bool, false, not, List, nat_lt, codes, count_by, Option}
 use Rattle.std.specs.Str.{bytes_eq}
 
--- the name is that of a standard stream, `-`
+-- whether a name means a standard stream: `-`
 abbrev pub is_standard : List ℕ → Bool
 is_standard name = bytes_eq name (codes "-")
 
--- the output, unless it is standard output, is an input too; or standard input is more than one
--- input
+-- whether the output, unless it is standard output, is also an input, or standard input is an input
+-- more than once
 abbrev pub uses_name_twice : List (List ℕ) → Option (List ℕ) → Bool
 uses_name_twice inputs output =
     option_map_or

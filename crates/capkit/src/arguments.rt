@@ -34,8 +34,8 @@ pub enum Subcommand {
     Compile,
 }
 
-/// The subcommand of this name. clap refuses all names except the five, so any name other than the
-/// first four is `compile`.
+/// The subcommand of this name. clap accepts only the five names, so any other than the first four
+/// is `compile`.
 pub fn subcommand_of_name(name: &str) -> Subcommand
     ensures { result ≡ subcommand_of_name name.now }
 {
@@ -118,7 +118,7 @@ fn line_without_commands<'a>(alloc: Global) -> Result<Command<'a>, AllocError>
     ensures { IfOk result (λ command. app_of command ≡ line_without_commands) }
 {
     Command::new(alloc, NAME)
-        .about("A workbench for saved packet captures")
+        .about("Edit, merge, filter and print saved packet captures")
         .after_help(LINE_HELP)
         .version(VERSION)
         .no_binary_name(true)

@@ -15,19 +15,20 @@ const USAGE_OF: &str = "\nUsage: capkit ";
 /// dash and the first digit.
 const NEGATIVE: &str = "-N";
 
-/// Options of other tools, one per line: the command, the option, and after the colon what does the
-/// same here. They are those of editcap, mergecap, capinfos, tcpdump and tshark that clap refuses
-/// without advice.
+/// Options of other tools, one per line: the command (`<COMMAND>` if the line names none), the
+/// option, and after the colon what does the same here. They are those of editcap, mergecap,
+/// capinfos, tcpdump and tshark that clap refuses without advice.
 const HINTS: &str = "\
 edit -t: see --later, --earlier
 edit -S: see --later, --earlier
 edit -C: see --chop-start, --chop-end
 edit --chop: see --chop-start, --chop-end
-edit --novlan: see --chop-start
-edit --skip-radiotap-header: see --chop-start
+edit -I: -D compares whole packets, after --chop-start
+edit --novlan: -D compares whole packets, with their VLAN tags
+edit --skip-radiotap-header: -D compares whole packets, after --chop-start
 edit -c: split by -r and ranges: 1-100, 101-200
 edit -i: split by -A and -B
-edit -d: see -D
+edit -d: see -D 5
 edit -w: OUT is named after IN, without -w
 edit --format: see -F
 edit -T: the link type is kept
@@ -52,8 +53,8 @@ infos -e: the report has every line; pick them with grep
 print -r: the file is named without -r
 print -n: names are never looked up
 print -N: names are never looked up
-print -X: see -x
-print -A: see -x
+print -X: see -x, which prints bytes without characters
+print -A: see -x, which prints bytes without characters
 print -F: see --format; for words in a file \"$(cat FILE)\"
 print -d: see compile
 print -s: see edit -s
@@ -68,7 +69,12 @@ print -C: see edit -r, which splits by ranges
 print -G: see edit -A, -B, which split by time
 print -Y: an expression is written after FILE, without -Y
 compile -d: a listing has the form of tcpdump -ddd
-compile -y: see --link";
+compile -y: see --link
+<COMMAND> -r: write capkit print FILE, without -r
+<COMMAND> -n: write capkit print FILE; names are never looked up
+<COMMAND> -w: write capkit print -w OUT FILE
+<COMMAND> -i: capkit print - reads what tcpdump -i eth0 -U -w - writes
+<COMMAND> -d: see capkit compile";
 
 /// The hint for an option that a command doesn't know, of `HINTS`; `None` if it has none.
 fn hint_for_option(command: &str, option: &str) -> Option<&'static str> {
@@ -85,13 +91,15 @@ fn hint_for_option(command: &str, option: &str) -> Option<&'static str> {
 }
 
 /// The hint for a refusal of clap's with this text: the text shows the option and, in its usage,
-/// the command. `None` if it isn't the refusal of an unknown option, or the option has no hint.
+/// the command, or `<COMMAND>` if the line names none. `None` if it isn't the refusal of an unknown
+/// option, or the option has no hint.
 pub(crate) fn hint_for_refusal(refusal: &str) -> Option<&'static str> {
     if let Some(text) = refusal.strip_prefix(UNKNOWN)
         && let Some((option, following)) = text.split_once("'")
         && let Some((_, usage)) = following.split_once(USAGE_OF)
-        && let Some((command, _)) = usage.split_once(" ")
+        && let Some((usage, _)) = usage.split_once("\n")
     {
+        let (command, _) = usage.split_once(" ").unwrap_or((usage, ""));
         let name = match option.as_bytes() {
             [b'-', b'0'..=b'9'] => NEGATIVE,
             _ => option,

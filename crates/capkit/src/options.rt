@@ -92,7 +92,7 @@ const WORD: Argument = Argument {
     id: ids::WORD,
     name: Name::Place,
     value: Value::Words,
-    help: "The words of an expression, as in capkit-filter(7)",
+    help: "Expression, in one word or more: see capkit-filter(7)",
 };
 
 const EDIT: CommandRow = CommandRow {
@@ -110,7 +110,7 @@ const EDIT: CommandRow = CommandRow {
             id: ids::START,
             name: Name::Letter('A'),
             value: Value::Text("T"),
-            help: "Keep packets since T: 2026-01-31T12:00:00Z, or seconds",
+            help: "Keep packets since T: 2026-01-31T12:00:00Z, or Unix time",
         },
         Argument {
             id: ids::STOP,
@@ -176,7 +176,7 @@ const EDIT: CommandRow = CommandRow {
             id: ids::RANGE,
             name: Name::Place,
             value: Value::Words,
-            help: "Packet numbers, from 1: N, or N-M for N to M",
+            help: "Packets to delete, by number from 1: N, or N-M (-r keeps them)",
         },
     ],
 };
@@ -211,7 +211,7 @@ const MERGE: CommandRow = CommandRow {
 
 const INFOS: CommandRow = CommandRow {
     name: "infos",
-    about: "Write a report on each capture",
+    about: "Report packet counts, sizes, times and order",
     examples: INFOS_HELP,
     arguments: &[FILE, MORE],
 };
@@ -232,13 +232,13 @@ const PRINT: CommandRow = CommandRow {
             id: ids::LINK_HEADER,
             name: Name::Letter('e'),
             value: Value::Flag,
-            help: "Print the link header of each packet too",
+            help: "Also print the link header of each packet",
         },
         Argument {
             id: ids::BYTES,
             name: Name::Letter('x'),
             value: Value::Flag,
-            help: "Print the bytes after the link header too",
+            help: "Also print the bytes that follow the link header",
         },
         Argument {
             id: ids::OUT,
@@ -250,7 +250,7 @@ const PRINT: CommandRow = CommandRow {
             id: ids::FORMAT,
             name: Name::Long("format"),
             value: Value::Format,
-            help: FORMAT_HELP,
+            help: "Format to write, with -w (default: pcapng){n}",
         },
         Argument {
             id: ids::LISTING,

@@ -21,7 +21,8 @@ pub enum Usage {
     /// A word names no time, or no number of seconds.
     #[error("bad time")]
     BadTime,
-    /// Options exclude each other, or a listing excludes the words of an expression.
+    /// Options exclude each other, a listing excludes the words of an expression, or a format is
+    /// given, and no capture to write.
     #[error("options exclude each other")]
     OptionsExclude,
     /// The output, unless it is standard output, is an input or the listing too, or standard input

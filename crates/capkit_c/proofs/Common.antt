@@ -1,4 +1,4 @@
--- The names that most proofs here cite, passed on from one place. Declares nothing.
+-- Re-exports the names that most proofs of this crate cite; declares nothing.
 pub use Rattle.std.proofs.Common.{◌≡◌, ℕ, ◌+◌, ◌-◌, ◌<◌, ◌≤◌, List, [], ◌∷◌, ◌++◌, length, take, drop, Option, Some, None, Ok, Result, refl, sym, ap, ◌∙◌}
 pub use Rattle.std.proofs.Common.{subst, arith, min, ◌↔◌, ◌⊎◌, inl, inr, zero, suc, ◌%◌, ◌^◌, get_or, Bool, true, false, ◌==◌, nat_lt, nat_le, ◌&&◌, ◌||◌, not}
 pub use Rattle.std.proofs.Common.{if◌then◌else◌, slice_set, bit_and, Err, ap₂, rules}

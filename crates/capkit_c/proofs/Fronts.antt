@@ -1,4 +1,4 @@
--- The unit that a text begins with, from the record or the block that it is.
+-- The first unit of some bytes, from the record or the block that they begin with.
 use Rattle.capkit_c.proofs.Common.{◌≡◌, ℕ, ◌+◌, ◌-◌, ◌<◌, ◌≤◌, List, [], ◌∷◌, ◌++◌, length, take, drop, Option, Some, None, Ok, refl, sym, ap, ◌∙◌, subst}
 use Rattle.capkit_c.proofs.Common.{arith, slice_get, option_map, drop-take, length-take-le, take-append-drop, take-take, checked, Captured, Order, checked_ok}
 use Rattle.capkit_c.proofs.Common.{Head, RecordHead, record_fault, record_header_in, record_size, record_packet, record_header_in-append, is_section, Described}
@@ -139,7 +139,7 @@ placed_first link text order size interfaces' None b = b.carries
 placed_first link text order size interfaces' (Some p) b =
     let none : [] ≡ b.carries.packet ∷ [] = sym (first-packets (take size text) b.is_block) ∙ b.carries.stands in absurd (cc)
 
--- what a text begins with, after what is declared
+-- the first unit of bytes, after these declarations
 pub record BlockUnit (declared : Declared) (first : Option ℕ) (text : List ℕ) (order : Order) (size : ℕ) (interfaces' : List Described)
     (packet : Option UnitPacket) : Type 0 where
   pub packets : List Captured

@@ -1,4 +1,4 @@
--- What reading the unit at a reader's place leaves.
+-- The effect of reading the unit at a reader's offset.
 use Rattle.capkit_c.proofs.Common.{◌≡◌, ℕ, ◌+◌, ◌-◌, ◌<◌, ◌≤◌, List, [], length, take, drop, Option, Some, None, refl, sym, ap, ◌∙◌, subst, arith, min}
 use Rattle.capkit_c.proofs.Common.{drop-drop, length-drop, length-take-le, Captured, Fault, Declared, NoUnit, Whole, first_link_of, front_of, declared_by}
 use Rattle.capkit_c.proofs.Common.{declared_in, first_interfaces, reader_form, most_known, IsPastUnit, IsPacketFound, NextLeaves, Stays, comment_by, ends}

@@ -1,4 +1,4 @@
--- A text is one expression, so all programs that are compiled of it are within one bound.
+-- A text is at most one expression, so one bound applies to all programs compiled from it.
 use Rattle.capkit_c.proofs.Common.{◌≡◌, ◌≤◌, ℕ, List, length, ap, sym, subst, ◌∙◌, Insn, IsBound, IsFor}
 use Rattle.flt_words.specs.declared.token.Token.{Token}
 use Rattle.flt_words.proofs.OneAnswer.{same_answer}

@@ -1,5 +1,5 @@
 -- A portable program reads no word that it didn't write, and does nothing that libpcap or Linux
--- does otherwise.
+-- does differently.
 use Rattle.capkit_c.proofs.Common.{◌≡◌, ◌↔◌, ◌⊎◌, inl, inr, ℕ, zero, suc, ◌+◌, ◌-◌, ◌%◌, ◌^◌, ◌<◌, ◌≤◌, List, [], ◌∷◌, length, drop, get_or, Bool, true, false}
 use Rattle.capkit_c.proofs.Common.{Option, Some, None, refl, sym, ap, ◌∙◌, subst, arith, ◌==◌, nat_lt, nat_le, ◌&&◌, ◌||◌, not, if◌then◌else◌, slice_set}
 use Rattle.capkit_c.proofs.Common.{bit_and, list_all, option_map, get_or-drop, Insn, Next, Goes, Ends, Lost, step_if_there, does, does_if_known, into}
@@ -57,7 +57,7 @@ set_length (x ∷ a) (suc k) v = omega (arith, set_length a k v)
 
 -- ---- one instruction, from other words
 
--- two states after an instruction, by what holds of the places after it
+-- two states after an instruction, by what is true of the places after it
 data After (following : ℕ → List Bool) : Next → Next → Type 0 where
   goes : (k : ℕ) (s : State) (m : List ℕ) → SameWords (λ w. is_live_at (following w) k) m s → After following (Goes k (on s m)) (Goes k s)
   ends : (a : ℕ) → After following (Ends a) (Ends a)
@@ -123,7 +123,7 @@ module _ (i : Insn) (p : List ℕ) (n : ℕ) (f : ℕ → List Bool) (s : State)
 
 -- ---- X stays small
 
--- X is below 2^30, if a test says so
+-- X is below 2^30, if a test is true
 abbrev Small : Bool → State → Type 0
 Small small s = small ≡ true → s.index < half_sign_bit
 
@@ -167,9 +167,9 @@ index_kept (Some ReturnAccumulator) i p n s e h = omega arith
 index_kept (Some CopyToIndex) i p n s e h = cc
 index_kept (Some _) i p n s e h = h
 
--- ---- whole runs
+-- ---- complete runs
 
--- what a list of tests says of the one at a place
+-- what a list of tests means for the one at an index
 all_at : (q : Insn → Bool) (is : List Insn) (k : ℕ) (i : Insn) → list_all q is ≡ true → slice_get is k ≡ Some i → q i ≡ true
 all_at q [] k i h e = cc
 all_at q (j ∷ is) zero i h e = let same : j ≡ i = cc in subst (λ x. q x ≡ true) same (and_parts (q j) (list_all q is) h).0
@@ -285,7 +285,7 @@ here_run prog p n (suc t) place s count =
 pub here_from_zeros : HereFromZeros
 here_from_zeros insns p n t = here_run insns p n t 0 start 0
 
--- ---- what the bits say
+-- ---- the meaning of the bits
 
 abbrev passed : Bool → ℕ
 passed a = if a then 1 else 0
@@ -312,7 +312,7 @@ second_bit false false e = absurd (omega arith)
 abbrev tested : (Bool → Insn → Bool) → List Insn → Bool
 tested q insns = nat_le (length insns) most_attached && (list_all (q (list_all keeps_x_small insns)) insns && none_read_unwritten WORDS insns)
 
--- each instruction passes a test, and no word is read before it is written
+-- a test is true of each instruction, and no word is read before it is written
 record Tested (q : Bool → Insn → Bool) (insns : List Insn) : Type 0 where
   each : (k : ℕ) (i : Insn) → slice_get insns k ≡ Some i → q (list_all keeps_x_small insns) i ≡ true
   none : none_read_unwritten WORDS insns ≡ true

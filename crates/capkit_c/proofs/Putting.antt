@@ -1,4 +1,4 @@
--- What a put finds, and what it keeps.
+-- The unit that a put writes, and what the writer records.
 use Rattle.capkit_c.proofs.Common.{◌≡◌, ℕ, ◌+◌, ◌<◌, ◌≤◌, List, [], ◌∷◌, ◌++◌, length, take, length-take-le, Option, refl, sym, ap, ◌∙◌, subst}
 use Rattle.capkit_c.proofs.Common.{arith, min, suc, Bool, true, false, ◌==◌, nat_lt, ◌&&◌, ◌||◌, not, if◌then◌else◌, Captured, Fault}
 use Rattle.capkit_c.proofs.Common.{Interface, first_failing, append-nil, ap₂}
@@ -10,7 +10,7 @@ use Rattle.capkit_c.specs.Writer.{output_interface, interfaces_in, most_written,
 use Rattle.capkit_c.specs.Writer.{KeepsWritten, IsWhole}
 use Rattle.capkit_c.specs.{declared.memory.layout.Writer.Writer, declared.memory.writing.Written.Written, inside.Writer.HasAdded}
 
--- whether an element passes, by the first place of one
+-- whether a test is true of some element, by the first such index
 among_by : (b later : Bool) (place count : ℕ) → later ≡ nat_lt place count → (b || later) ≡ nat_lt (if not b then 1 + place else 0) (suc count)
 among_by true later place count e = grind (arith, nat_tests)
 among_by false later place count e = e ∙ (let step : nat_lt place count ≡ nat_lt (1 + place) (suc count) = grind (arith, nat_tests) in step)

@@ -1,4 +1,4 @@
--- What the first bytes of a text say is what the text says.
+-- The first bytes of a capture determine its file header and its records' headers.
 use Rattle.capkit_c.proofs.Common.{◌≡◌, ℕ, ◌-◌, ◌<◌, ◌≤◌, List, ◌++◌, length, take, drop, Ok, Err, Some, None, sym, ap, ◌∙◌, arith, length-take-le}
 use Rattle.capkit_c.proofs.Common.{take-append-drop, checked, first_failing, Fault, Truncated, checked_ok, checked_err, Head, RecordHead, header_fault}
 use Rattle.capkit_c.proofs.Common.{header_in, captured_len, field_checks, record_fault, record_header_in, field_checks-append, record_header_in-append}

@@ -1,4 +1,4 @@
--- What a step of a search leaves.
+-- The effect of a step of a search.
 use Rattle.capkit_c.proofs.Common.{◌≡◌, ℕ, ◌+◌, ◌-◌, ◌<◌, ◌≤◌, List, length, take, drop, refl, sym, ap, ◌∙◌, subst, arith}
 use Rattle.capkit_c.proofs.Common.{drop-drop, length-drop, Captured, Declared, front_of, declared_in, Insn, Skips, at_packet}
 use Rattle.capkit_c.proofs.Common.{past_packet, past_unit, DeclaresOne, IsPastUnit, IsPacketFound, IsStop, NextLeaves, PacketLeaves, PassesUnits, Stays}
@@ -6,16 +6,16 @@ use Rattle.capkit_c.proofs.Common.{UnitHas, comment_by, ends, fails, finds, is_f
 use Rattle.capkit_c.specs.{Laws.packet_from, Laws.reader_from, inside.Matching.JudgedAs, inside.Matching.StepLeaves}
 use Rattle.capkit_c.specs.declared.{matching.SearchStep.SearchStep, memory.reader.Found.Found}
 
--- ---- a unit is passed
+-- ---- a unit is skipped
 
--- less is left
+-- fewer bytes remain
 left : (capture : List ℕ) (size : ℕ) (r r' : Reader) (t' : List Interface) → IsPastUnit capture size r r' t' → length capture - r'.offset < length
     capture - r.offset
 left capture size r r' t' a =
     let long : length (drop r.offset capture) ≡ length capture - r.offset = length-drop r.offset capture in
     omega (arith, a.offset, a.there, a.some, long)
 
--- the packet stays, and less is left
+-- the packet is unchanged, and fewer bytes remain
 pub record Passed (capture : List ℕ) (r r' : Reader) (p p' : Packet) : Type 0 where
   pub same : p' ≡ p
   pub less : length capture - r'.offset < length capture - r.offset
@@ -81,7 +81,7 @@ pub unit_step : (insns : List Insn) (link_type : ℕ) (capture : List ℕ) (r r'
 unit_step insns link_type capture r r' t t' p p' what leaves is =
     past_unit (subst (λ w. NextLeaves capture r r' t t' p p' w) is leaves)
 
--- a step that isn't the last leaves less
+-- after a step that isn't the last, fewer bytes remain
 pub step_smaller : (insns : List Insn) (link_type : ℕ) (capture : List ℕ) (r r' : Reader) (t t' : List Interface) (p p' : Packet)
     → Skips insns link_type capture r r' t t' p p' → length capture - r'.offset < length capture - r.offset
 step_smaller insns link_type capture r r' t t' p p' (past_unit leaves) = (unit_passed capture r r' t t' p p' Found.Unit leaves refl).less

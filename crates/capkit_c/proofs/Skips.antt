@@ -1,4 +1,4 @@
--- What going past a refused unit leaves.
+-- The effect of skipping a refused unit.
 use Rattle.capkit_c.proofs.Common.{inl, inr, ap₂, block_size, parts_after, section_of, IsFramed, NextLeaves, Packet, ends, fails, finds, is_full, passes, ◌≡◌}
 use Rattle.capkit_c.proofs.Common.{ℕ, ◌+◌, ◌<◌, ◌≤◌, ◌%◌, List, [], ◌∷◌, ◌++◌, length, take, drop, Option, Some, None, Err, refl, sym, ap, ◌∙◌, subst, arith}
 use Rattle.capkit_c.proofs.Common.{Bool, true, false, nat_lt, ◌==◌, nat_le, ◌&&◌, ◌||◌, not, if◌then◌else◌, length-take-le, take-append-drop, take-take}
@@ -53,14 +53,14 @@ frame_refused before section text front fault is enough same exact =
     (by_frame (is_section front || is_some section) (not (is_section front) || is_some (magic_order front))
     (nat_le 12 (length_in section front) && (length_in section front % 4 == 0)) (nat_le (length_in section front) most_block) fault e)
 
--- ---- a unit that isn't gone past, and one that is
+-- ---- a unit that can't be skipped, and one that can
 
 -- what is declared, by the state of the file
 pub by_state : (r : Reader) (t : List Interface) (f : FileState) → reader_form r ≡ f → declared_in r t ≡ declared_by f
     (first_interfaces (most_known r (length t)) t)
 by_state r t f is = ap (λ g. declared_by g (first_interfaces (most_known r (length t)) t)) is
 
--- the unit that is gone past, by the part that is refused
+-- the unit that is skipped, by the part that is refused
 pub past_is : (capture : List ℕ) (r : Reader) (t : List Interface) (f : FileState) (fault : Fault) (part : RefusedPart) → reader_form r ≡ f
     → front_of (declared_in r t) (drop r.offset capture) ≡ NoUnit (Some fault) → part ≡ refused_part fault
     → past_at capture r t ≡ past_by (declared_by f (first_interfaces (most_known r (length t)) t)) (drop r.offset capture) part
@@ -102,7 +102,7 @@ described_count n t fits = length-map (take n t) _ ∙ length-take-le n t fits
 pub one_more : (n : ℕ) (t : List Interface) (i : Described) → n ≤ length t → length (first_interfaces n t ++ i ∷ []) ≡ n + 1
 one_more n t i fits = length-append (first_interfaces n t) (i ∷ []) ∙ ap (λ m. m + 1) (described_count n t fits)
 
--- a description block is gone past, while its section has room, or it isn't
+-- a description block is skipped if its section has room; otherwise it isn't
 pub past_description : (first : Option ℕ) (section : Section) (size link snap : ℕ) (order : Order) (options : List ℕ) → length section.interfaces < 256
     → past_interface first section size (InterfaceParts link snap order options) ≡ Some
     (record { size = size; declared = with_interface first section (unread_interface link snap) })

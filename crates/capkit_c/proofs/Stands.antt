@@ -1,4 +1,4 @@
--- The block that a text begins with.
+-- The block at the start of some bytes.
 use Rattle.capkit_c.proofs.Common.{◌≡◌, ℕ, ◌<◌, ◌≤◌, inl, inr, List, [], ◌∷◌, ◌++◌, length, take, drop, Option, Some, None, Ok, Err, refl, sym, ap, ap₂, ◌∙◌}
 use Rattle.capkit_c.proofs.Common.{subst, arith, option_map, length-take-le, take-append-drop, take-take, checked, first_failing, Fault, Truncated, Order}
 use Rattle.capkit_c.proofs.Common.{checked_err, frame_checks, frame_fault, frame_in, Described, Section, block_size, checks_among, frame_after}
@@ -27,7 +27,7 @@ frame_fails before section text front fault is enough same exact =
     (ap (λ o. first_failing (frame_checks o text)) is ∙ ap (λ t. first_failing (frame_checks section t)) (sym joined)
     ∙ ap first_failing (frame_checks-append section (take 12 text) (drop 12 text) (omega (arith, upper_bound))) ∙ ap (frame_fault section) (sym same) ∙ fails)
 
--- what they say is what the text says
+-- the first bytes determine the fields
 pub framed : (before : Option Section) (section : Option Order) (text front : List ℕ) (frame : Frame) → order_before before ≡ section
     → 12 ≤ length text → front ≡ take 12 text
     → Ok frame ≡ checked (frame_fault section front) (frame_in section front) → IsFramed before text frame
@@ -46,9 +46,9 @@ block_cut before text frame enough f short =
     let size : block_size before text ≡ frame.length = ap (λ (g : Frame). g.length) f.says in
     unit_fault-short before text enough f.passes (omega (arith, short, size))
 
--- ---- the whole block
+-- ---- the complete block
 
--- its parts are those of the text that it begins
+-- its parts are those of the bytes that begin with it
 parts_taken : (before : Option Section) (text : List ℕ) (frame : Frame) → 12 ≤ frame.length → frame.length ≤ length text → IsFramed before text frame
     → parts_after before text ≡ parts_in frame (take frame.length text)
 parts_taken before text frame least room f =

@@ -1,4 +1,4 @@
--- The number and the status are those of what a call did.
+-- The number and the status that a call returns are those of its result.
 use Rattle.capkit_c.proofs.Common.{◌≡◌, ℕ, Result, Ok, Err, sym, subst}
 use Rattle.std.specs.Prelude.{IfOk, IfErr, OnErr}
 use Rattle.capkit_c.specs.Compiling.{Tells, is_done, has_failed, failure_number, failure_status}

@@ -1,4 +1,4 @@
--- Bytes by another way to say them, and none that is refused.
+-- A write of equal bytes that isn't refused has the same result.
 use Rattle.capkit_c.proofs.Common.{◌≡◌, ℕ, List, Option, None, subst, sym, Fault, WriteLeaves}
 use Rattle.capkit_c.specs.declared.memory.writing.Written.{Written}
 

@@ -1,4 +1,4 @@
--- Bytes of captures in the caller's buffer, and which packets they can't hold.
+-- Bytes of captures in the caller's buffer, and packets that can't be written.
 use Rattle.std.specs.Prelude.{◌≡◌, ℕ, ◌<◌, ◌≤◌, Bool, List, [], ◌∷◌, ◌++◌, length, drop, nat_lt, nat_le, Option, None, Some}
 use Rattle.cap_octet.specs.{Date.TIME_END, Packet.Captured, declared.fault.Fault.Fault}
 use Rattle.cap_octet.specs.declared.fault.Fault.TheVariants.{BadOption, TimeOutOfRange, TooManyOutputInterfaces}
@@ -7,7 +7,7 @@ use Rattle.cap_pcap.specs.Encoding as pcap
 use Rattle.cap_pcapng.specs.Encoding as pcapng
 use Rattle.capkit_c.specs.declared.memory.writing.Written.{Written}
 
--- a packet by what its record or its block says of it
+-- a packet with the fields of its record or block
 abbrev pub written_packet : (time orig : ℕ) → (bytes comment : List ℕ) → Captured
 written_packet time orig bytes comment =
     record {
@@ -20,12 +20,12 @@ written_packet time orig bytes comment =
       comment = comment;
     }
 
--- the checks of a packet that must be written, in order: those that every packet passes that was
--- read, and then those of the format
+-- the checks of a packet before it is written, in order: those that every packet read meets, and
+-- then those of the format
 abbrev pub written_record_checks : Captured → List (Bool × Fault)
 written_record_checks p = (nat_lt p.time TIME_END, TimeOutOfRange) ∷ pcap.record_fit_checks p
 
--- the same of a packet that must be written as a block, whose interface has this number
+-- the checks of a packet before it is written as a block, if its interface has this number
 abbrev pub written_block_checks : (number : ℕ) → Captured → List (Bool × Fault)
 written_block_checks number p =
     (nat_lt p.time TIME_END, TimeOutOfRange)
@@ -34,24 +34,23 @@ written_block_checks number p =
     ++ (nat_lt number most_output_interfaces, TooManyOutputInterfaces)
     ∷ []
 
--- the checks of an interface that must be described
+-- the checks of an interface before it is described
 abbrev pub interface_checks : (name : List ℕ) → List (Bool × Fault)
 interface_checks name = (nat_le (length name) 255, BadOption) ∷ []
 
--- the bytes stand whole at the start of the buffer, and what is after them is as it was
+-- all bytes are at the start of the buffer, and what is after them is unchanged
 pub record StandWhole (bytes old new : List ℕ) (count : ℕ) : Type 0 where
   pub counted : count ≡ length bytes
   pub fits : length bytes ≤ length old
   pub put : new ≡ bytes ++ drop (length bytes) old
 
--- the buffer has room for fewer bytes, and is as it was
+-- the buffer has room for fewer bytes, and is unchanged
 pub record FindNoRoom (bytes old new : List ℕ) (count : ℕ) : Type 0 where
   pub counted : count ≡ length bytes
   pub short : length old < length bytes
   pub kept : new ≡ old
 
--- the result of a write of a buffer: the bytes, unless a check fails or it has no room for all of
--- them
+-- the result of writing into a buffer: the bytes, unless a check fails or the buffer is too small
 abbrev pub WriteLeaves : Option Fault → (bytes old new : List ℕ) → Written → Type 0
 WriteLeaves refusal bytes old new (Written.Whole count) =
     (refusal ≡ None) × StandWhole bytes old new count

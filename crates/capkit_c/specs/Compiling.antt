@@ -11,39 +11,39 @@ use Rattle.cap_filter.specs.Expressions.{IsCompiled, IsTextFault}
 use Rattle.capkit_c.specs.{Running.rule_number, declared.compiling.Failure.Failure}
 use Rattle.capkit_c.specs.declared.compiling.Failure.TheVariants.{Text, NotUtf8, LinkType, NoRoom, NotListing, Invalid}
 
--- what libpcap's pcap_datalink() calls raw IP
+-- libpcap's pcap_datalink() for raw IP
 abbrev pub DLT_RAW : ℕ
 DLT_RAW = 12
 
--- the link type that files have; for raw IP libpcap's own number may be given in its place
+-- the link type in files; for raw IP libpcap's own number is accepted too
 abbrev pub file_link_type : ℕ → ℕ
 file_link_type n = if n == DLT_RAW then LINKTYPE_RAW else n
 
--- a text has no token: it is the empty expression, which every packet matches
+-- whether a text has no token, so that it is the empty expression, which matches every packet
 abbrev pub are_blanks : List ℕ → Bool
 are_blanks text = list_all is_blank text
 
--- the link that a text is compiled for: that of the link type; the empty expression reads no
--- header, so it is compiled for an unknown link type as for Ethernet
+-- the link that a text is compiled for: that of the link type; for an unknown link type the empty
+-- expression, which reads no header, is compiled as for Ethernet
 pub data IsLinkFor (text : List ℕ) (link_type : ℕ) : Link → Type 0 where
   of_link_type : {link : Link} → link_of (file_link_type link_type) ≡ Some link
       → IsLinkFor text link_type link
   of_any : link_of (file_link_type link_type) ≡ None → are_blanks text ≡ true
       → IsLinkFor text link_type Ether
 
--- a text has tokens, and the link type is unknown
+-- a text isn't the empty expression, and the link type is unknown
 pub record HasNoLink (text : List ℕ) (link_type : ℕ) : Type 0 where
   pub unknown : link_of (file_link_type link_type) ≡ None
   pub has_tokens : are_blanks text ≡ false
 
--- a program for the expression that a text is, on packets of a link type: it is valid, accepts
--- exactly the packets that match, and has at most as many instructions as the expression's bound
+-- a program for the expression, on packets of a link type: it is valid, accepts exactly the packets
+-- that match, and has at most as many instructions as the expression's bound
 pub record IsFor (text : List ℕ) (link_type : ℕ) (prog : List Insn) : Type 0 where
   pub link : Link
   pub read : IsLinkFor text link_type link
   pub compiled : IsCompiled text link prog
 
--- the first `count` instructions are such a program, and those after them are as they were
+-- the first `count` instructions are such a program, and those after them are unchanged
 pub record WritesProgram (text : List ℕ) (link_type : ℕ) (old new : List Insn)
     (count : ℕ) : Type 0 where
   pub program : IsFor text link_type (take count new)
@@ -51,14 +51,14 @@ pub record WritesProgram (text : List ℕ) (link_type : ℕ) (old new : List Ins
   pub fits : count ≤ length old
   pub rest : drop count new ≡ drop count old
 
--- a text isn't UTF-8 from a byte on, which is counted from 1
+-- from this byte on, counted from 1, a text isn't UTF-8
 pub record IsNotUtf8 (text : List ℕ) (at : ℕ) : Type 0 where
   pub not_utf8 : ¬ IsUtf8 text
   pub before : ℕ
   pub valid : IsValidUpTo text before
   pub counted : at ≡ before + 1
 
--- why a text isn't an expression; memory may be refused whatever the text is
+-- why a text isn't an expression; or, for any text, that memory ran out
 abbrev pub IsTextFailure : List ℕ → Failure → Type 0
 IsTextFailure text (Text refusal) = IsTextFault text refusal
 IsTextFailure text (NotUtf8 at) = IsNotUtf8 text at
@@ -92,8 +92,8 @@ failure_status (NoRoom needed) = 16
 failure_status (NotListing line) = 17
 failure_status (Invalid rule) = rule_number rule
 
--- the number next to the status: if the text is wrong, in bytes or lines from 1; how many
--- instructions there are; else 0
+-- the number next to the status: the place of a wrong text's fault, in bytes or lines from 1; or
+-- the number of instructions; else 0
 abbrev pub failure_number : Failure → ℕ
 failure_number (Text refusal) = unwrap_or (messages.place_of refusal) 0
 failure_number (NotUtf8 at) = at
@@ -101,13 +101,14 @@ failure_number (NoRoom needed) = needed
 failure_number (NotListing line) = line
 failure_number _ = 0
 
--- what a number and a status mean: 0, and the call is done; or the failure's, and why not
+-- what a number and a status mean: with 0 the call has succeeded; otherwise they are those of a
+-- failure, which this explains
 pub data Tells (Done : ℕ → Type 0) (Why : Failure → Type 0) (number : ℕ) : ℕ → Type 0 where
   is_done : Done number → Tells Done Why number 0
   has_failed : (failure : Failure) → Why failure → number ≡ failure_number failure
       → Tells Done Why number (failure_status failure)
 
--- 0 and a program, or another status, and the instructions are as they were
+-- status 0 and a program; or another status, and the instructions are unchanged
 abbrev pub CompilesText : List ℕ → ℕ → (old new : List Insn) → (number status : ℕ) → Type 0
 CompilesText text link_type old new number status =
     Tells (WritesProgram text link_type old new)

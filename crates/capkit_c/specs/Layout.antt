@@ -1,4 +1,4 @@
--- What the caller's structs say.
+-- What the caller's structs mean.
 use Rattle.std.specs.Prelude.{◌≡◌, ℕ, ◌==◌, if◌then◌else◌, is_some, min, List, length, map, take, Option, Some, None}
 use Rattle.cap_octet.specs.declared.number.Order.{Order, TheVariants.Little, TheVariants.Big}
 use Rattle.cap_pcap.specs.declared.header.Resolution.{Resolution, TheVariants.Microseconds, TheVariants.Nanoseconds}
@@ -6,15 +6,15 @@ use Rattle.cap_pcapng.specs.Interface.{Described}
 use Rattle.cap_io.specs.{Capture.Declared, Reading.declared_by, declared.file_state.FileState.FileState}
 use Rattle.capkit_c.specs.declared.memory.layout.{Interface.Interface, Reader.Reader}
 
--- the byte order that a flag shows: 0 is little-endian, every other number big-endian
+-- the byte order that a flag means: 0 is little-endian, every other number big-endian
 abbrev pub order_of_flag : ℕ → Order
 order_of_flag flag = if flag == 0 then Little else Big
 
--- what ticks of a pcap file are, by the flag for nanoseconds
+-- the resolution of a pcap file's times, by the flag for nanoseconds
 abbrev pub resolution_by : ℕ → Resolution
 resolution_by flag = if flag == 0 then Microseconds else Nanoseconds
 
--- the first link type of a pcapng file, by the flag that says whether there is one
+-- the first link type of a pcapng file, by the flag that it has one
 abbrev pub link_by : ℕ → ℕ → Option ℕ
 link_by flag link = if flag == 0 then None else Some link
 
@@ -23,7 +23,7 @@ pub record HasLink (first : Option ℕ) (r : Reader) : Type 0 where
   pub link : link_by r.has_link_type r.link_type ≡ first
   pub flag : r.has_link_type ≡ (if is_some first then 1 else 0)
 
--- what the units that a reader has read declare of the file
+-- what the units declare that a reader has read
 abbrev pub reader_form : Reader → FileState
 reader_form r =
     if r.form == 1 then FileState.Pcap
@@ -41,7 +41,7 @@ reader_form r =
 abbrev pub most_known : Reader → ℕ → ℕ
 most_known r room = min (min r.interfaces room) 256
 
--- an interface of the table; 0 units are taken as 1
+-- an interface of the table; 0 units count as 1
 abbrev pub described_of : Interface → Described
 described_of i =
     record {

@@ -5,21 +5,21 @@ use Rattle.capkit_c.specs.{Reading.found_number, Running.RunLeaves, Units.IsStop
 use Rattle.capkit_c.specs.declared.memory.layout.{Interface.Interface, Packet.Packet, Reader.Reader}
 use Rattle.capkit_c.specs.declared.memory.reader.Found.{Found}
 
--- the answer of instructions, valid or not, on a packet of a capture: that of a run as capkit_run and
--- capkit_matches make it
+-- what instructions, valid or not, return for a packet of a capture: the same as in capkit_run and
+-- capkit_matches
 pub record Returns (insns : List Insn) (capture : List ℕ) (p : Packet) (answer : ℕ) : Type 0 where
   pub steps : ℕ
   pub runs : RunLeaves insns (take p.captured (drop p.at capture)) p.original answer steps
 
--- a packet ends the search, with this number: the instructions accept it (0), or it is of another
--- link type (226)
+-- a packet ends the search with this number: the instructions accept it (0), or it has another link
+-- type (226)
 pub data EndsBy (insns : List Insn) (link_type : ℕ) (capture : List ℕ) (p : Packet)
     (number : ℕ) : Type 0 where
   accepted : (answer : ℕ) → p.link_type ≡ link_type → Returns insns capture p answer → 0 < answer
       → number ≡ 0 → EndsBy insns link_type capture p number
   another : ¬ p.link_type ≡ link_type → number ≡ 226 → EndsBy insns link_type capture p number
 
--- a packet is of this link type, and the instructions reject it: they return 0
+-- a packet has this link type, and the instructions reject it: they return 0
 pub record IsRejected (insns : List Insn) (link_type : ℕ) (capture : List ℕ) (p : Packet) : Type 0
   where
     pub link : p.link_type ≡ link_type
@@ -43,7 +43,7 @@ pub data Ends (insns : List Insn) (link_type : ℕ) (capture : List ℕ) (r r' :
   at_stop : (what : Found) → NextLeaves capture r r' t t' p p' what → IsStop what
       → number ≡ found_number what → Ends insns link_type capture r r' t t' p p' number
 
--- reader, table and packet, at first and after steps that aren't the last
+-- reader, table and packet, at the start and after steps that aren't the last
 pub data GoesPast (insns : List Insn) (link_type : ℕ) (capture : List ℕ) (r : Reader)
     (t : List Interface) (p : Packet) : Reader → List Interface → Packet → Type 0 where
   at_first : GoesPast insns link_type capture r t p r t p
@@ -52,7 +52,7 @@ pub data GoesPast (insns : List Insn) (link_type : ℕ) (capture : List ℕ) (r 
       → Skips insns link_type capture s s' u u' q q'
       → GoesPast insns link_type capture r t p s' u' q'
 
--- units without a packet and rejected packets are passed, and then the search ends
+-- units without a packet and rejected packets are skipped, and then the search ends
 pub record SearchLeaves (insns : List Insn) (link_type : ℕ) (capture : List ℕ) (r r' : Reader)
     (t t' : List Interface) (p p' : Packet) (number : ℕ) : Type 0 where
   pub between : Reader

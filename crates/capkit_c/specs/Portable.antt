@@ -1,4 +1,4 @@
--- Programs that run the same way elsewhere.
+-- Programs that run the same way on other machines.
 use Rattle.std.specs.List.{list_all}
 use Rattle.std.specs.Prelude.{ℕ, ◌==◌, ◌&&◌, ◌||◌, ◌^◌, if◌then◌else◌, Bool, true, false, not, zero, suc, List, [], ◌∷◌, length, nat_le, nat_lt, slice_index_or, Option, Some}
 use Rattle.flt_bpf.specs.{Instructions.operation_of, Valid.WORDS, declared.insn.Insn.Insn}
@@ -8,7 +8,7 @@ use Rattle.flt_bpf.specs.declared.operation.Operation.TheVariants.{LoadAbsolute,
 use Rattle.flt_bpf.specs.declared.operation.Register.TheVariants.{Index}
 use Rattle.flt_bpf.specs.declared.operation.Source.TheVariants.{Immediate, Memory, Length}
 
--- 2^31, the highest bit of 32: from here on Linux takes the offset of a load as negative
+-- 2^31, the highest of 32 bits: from here on Linux takes the offset of a load as negative
 abbrev pub sign_bit : ℕ
 sign_bit = 2 ^ 31
 
@@ -43,8 +43,8 @@ operation_alike _ k small = true
 abbrev pub runs_alike : Bool → Insn → Bool
 runs_alike small i = operation_alike (operation_of i.code) i.k small
 
--- whether an operation surely does the same on libpcap's machine, where X and k are not added
--- modulo 2^32; `small` says that X is below 2^30
+-- whether an operation surely does the same on libpcap's machine, which adds X and k without
+-- wrapping; `small` says that X is below 2^30
 abbrev pub operation_alike_on_libpcap : Option Operation → ℕ → Bool → Bool
 operation_alike_on_libpcap (Some (LoadIndirect width)) k small = small && nat_lt k sign_bit
 operation_alike_on_libpcap _ k small = true
@@ -78,12 +78,12 @@ abbrev pub live_places : ℕ → List Insn → List Bool
 live_places w [] = []
 live_places w (i ∷ is) = is_live_before w i (live_places w is) ∷ live_places w is
 
--- of the first n words none is read before it is written
+-- whether none of the first n words is read before it is written
 abbrev pub none_read_unwritten : ℕ → List Insn → Bool
 none_read_unwritten zero insns = true
 none_read_unwritten (suc n) insns = none_read_unwritten n insns && not (is_live_at (live_places n insns) 0)
 
--- how many instructions Linux attaches to a socket at most
+-- the most instructions that Linux attaches to a socket
 abbrev pub most_attached : ℕ
 most_attached = 4096
 

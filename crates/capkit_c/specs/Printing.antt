@@ -4,7 +4,7 @@ use Rattle.cap_octet.specs.Packet.{Captured}
 use Rattle.cap_print.specs.Line.{line}
 use Rattle.capkit_c.specs.Compiling.{file_link_type}
 
--- a packet of a file's link type, without what no line shows
+-- a packet of a file with this link type, without the fields that no line shows
 abbrev pub line_packet : ℕ → ℕ → ℕ → List ℕ → Captured
 line_packet link_type time original bytes =
     record {
@@ -17,7 +17,7 @@ line_packet link_type time original bytes =
       comment = [];
     }
 
--- the line of a packet, with its link header if the flag isn't 0; nothing if its time is 2^63
+-- the line of a packet, with its link header if the flag isn't 0; empty if the time is 2^63
 -- nanoseconds or more
 abbrev pub packet_line : ℕ → ℕ → ℕ → ℕ → List ℕ → List ℕ
 packet_line with_link link_type time original bytes =

@@ -36,15 +36,16 @@ found_number Found.End = 222
 found_number Found.Unit = 223
 found_number Found.NoRoom = 224
 
--- a call found the next packet, or why there is none: its result is that of a search that
--- finds this, and it returns its number
+-- a call found the next packet, or why there is none: its effect is that of a search with this
+-- result, and it returns the result's number
 pub record CallLeaves (capture : List ℕ) (r r' : Reader) (t t' : List Interface) (p p' : Packet)
     (number : ℕ) : Type 0 where
   pub found : Found
   pub leaves : PacketLeaves capture r r' t t' p p' found
   pub exact : number ≡ found_number found
 
--- a call found something: its result is that of a call that finds this, and it returns its number
+-- a call found something: its effect is that of a call with this result, and it returns the
+-- result's number
 pub record UnitLeaves (capture : List ℕ) (r r' : Reader) (t t' : List Interface) (p p' : Packet)
     (number : ℕ) : Type 0 where
   pub found : Found

@@ -9,14 +9,15 @@ use Rattle.capkit_c.specs.Texts.{RULES}
 abbrev pub rule_number : CheckFault → ℕ
 rule_number fault = RULES + check_number fault
 
--- 0 of a valid program, or the number of the first rule that instructions break, and where
+-- 0 for a valid program; else the number of the first rule that the instructions break, and the
+-- index at which they do
 pub data CheckLeaves (insns : List Insn) (index : ℕ) : ℕ → Type 0 where
   passes : IsValid insns → index ≡ 0 → CheckLeaves insns index 0
   breaks : {status : ℕ} (fault : CheckFault) → status ≡ rule_number fault
       → BreaksFirst insns fault index → CheckLeaves insns index status
 
--- the machine's answer after these steps, of a run that meets no broken rule; or 0 after none
--- if the run meets a broken rule or goes past the end, which never happens with a valid program
+-- what the machine returns, and the number of its steps, if a run breaks no rule; otherwise both
+-- are 0: the run breaks a rule or continues past the end, which a valid program never does
 pub data RunLeaves (insns : List Insn) (p : List ℕ) (n answer steps : ℕ) : Type 0 where
   answers : run_by_rules insns p n ≡ Some (answer, steps)
       → machine insns p n (length insns) ≡ Answered answer steps

@@ -9,21 +9,21 @@ use Rattle.capkit_c.specs.Layout.{HasLink, declared_in, most_known}
 use Rattle.capkit_c.specs.declared.memory.layout.Interface.{Interface}
 use Rattle.capkit_c.specs.declared.memory.{layout.Packet.Packet, layout.Reader.Reader, reader.Found.Found}
 
--- the comment in a packet's options; empty if it has none, and if the file isn't pcapng
+-- the comment in a packet's options; empty if it has none or the file isn't pcapng
 abbrev pub comment_by : Declared → List ℕ → List ℕ
 comment_by Nothing options = []
 comment_by (PcapFile head) options = []
 comment_by (PcapngFile first section) options = comment_in section.order options
 
--- the name of the interface with this number; None if there is none in a pcapng file, and empty
--- if the file isn't pcapng
+-- the name of the interface with this number; None if a pcapng file has no such interface, and
+-- empty if the file isn't pcapng
 abbrev pub name_by : Declared → ℕ → Option (List ℕ)
 name_by Nothing number = Some []
 name_by (PcapFile head) number = Some []
 name_by (PcapngFile first section) number =
     option_map (λ (i : Described). i.name) (slice_get section.interfaces number)
 
--- the unit that the text begins with declares one interface after these
+-- the unit at the start of these bytes declares one interface after these
 pub record DeclaresOne (declared : Declared) (text : List ℕ)
     (interfaces : List Described) : Type 0 where
   pub size : ℕ
@@ -33,9 +33,9 @@ pub record DeclaresOne (declared : Declared) (text : List ℕ)
   pub front : front_of declared text ≡ Whole size [] (PcapngFile first section)
   pub more : section.interfaces ≡ interfaces ++ interface ∷ []
 
--- the interface's number, and where data and options lie in the unit that a text begins with, as
--- the unit says: a record's data are after its header of 16 bytes, and it has no interface (0) and
--- no options
+-- the interface's number, and the spans of data and options in the unit at the start of these
+-- bytes; a record's data is after its header of 16 bytes, and it has no interface (0) and no
+-- options
 abbrev pub UnitHas : Declared → List ℕ → PacketSpans → Type 0
 UnitHas Nothing text spans = ⊥
 UnitHas (PcapFile head) text spans =
@@ -63,14 +63,14 @@ pub record IsPacketFound (capture : List ℕ) (offset : ℕ) (declared : Declare
   pub comment : q.comment ≡ comment_by declared (take p.options_length (drop p.options_at capture))
   pub options : p.options_at + p.options_length ≤ length capture
 
--- the reader, its table and its packet are as they were
+-- the reader, its table and its packet are unchanged
 pub record Stays (r r' : Reader) (t t' : List Interface) (p p' : Packet) : Type 0 where
   pub reader : r' ≡ r
   pub table : t' ≡ t
   pub packet : p' ≡ p
 
 -- the reader is after a unit of this size, which the capture has; it knows the first link type, and
--- counts as many interfaces as it knows
+-- its count of interfaces is that of the declarations
 pub record IsPastUnit (capture : List ℕ) (size : ℕ) (r r' : Reader) (t' : List Interface) : Type 0
   where
     pub offset : r'.offset ≡ r.offset + size
@@ -79,8 +79,8 @@ pub record IsPastUnit (capture : List ℕ) (size : ℕ) (r r' : Reader) (t' : Li
     pub link : HasLink (first_link_of (declared_in r' t')) r'
     pub counted : r'.interfaces ≡ most_known r' (length t')
 
--- the unit at the reader's place, by what its units so far declare: it is passed, or its packet is
--- found, or nothing is present, or it has a fault, or a full table has no room for its interface
+-- the result for the unit at the reader's offset: it is skipped, or its packet is found; or the
+-- capture ends there, or the unit has a fault, or the table has no room for its interface
 pub data NextLeaves (capture : List ℕ) (r r' : Reader) (t t' : List Interface)
     (p p' : Packet) : Found → Type 0 where
   passes : (size : ℕ)
@@ -106,14 +106,14 @@ IsStop Found.Unit = ⊥
 IsStop Found.Packet = ⊥
 IsStop what = Unit {0}
 
--- a reader and its table, at first and after units without a packet
+-- a reader and its table, at the start and after units without a packet
 pub data PassesUnits (capture : List ℕ) (r : Reader) (t : List Interface)
     (p : Packet) : Reader → List Interface → Type 0 where
   none_passed : PassesUnits capture r t p r t
   one_passed : {s s' : Reader} {u u' : List Interface} → PassesUnits capture r t p s u
       → NextLeaves capture s s' u u' p p Found.Unit → PassesUnits capture r t p s' u'
 
--- units without a packet are passed, and then this is found: no such unit
+-- units without a packet are skipped, and then something else is found: this
 pub record PacketLeaves (capture : List ℕ) (r r' : Reader) (t t' : List Interface) (p p' : Packet)
     (what : Found) : Type 0 where
   pub between : Reader

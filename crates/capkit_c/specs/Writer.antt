@@ -1,4 +1,4 @@
--- The units of a pcapng file that is written packet by packet, as the definitions of a sink have it.
+-- The units of a pcapng file that is written packet by packet, as for a sink.
 use Rattle.std.specs.Prelude.{◌≡◌, ℕ, ◌==◌, ◌≤◌, ◌&&◌, not, false, if◌then◌else◌, Bool, min, nat_lt, nat_le, List, [], ◌∷◌, ◌++◌, length, map, take, Option}
 use Rattle.cap_octet.specs.{Checks.first_failing, Date.TIME_END, Packet.Captured, declared.fault.Fault.Fault}
 use Rattle.cap_octet.specs.declared.fault.Fault.TheVariants.{BadOption, TimeOutOfRange, TooManyOutputInterfaces}
@@ -16,16 +16,16 @@ output_interface i = record { link = i.link_type; snap = i.snap; name = take i.n
 abbrev pub room_for : ℕ → ℕ
 room_for room = min room text.most_output_interfaces
 
--- how many interfaces a writer has written, whatever C wrote into it
+-- the most interfaces that a writer has written, whatever C wrote into it
 abbrev pub most_written : Writer → ℕ → ℕ
 most_written w room = min w.interfaces (room_for room)
 
--- the interfaces that are written so far
+-- the interfaces written so far
 abbrev pub interfaces_in : Writer → List Interface → List text.Interface
 interfaces_in w table = map output_interface (take (most_written w (length table)) table)
 
--- the checks of a packet that must be put, in order; `room` is whether its interface is one of those
--- that the file may have
+-- the checks of a packet before it is put, in order; `room` is whether the file may have its
+-- interface
 abbrev pub put_checks : (room : Bool) → Captured → List (Bool × Fault)
 put_checks room p =
     (nat_lt p.time TIME_END, TimeOutOfRange)
@@ -42,8 +42,8 @@ put_refusal w table p =
     (nat_lt (text.number_among (interfaces_in w table) (text.interface_of p))
     (room_for (length table))) p)
 
--- whether only the block of the packet is left to write: the section is begun, and the interface of
--- the packet is described
+-- whether only the packet's block remains to be written: the section is begun, and the packet's
+-- interface is described
 abbrev pub has_all : Writer → List Interface → Captured → Bool
 has_all w table p =
     not (w.has_section == 0) && text.is_among (interfaces_in w table) (text.interface_of p)
@@ -56,7 +56,7 @@ next_text w table p =
     then packet_block (text.number_among (interfaces_in w table) (text.interface_of p)) p
     else interface_text p.link p.snap p.name)
 
--- the interfaces that are written after that unit
+-- the interfaces written after that unit
 abbrev pub interfaces_after_unit : Writer → List Interface → Captured → List text.Interface
 interfaces_after_unit w table p =
     interfaces_in w table
@@ -68,8 +68,8 @@ abbrev pub IsWhole : Written → Type 0
 IsWhole (Written.Whole count) = Unit {0}
 IsWhole _ = ⊥
 
--- what is kept after a unit was written; a writer that counted no more interfaces than the file may
--- have counts just those that are written
+-- what is recorded after a unit was written; a writer that counted no more interfaces than the file
+-- may have now counts exactly the written ones
 pub record HasWritten (w : Writer) (table : List Interface) (p : Captured) (w' : Writer)
     (table' : List Interface) : Type 0 where
   pub section : (w'.has_section == 0) ≡ false
@@ -78,7 +78,7 @@ pub record HasWritten (w : Writer) (table : List Interface) (p : Captured) (w' :
   pub counted : w.interfaces ≤ room_for (length table)
       → w'.interfaces ≡ length (interfaces_in w' table')
 
--- what is kept after a call: more if a unit was written, else the same
+-- what is recorded after a call: the new state if a unit was written, else the old
 abbrev pub KeepsWritten : Written → Writer → List Interface → Captured → Writer → List Interface
     → Type 0
 KeepsWritten (Written.Whole count) w table p w' table' = HasWritten w table p w' table'
@@ -103,15 +103,15 @@ put_number (Written.Whole count) is_packet = if is_packet then 0 else 227
 put_number (Written.NoRoom count) is_packet = 225
 put_number (Written.Refused fault) is_packet = fault_number fault
 
--- the result of a call that puts a packet: the next unit, unless the packet is refused or the
--- buffer has no room for the unit
+-- the result of a call that puts a packet: the next unit is written, unless the packet is refused
+-- or the buffer is too small
 pub record Puts (w : Writer) (table : List Interface) (p : Captured) (old new : List ℕ) (put : Put)
     (w' : Writer) (table' : List Interface) : Type 0 where
   pub leaves : WriteLeaves (put_refusal w table p) (next_text w table p) old new put.written
   pub is_packet : IsWhole put.written → put.is_packet ≡ has_all w table p
   pub keeps : KeepsWritten put.written w table p w' table'
 
--- the same, in numbers
+-- the same result, in numbers
 pub record PutTells (w : Writer) (table : List Interface) (p : Captured) (old new : List ℕ)
     (length number : ℕ) (w' : Writer) (table' : List Interface) : Type 0 where
   pub put : Put

@@ -3,20 +3,19 @@ use Rattle.std.specs.Prelude.{◌≡◌, ℕ, List, Option}
 use Rattle.cap_octet.specs.declared.fault.Fault.{Fault}
 use Rattle.capkit_c.specs.{Buffers.WriteLeaves, Reading.fault_number, declared.memory.writing.Written.Written}
 
--- the number of what became of the bytes
+-- the number for the result of a write
 abbrev pub written_number : Written → ℕ
 written_number (Written.Whole count) = 0
 written_number (Written.NoRoom count) = 225
 written_number (Written.Refused fault) = fault_number fault
 
--- how many bytes are written, or would be if there were room; 0 if they are refused
+-- the number of bytes that are written, or would be if there were room; 0 if they are refused
 abbrev pub written_length : Written → ℕ
 written_length (Written.Whole count) = count
 written_length (Written.NoRoom count) = count
 written_length (Written.Refused fault) = 0
 
--- the bytes are written whole, or find no room, or are refused, and number and length are those of
--- that
+-- the bytes are written, or there is no room, or they are refused; number and length state which
 pub record WriteTells (refusal : Option Fault) (bytes old new : List ℕ)
     (length number : ℕ) : Type 0 where
   pub written : Written

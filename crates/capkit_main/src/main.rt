@@ -1,4 +1,4 @@
-//! capkit: a workbench for saved packet captures.
+//! capkit edits, merges, filters and prints saved packet captures.
 //!
 //! This is the program that users run; `main` is all it has. It calls `run_program` of
 //! `capkit_host`, which parses the words, runs the command and reports errors.

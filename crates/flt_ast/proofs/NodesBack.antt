@@ -1,4 +1,4 @@
--- The nodes as they are written, latest first, are those of the tree turned round.
+-- The nodes as they are written, latest first, are the tree's nodes in reverse order.
 use Rattle.std.proofs.Common.{◌≡◌, List, [], refl, sym, ap, ◌∙◌}
 use mathlib.Core.List.{reverse_aux}
 use Rattle.flt_ast.specs.Nodes.{number_nodes, truth_nodes, expr_nodes, tree_of}

@@ -5,7 +5,7 @@ use Rattle.flt_words.specs.declared.token.ValueType.TheVariants.{Host, Net, Port
 use Rattle.flt_ast.specs.declared.{fits.Fit.Fit, qualifiers.Direction.Direction}
 use Rattle.flt_ast.specs.declared.value.{Dotted.Dotted, NetMask.NetMask, Value.Value}
 
--- the protocols, or none, after which an IPv4 address may stand
+-- whether an IPv4 address may follow this protocol, or none
 abbrev pub has_ip4_addresses : Option Protocol → Bool
 has_ip4_addresses None = true
 has_ip4_addresses (Some Protocol.Ip) = true
@@ -13,51 +13,51 @@ has_ip4_addresses (Some Protocol.Arp) = true
 has_ip4_addresses (Some Protocol.Rarp) = true
 has_ip4_addresses _ = false
 
--- the protocols, or none, after which an IPv6 address may stand
+-- whether an IPv6 address may follow this protocol, or none
 abbrev pub has_ip6_addresses : Option Protocol → Bool
 has_ip6_addresses None = true
 has_ip6_addresses (Some Protocol.Ip6) = true
 has_ip6_addresses _ = false
 
--- the protocols, or none, after which a port may stand
+-- whether a port may follow this protocol, or none
 abbrev pub has_port_numbers : Option Protocol → Bool
 has_port_numbers None = true
 has_port_numbers (Some Protocol.Tcp) = true
 has_port_numbers (Some Protocol.Udp) = true
 has_port_numbers _ = false
 
--- the protocols, or none, after which an IP protocol number may stand
+-- whether an IP protocol number may follow this protocol, or none
 abbrev pub has_protocol_numbers : Option Protocol → Bool
 has_protocol_numbers None = true
 has_protocol_numbers (Some Protocol.Ip) = true
 has_protocol_numbers (Some Protocol.Ip6) = true
 has_protocol_numbers _ = false
 
--- the protocol after which a MAC address may stand
+-- whether a MAC address may follow this protocol
 abbrev pub has_mac_addresses : Option Protocol → Bool
 has_mac_addresses (Some Protocol.Ether) = true
 has_mac_addresses _ = false
 
--- all four parts of an IPv4 address are written
+-- whether all four parts of an IPv4 address are given
 abbrev pub is_whole : Dotted → Bool
 is_whole d = d.parts == 4
 
--- a mask that a network may have: one of `mask D` has four parts
+-- whether a network may have this mask: one of `mask D` needs four parts
 abbrev pub is_net_mask : NetMask → Bool
 is_net_mask (NetMask.Mask d) = is_whole d
 is_net_mask _ = true
 
--- the length of a prefix, if one is written, is at most that of an IPv4 address
+-- whether the length of an IPv4 prefix, if one is given, is in range
 abbrev pub is_ip4_prefix_len : NetMask → Bool
 is_ip4_prefix_len (NetMask.Prefix n) = nat_le n 32
 is_ip4_prefix_len _ = true
 
--- the length of a prefix, if one is written, is at most that of an IPv6 address
+-- whether the length of an IPv6 prefix, if one is given, is in range
 abbrev pub is_ip6_prefix_len : Option ℕ → Bool
 is_ip6_prefix_len None = true
 is_ip6_prefix_len (Some n) = nat_le n 128
 
--- the fit of a value, by whether it goes with its type and protocol, and whether it is in range
+-- the fit of a value, by two conditions: it agrees with its type and protocol, and it is in range
 abbrev pub fit_if : Bool → Bool → Fit
 fit_if true true = Fit.InRange
 fit_if true false = Fit.OutOfRange
@@ -81,12 +81,12 @@ fit_of Proto (Value.Number n NetMask.Unwritten) (Some Protocol.Ether) =
 fit_of Proto (Value.Number n NetMask.Unwritten) p = fit_if (has_protocol_numbers p) (nat_le n 255)
 fit_of _ _ _ = Fit.Misfit
 
--- the value doesn't go with its type and protocol
+-- the value doesn't agree with its type and protocol
 abbrev pub is_misfit_fit : Fit → Bool
 is_misfit_fit Fit.Misfit = true
 is_misfit_fit _ = false
 
--- the value goes with its type and protocol, but is out of range
+-- the value agrees with its type and protocol, but is out of range
 abbrev pub is_out_of_range_fit : Fit → Bool
 is_out_of_range_fit Fit.OutOfRange = true
 is_out_of_range_fit _ = false
@@ -101,13 +101,13 @@ abbrev pub is_proto : ValueType → Bool
 is_proto Proto = true
 is_proto _ = false
 
--- the direction `src or dst`, as it is filled in if none is written: with a protocol's number
--- none may be
+-- the direction `src or dst`, which is filled in if none is given; a protocol number may have no
+-- other
 abbrev pub is_either : Direction → Bool
 is_either (Direction.Both Or) = true
 is_either _ = false
 
--- `broadcast` does not go with `ip` and `ip6`
+-- whether `broadcast` follows `ip` or `ip6`, which it may not
 abbrev pub is_cast_misfit : Option Protocol → Cast → Bool
 is_cast_misfit (Some Protocol.Ip) Cast.Broadcast = true
 is_cast_misfit (Some Protocol.Ip6) Cast.Broadcast = true

@@ -1,10 +1,10 @@
--- The nodes of a tree, operands first, and the tree of such nodes.
+-- The nodes of a tree, operands first, and the tree that nodes make.
 use Rattle.std.specs.Prelude.{List, [], ◌∷◌, fold}
 use Rattle.flt_words.specs.declared.token.Comparison.{Comparison}
 use Rattle.flt_ast.specs.Tree.{NumberTree, literal, len, named, load, negated, applied, TruthTree, check, cast, sized, bare, valued, qualified, compared, denied, joined, Expression, empty, truth}
 use Rattle.flt_ast.specs.declared.node.Node.{Node}
 
--- the nodes of a number, and then the rest
+-- the nodes of a number, followed by others
 abbrev pub number_nodes : NumberTree → List Node → List Node
 number_nodes (literal n) rest = Node.Literal n ∷ rest
 number_nodes len rest = Node.Len ∷ rest
@@ -13,7 +13,7 @@ number_nodes (load p s a) rest = number_nodes a (Node.Load p s ∷ rest)
 number_nodes (negated a) rest = number_nodes a (Node.Negate ∷ rest)
 number_nodes (applied o a b) rest = number_nodes a (number_nodes b (Node.Apply o ∷ rest))
 
--- the nodes of a truth, and then the rest
+-- the nodes of a truth, followed by others
 abbrev pub truth_nodes : TruthTree → List Node → List Node
 truth_nodes (check p) rest = Node.Check p ∷ rest
 truth_nodes (cast p c) rest = Node.Cast p c ∷ rest
@@ -30,22 +30,22 @@ abbrev pub expr_nodes : Expression → List Node
 expr_nodes empty = []
 expr_nodes (truth a) = truth_nodes a []
 
--- the trees that no later node has taken yet, latest first
+-- the trees that aren't yet part of another one, latest first
 pub record Trees : Type 0 where
   pub truths : List TruthTree
   pub numbers : List NumberTree
 
--- the latest tree gives way to what is made of it
+-- the latest tree is replaced by what is made of it
 abbrev pub with_latest : {T : Type 0} → (T → T) → List T → List T
 with_latest f [] = []
 with_latest f (a ∷ rest) = f a ∷ rest
 
--- the latest two trees give way to what is made of them
+-- the latest two trees are replaced by what is made of them
 abbrev pub with_two : {T : Type 0} → (T → T → T) → List T → List T
 with_two f (b ∷ a ∷ rest) = f a b ∷ rest
 with_two f rest = rest
 
--- the latest two numbers give way to a truth, their comparison
+-- the latest two numbers are replaced by their comparison, a truth
 abbrev pub with_compared : Comparison → List TruthTree → List NumberTree → Trees
 with_compared c truths (b ∷ a ∷ rest) = record { truths = compared c a b ∷ truths; numbers = rest }
 with_compared c truths rest = record { truths = truths; numbers = rest }

@@ -1,5 +1,5 @@
--- The faults of a tree whose bare values have their qualifiers: a misfit, a value out of range,
--- bits past a mask.
+-- The faults of a tree whose bare values have inherited qualifiers: a misfit, a value out of range,
+-- bits outside a mask.
 use Rattle.std.specs.Prelude.{◌≡◌, Bool, true, false, not, ◌&&◌, ◌||◌, is_some, Option, Some, None}
 use Rattle.flt_words.specs.declared.fault.ExprFault.{ExprFault}
 use Rattle.flt_ast.specs.Filled.{type_or_host, expr_inherited}
@@ -15,7 +15,7 @@ has_wrong_size (negated a) = has_wrong_size a
 has_wrong_size (applied o a b) = has_wrong_size a || has_wrong_size b
 has_wrong_size _ = false
 
--- what stands before a primitive's value, or before `broadcast`, doesn't go with it (E7)
+-- what precedes a primitive's value, or `broadcast`, doesn't fit it (E7)
 abbrev pub is_misfit : TruthTree → Bool
 is_misfit (cast p c) = is_cast_misfit p c
 is_misfit (valued q v) =
@@ -33,13 +33,13 @@ is_out_of_range (qualified q v) = is_out_of_range_fit (fit_of q.value_type v q.p
 is_out_of_range (compared c a b) = has_wrong_size a || has_wrong_size b
 is_out_of_range _ = false
 
--- a primitive's network has bits set that its mask leaves out (E9)
+-- a primitive's network has address bits that its mask doesn't have (E9)
 abbrev pub has_bits_past_mask : TruthTree → Bool
 has_bits_past_mask (valued q v) = is_net (type_or_host q) && is_past_mask v
 has_bits_past_mask (qualified q v) = is_net q.value_type && is_past_mask v
 has_bits_past_mask _ = false
 
--- the qualifiers of a value aren't filled in yet
+-- the qualifiers of a value aren't complete yet
 abbrev pub is_unfilled : TruthTree → Bool
 is_unfilled (bare v) = true
 is_unfilled (valued q v) = true
@@ -56,32 +56,32 @@ abbrev pub some_primitive : (TruthTree → Bool) → Expression → Bool
 some_primitive f empty = false
 some_primitive f (truth a) = any_primitive f a
 
--- the first of E7, E8, E9 over the whole tree
+-- the first of E7, E8 and E9 that applies to the whole tree
 abbrev pub first_fault : Bool → Bool → Bool → Option ExprFault
 first_fault true out_of_range past = Some ExprFault.QualifiersDoNotFit
 first_fault false true past = Some ExprFault.ValueOutOfRange
 first_fault false false true = Some ExprFault.BitsPastMask
 first_fault false false false = None
 
--- the fault of a tree whose bare values have inherited, or none: the one with the smallest number
+-- the fault of a tree after its bare values have inherited, or none: the one with the lowest number
 abbrev pub tree_fault : Expression → Option ExprFault
 tree_fault e =
     first_fault (some_primitive is_misfit e) (some_primitive is_out_of_range e)
     (some_primitive has_bits_past_mask e)
 
--- the fault that `flt_lang::resolve` reports of an expression, once its bare values have their
+-- the fault that `flt_lang::resolve` reports for an expression after its bare values have inherited
 -- qualifiers, or none
 abbrev pub fill_fault : Expression → Option ExprFault
 fill_fault e = tree_fault (expr_inherited e)
 
--- a tree as it is resolved: each value has all its qualifiers, and there is none of these faults
+-- a resolved tree: each value has all its qualifiers, and there is none of these faults
 pub record IsResolved (e : Expression) : Type 0 where
   pub is_filled : some_primitive is_unfilled e ≡ false
   pub fits : some_primitive is_misfit e ≡ false
   pub in_range : some_primitive is_out_of_range e ≡ false
   pub in_mask : some_primitive has_bits_past_mask e ≡ false
 
--- what stands before a node's value, or before `broadcast`, doesn't go with it (E7)
+-- what precedes a node's value, or `broadcast`, doesn't fit it (E7)
 abbrev pub is_misfit_node : Node → Bool
 is_misfit_node (Node.Cast p c) = is_misfit (cast p c)
 is_misfit_node (Node.Valued q v) = is_misfit (valued q v)
@@ -95,7 +95,7 @@ is_out_of_range_node (Node.Qualified q v) = is_out_of_range (qualified q v)
 is_out_of_range_node (Node.Load p s) = not (is_size s)
 is_out_of_range_node _ = false
 
--- a node's network has bits set that its mask leaves out (E9)
+-- a node's network has address bits that its mask doesn't have (E9)
 abbrev pub has_bits_past_mask_node : Node → Bool
 has_bits_past_mask_node (Node.Valued q v) = has_bits_past_mask (valued q v)
 has_bits_past_mask_node (Node.Qualified q v) = has_bits_past_mask (qualified q v)

@@ -1,11 +1,11 @@
--- What an expression means: plain trees of two sorts, truths and numbers.
+-- What an expression means: trees of two sorts, truths and numbers.
 use Rattle.std.specs.Prelude.{ℕ, Option}
 use Rattle.flt_words.specs.declared.token.{Cast.Cast, Comparison.Comparison}
 use Rattle.flt_words.specs.declared.token.{Join.Join, Operator.Operator, Protocol.Protocol, Size.Size}
 use Rattle.flt_ast.specs.declared.qualifiers.{CompleteQualifiers.CompleteQualifiers, Qualifiers.Qualifiers}
 use Rattle.flt_ast.specs.declared.value.Value.{Value}
 
--- an accessor, `load`, has its protocol, its size in bytes and its place
+-- an accessor, `load`, has its protocol, its size in bytes and its index
 pub data NumberTree : Type 0 where
   literal : ℕ → NumberTree
   len : NumberTree
@@ -14,7 +14,7 @@ pub data NumberTree : Type 0 where
   negated : NumberTree → NumberTree
   applied : Operator → NumberTree → NumberTree → NumberTree
 
--- a value is alone, has what is written before it, or has all its qualifiers
+-- a value has no qualifiers, those given before it, or all its qualifiers
 pub data TruthTree : Type 0 where
   check : Protocol → TruthTree
   cast : Option Protocol → Cast → TruthTree

@@ -77,7 +77,7 @@ stopped_told before now after is k d written s bytes l e less size first next =
     ∙ ap (λ (x : List ℕ). before ++ x) (stopped_at is k d s l upper_bound)
     ∙ ap (λ n. before ++ take (n + s) (listing is)) (sym size)
 
--- a whole line more
+-- one more complete line
 pub more_told : (before now after : List ℕ) (is : List Insn) (k : ℕ) (d : Insn) (bytes : List ℕ) → k < length is → bytes ≡ insn_line (get_or is k d)
     ++ LINE_FEED ∷ [] → now ≡ before ++ front_of is k → after ≡ now ++ bytes → after ≡ before ++ front_of is (k + 1)
 more_told before now after is k d bytes l e first next =

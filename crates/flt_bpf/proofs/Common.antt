@@ -1,4 +1,4 @@
--- The names that most proofs here cite, passed on from one place. Declares nothing.
+-- Re-exports the names that most proofs of this crate cite; declares nothing.
 pub use Rattle.std.proofs.Common.{◌≡◌, ℕ, ◌+◌, ◌-◌, ◌<◌, ◌≤◌, List, [], ◌∷◌, ◌++◌, length, take, drop, length-append, append_assoc, refl, sym, ap, ◌∙◌, arith}
 pub use Rattle.std.proofs.Common.{get_or, decimal, zero, suc, Bool, true, false, Option, Some, None, subst, ◌⊎◌, inl, inr, slice_get, nat_lt, if◌then◌else◌}
 pub use Rattle.std.proofs.Common.{IsSomeAnd, length-drop, ◌==◌, ◌^◌, not, ◌&&◌, All, ◌≢◌, cond, replicate, rules, bit_and, ◌*◌, max}

@@ -12,7 +12,7 @@ jump_later c i place jump h =
     later (inl e) = inl (omega arith)
     later (inr e) = inr (omega arith)
 
--- so do all of them after another instruction
+-- all jumps remain needed after another instruction
 pub needed_put : (c : List Insn) (i : Insn) → i.code ≢ JUMP → JumpsAreNeeded c → JumpsAreNeeded (i ∷ c)
 needed_put c i other h = record { each = at }
   where

@@ -27,7 +27,8 @@ lines_none : (text : List ℕ) → length text ≡ 0 → lines_of text ≡ []
 lines_none [] e = refl
 lines_none (b ∷ bs) e = absurd (omega arith)
 
--- lines that are read to their place: instructions in front of those of the others, and the wrong line after them
+-- lines that are read up to their end: their instructions before those of the others, and the wrong
+-- line after them
 pub record ReadTo (lines others : List (List ℕ)) (n at : ℕ) (is : List Insn) : Type 0 where
   pub counted : length is ≡ at
   pub insns : (js : List Insn) → AllZip IsInsnLine others js → AllZip IsInsnLine lines (is ++ js)

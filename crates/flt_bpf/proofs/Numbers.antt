@@ -70,7 +70,7 @@ later_full w ws l = grind arith
 later_skip : (ws : List (List ℕ)) → 0 < length ws → later_numbers ([] ∷ ws) ≡ later_numbers ws
 later_skip ws l = grind arith
 
--- blanks before later numbers are passed over
+-- blanks before later numbers are skipped
 later_blanks : (k : ℕ) (rest : List ℕ) → later_numbers (slice_split (λ b. b == BLANK) (replicate k BLANK ++ rest)) ≡ later_numbers
     (slice_split (λ b. b == BLANK) rest)
 later_blanks zero rest = refl

@@ -1,4 +1,4 @@
--- The listing that is written of instructions is a listing of them.
+-- The listing that is written for instructions is a listing of them.
 use Rattle.flt_bpf.proofs.Common.{◌≡◌, ℕ, suc, ◌*◌, ◌^◌, ◌<◌, ◌≤◌, List, [], ◌∷◌, ◌++◌, length, length-append, append_assoc, false, refl, sym, subst, arith}
 use Rattle.flt_bpf.proofs.Common.{common_steps, ◌==◌, All, decimal, AllZip, length-decimal-le, All-append, All-cons, slice_split_at, Insn, BLANK, LINE_FEED}
 use Rattle.flt_bpf.proofs.Common.{insn_line, insn_lines, listing, AreNumbers, HasFieldsInRange, IsInsnLine, lines_of, AreListingLines, IsListing}
@@ -17,7 +17,7 @@ number_before n m ns rest l h =
       rest_is = h;
     }
 
--- the line that is written of an instruction is one of it
+-- the line that is written for an instruction is a line of it
 insn_written : (i : Insn) → HasFieldsInRange i → IsInsnLine (insn_line i) i
 insn_written i r =
     let jf = number_before i.jf i.k [] (decimal i.k) (omega (arith, r.jf)) (decimal_number i.k r.k) in

@@ -1,4 +1,4 @@
--- Listings of programs: how they are written, which texts are listings, and which line of another
+-- Listings of programs: how they are written, which texts are listings, and which line of any other
 -- text is the first wrong one.
 use Rattle.std.specs.List.{slice_split, AllZip}
 use Rattle.std.specs.Prelude.{◌≡◌, ℕ, zero, suc, ◌+◌, ◌^◌, ◌<◌, ◌≤◌, ◌⊎◌, ◌==◌, List, [], ◌∷◌, ◌++◌, length, replicate, slice_get, IsSomeAnd, decimal}
@@ -13,7 +13,7 @@ BLANK = 32
 abbrev pub LINE_FEED : ℕ
 LINE_FEED = 10
 
--- how many bytes a listing may have
+-- the most bytes of a listing
 abbrev pub MOST_BYTES : ℕ
 MOST_BYTES = 1048576
 
@@ -27,17 +27,17 @@ abbrev pub insn_lines : List Insn → List ℕ
 insn_lines [] = []
 insn_lines (i ∷ is) = insn_line i ++ LINE_FEED ∷ insn_lines is
 
--- the listing of instructions, as it is written
+-- the listing of instructions
 abbrev pub listing : List Insn → List ℕ
 listing is = decimal (length is) ++ LINE_FEED ∷ insn_lines is
 
--- a number is written by 1 to 10 digits, of which the first may be zeros
+-- a number in 1 to 10 digits, maybe with leading zeros
 pub record IsWrittenNumber (digits : List ℕ) (n : ℕ) : Type 0 where
   pub numeral : IsNumeral 10 digits
   pub short : length digits ≤ 10
   pub value : digits_value 10 digits ≡ n
 
--- a line that begins with a number, one or more blanks, and a rest
+-- a line that consists of a number, one or more blanks, and then bytes for which `Rest` is true
 pub record BeginsWith (line : List ℕ) (n : ℕ) (Rest : List ℕ → Type 0) : Type 0 where
   pub digits : List ℕ
   pub more_blanks : ℕ
@@ -46,14 +46,14 @@ pub record BeginsWith (line : List ℕ) (n : ℕ) (Rest : List ℕ → Type 0) :
   pub number : IsWrittenNumber digits n
   pub rest_is : Rest rest
 
--- a line of these numbers, of which there is one at least, with one or more blanks between each
--- two, and none before the first or after the last
+-- a line of one or more of these numbers, with one or more blanks between any two, and none at the
+-- ends
 abbrev pub AreNumbers : List ℕ → List ℕ → Type 0
 AreNumbers line [] = ⊥
 AreNumbers line (n ∷ []) = IsWrittenNumber line n
 AreNumbers line (n ∷ m ∷ ns) = BeginsWith line n (λ rest. AreNumbers rest (m ∷ ns))
 
--- the fields of an instruction are numbers of their types
+-- the fields of an instruction are in the ranges of their types
 pub record HasFieldsInRange (i : Insn) : Type 0 where
   pub code : i.code < 2 ^ 16
   pub jt : i.jt < 2 ^ 8
@@ -65,18 +65,18 @@ pub record IsInsnLine (line : List ℕ) (i : Insn) : Type 0 where
   pub numbers : AreNumbers line (i.code ∷ i.jt ∷ i.jf ∷ i.k ∷ [])
   pub in_range : HasFieldsInRange i
 
--- the pieces between line feeds, without the last one if that is empty
+-- the pieces between line feeds; the last one is left out if it is empty
 abbrev pub lines_from : List (List ℕ) → List (List ℕ)
 lines_from [] = []
 lines_from ([] ∷ []) = []
 lines_from ((b ∷ bs) ∷ []) = (b ∷ bs) ∷ []
 lines_from (w ∷ v ∷ ws) = w ∷ lines_from (v ∷ ws)
 
--- the lines of a text, each ended by a line feed, which the last one may lack
+-- the lines of a text, each ended by a line feed, which may be missing in the last one
 abbrev pub lines_of : List ℕ → List (List ℕ)
 lines_of text = lines_from (slice_split (λ b. b == LINE_FEED) text)
 
--- the first line of a listing is the number of instructions, and these stand on the others
+-- the first line is the number of instructions, and each other line has one of these
 abbrev pub AreListingLines : List (List ℕ) → List Insn → Type 0
 AreListingLines [] is = ⊥
 AreListingLines (first ∷ others) is =
@@ -88,13 +88,13 @@ pub record IsListing (text : List ℕ) (is : List Insn) : Type 0 where
   pub upper_bound : length is ≤ MOST_INSTRUCTIONS
   pub lines : AreListingLines (lines_of text) is
 
--- the first line is present and is a number of instructions that a program may have
+-- the first line exists, and is a number of instructions that a program may have
 pub record HasCount (lines : List (List ℕ)) (count : ℕ) : Type 0 where
   pub number : IsSomeAnd (slice_get lines 0) (λ line. IsWrittenNumber line count)
   pub upper_bound : count ≤ MOST_INSTRUCTIONS
 
--- The line after k others is wrong: the first one if it isn't a count; a later one if it
--- should be an instruction and is none or is missing, or if it is one too many.
+-- The line after k others is wrong: the first one if it isn't a count; a later one if it should be
+-- an instruction but isn't or is missing, or if it is one too many.
 abbrev pub IsWrong : List (List ℕ) → ℕ → Type 0
 IsWrong lines zero = (count : ℕ) → ¬ HasCount lines count
 IsWrong lines (suc k) = (count : ℕ) × HasCount lines count
@@ -107,8 +107,8 @@ pub record FirstWrong (lines : List (List ℕ)) (k : ℕ) : Type 0 where
   pub wrong : IsWrong lines k
   pub first : (j : ℕ) → j < k → ¬ IsWrong lines j
 
--- The number, from 1, of the line at which a text is refused: 1 for a text that is too long, else
--- that of the first wrong line.
+-- The number, from 1, of the line at which a text is refused: 1 if the text is too long, else that
+-- of the first wrong line.
 abbrev pub IsRefusedAt : List ℕ → ℕ → Type 0
 IsRefusedAt text line =
     ((MOST_BYTES < length text) × (line ≡ 1))

@@ -10,7 +10,7 @@ use Rattle.flt_explain.proofs.WordTokens.{IsWordFor, part_of_decimal, writes_dec
 use Rattle.std.specs.{Fmt.digits, Int.Digits.AllBelowBase, Int.Digits.number_from_digits, List.join_with_byte}
 use Rattle.flt_words.specs.{Words.Spells.dotted, declared.token.TokenKind.TokenKind}
 
--- how numbers below a base are written as groups of digits, between which a byte stands
+-- how numbers below a base are written as groups of digits with a byte between them
 record Writes (inside : Bool) (between base radix : ℕ) (IsGroup : List ℕ → Type 0) (write : ℕ → List ℕ) : Type 0 where
   group : (n : ℕ) → n < base → IsGroup (write n)
   value : (n : ℕ) → n < base → digits_value radix (write n) ≡ n

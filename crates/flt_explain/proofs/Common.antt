@@ -1,4 +1,4 @@
--- The names that most proofs here cite, passed on from one place. Declares nothing.
+-- Re-exports the names that most proofs of this crate cite; declares nothing.
 pub use Rattle.std.proofs.Common.{◌≡◌, ℕ, suc, zero, ◌+◌, ◌*◌, ◌/◌, ◌%◌, ◌^◌, ◌<◌, ◌≤◌, List, [], ◌∷◌, ◌++◌, length, refl, arith, rules, Bool, true, false}
 pub use Rattle.std.proofs.Common.{◌==◌, cond, lit<, lit≤, append_assoc, pow-suc, sym, subst, Option, Some, None, ap, ◌&&◌, ◌||◌, not, is_some, get_or, take}
 pub use Rattle.std.proofs.Common.{◌∙◌, ◌⊎◌, inl, inr, ⊎_elim, drop, count_by, nat_lt, codes, if◌then◌else◌, Ok, append-nil, length-append, ◌-◌, map, Result}

@@ -13,7 +13,8 @@ use Rattle.std.proofs.{Math.Bool.and-false, lemmas.List.Sums.sum_by-append}
 use Rattle.flt_words.specs.Tokens.TokensFrom.{at_end, blank, token as one_more}
 use Rattle.flt_words.specs.declared.token.TokenKind.TheVariants as token
 
--- what may follow a token that leaves a gap where it can: a blank, `)`, `[`, `]`, `/`, and `:` inside brackets
+-- what may follow a token after which there may be a gap: a blank, `)`, `[`, `]`, `/`, and `:`
+-- inside brackets
 abbrev pub is_end : Bool → ℕ → Bool
 is_end inside c = c == 32 || (c == 41 || (c == 91 || (c == 93 || (c == 47 || (inside && c == 58)))))
 
@@ -21,7 +22,7 @@ pub data Ends (inside : Bool) : List ℕ → Type 0 where
   no_more : Ends inside []
   goes_on : {c : ℕ} {more : List ℕ} → is_end inside c ≡ true → Ends inside (c ∷ more)
 
--- no word goes on there
+-- no word continues there
 not_within : (inside : Bool) (c : ℕ) → is_end inside c ≡ true → within_word inside c ≡ false
 not_within inside c end = grind (arith, nat_tests)
 
@@ -141,7 +142,7 @@ word_here : (d place : ℕ) (word : List ℕ) (t : TokenKind) (rest : List Token
 word_here d place word t rest following h w s = word_token (nat_lt 0 d) place word (gap t rest ++ tokens_text following rest) t w.part w.stands w.fit
     (word_ends (nat_lt 0 d) (gap t rest ++ tokens_text following rest) (ends_of d t rest following h s))
 
--- a token stands at its place
+-- a token is at its place
 token_here : (t : TokenKind) (d place : ℕ) (following next : Following) (rest : List TokenKind) → IsSpellable t → IsAt d t
     → AreSpelled (depth_after d t) rest → IsToken (nat_lt 0 d) place (spelling following t ++ (gap t rest ++ tokens_text next rest)) t
     (length (spelling following t))
@@ -190,7 +191,7 @@ counted : (c : ℕ) (front word g : List ℕ) → count_by (λ b. b == c) (front
 counted c front word g =
     sum_by-append (λ b. cond (b == c) 1 0) front (word ++ g) ∙ ap (λ n. count_by (λ b. b == c) front + n) (sum_by-append (λ b. cond (b == c) 1 0) word g)
 
--- a gap is passed over
+-- a gap is skipped
 over_gap : (text front g tail : List ℕ) (tokens : List Token) → text ≡ front ++ (g ++ tail) → (g ≡ []) ⊎ (g ≡ 32 ∷ [])
     → TokensFrom text (length front + length g) (Ok tokens) → TokensFrom text (length front) (Ok tokens)
 over_gap text front g tail tokens is which from =

@@ -105,7 +105,7 @@ part_of_keyword inside word kind found =
       ends = within.1;
     }
 
--- a word of which the text goes on with no more bytes
+-- a word that no further byte of the text continues
 module _ (inside : Bool) (place : ℕ) (word more : List ℕ) (kind : TokenKind) (part : IsPart inside word) (stands : Spells word kind) (fit : fits kind ≡ true)
     (stops : 0 < length more → within_word inside (get_or more 0 0) ≡ false) where
   here : (i : ℕ) → i < length word → get_or (word ++ more) i 0 ≡ get_or word i 0

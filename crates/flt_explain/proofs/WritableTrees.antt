@@ -11,7 +11,7 @@ use Rattle.flt_explain.proofs.WritableTokens.{all_spellable}
 abbrev All : List TokenKind → Type 0
 All kinds = AllByRecursion IsSpellable kinds
 
--- a number, and what is left after it
+-- a number, and the tokens after it
 from_number : {k : ℕ} {ts rest : List TokenKind} {a : NumberTree} → Number k ts a rest → All ts → IsWritableNumber a × All rest
 from_number (enclosed inner) s =
     let read = from_number inner s.1 in

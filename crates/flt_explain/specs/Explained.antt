@@ -20,13 +20,13 @@ use Rattle.flt_ast.specs.Tree.{NumberTree, literal, len, named, load, negated, a
 use Rattle.flt_explain.specs.declared.spelling.Following.TheVariants.{Other}
 use Rattle.flt_explain.specs.Texts.{tokens_text}
 
--- the mask that is written after a number or an address of a network, if one is, and then the rest
+-- the mask, if one is given, after the number or address of a network, and then other tokens
 abbrev pub mask_tokens : NetMask → List TokenKind → List TokenKind
 mask_tokens mask.Unwritten rest = rest
 mask_tokens (mask.Prefix n) rest = token.Operator Divide ∷ token.Number n ∷ rest
 mask_tokens (mask.Mask d) rest = token.Mask ∷ token.Dotted d.address d.parts ∷ rest
 
--- the tokens of a value without its qualifiers, and then the rest
+-- the tokens of a value without its qualifiers, and then others
 abbrev pub value_tokens : Value → List TokenKind → List TokenKind
 value_tokens (value.Number n m) rest = token.Number n ∷ mask_tokens m rest
 value_tokens (value.Dotted d m) rest = token.Dotted d.address d.parts ∷ mask_tokens m rest
@@ -35,38 +35,38 @@ value_tokens (value.Ip6 a (Some n)) rest = token.Ip6 a ∷ mask_tokens (mask.Pre
 value_tokens (value.Mac a) rest = token.Mac a ∷ rest
 value_tokens (value.Range a b) rest = token.Range a b ∷ rest
 
--- the protocol before a value, if there is one, and then the rest
+-- the protocol before a value, if there is one, and then other tokens
 abbrev pub protocol_tokens : Option Protocol → List TokenKind → List TokenKind
 protocol_tokens None rest = rest
 protocol_tokens (Some p) rest = token.Protocol p ∷ rest
 
--- the direction before a value, and then the rest; with both sides the source comes first
+-- the direction before a value, and then other tokens; if it has both sides the source comes first
 abbrev pub direction_tokens : Direction → List TokenKind → List TokenKind
 direction_tokens (direction.One s) rest = token.Side s ∷ rest
 direction_tokens (direction.Both j) rest =
     token.Side Source ∷ token.Join j ∷ token.Side Destination ∷ rest
 
--- the direction before a value, if there is one, and then the rest
+-- the direction before a value, if there is one, and then other tokens
 abbrev pub written_direction : Option Direction → List TokenKind → List TokenKind
 written_direction None rest = rest
 written_direction (Some d) rest = direction_tokens d rest
 
--- the type before a value, if there is one, and then the rest
+-- the type before a value, if there is one, and then other tokens
 abbrev pub type_tokens : Option ValueType → List TokenKind → List TokenKind
 type_tokens None rest = rest
 type_tokens (Some k) rest = token.ValueType k ∷ rest
 
--- the qualifiers before a value, and then the rest
+-- the qualifiers before a value, and then other tokens
 abbrev pub qualifier_tokens : Qualifiers → List TokenKind → List TokenKind
 qualifier_tokens q rest =
     protocol_tokens q.protocol (written_direction q.direction (type_tokens q.value_type rest))
 
--- the direction that is written, which before a protocol's number none may be
+-- the direction that is written; before a protocol number none may be
 abbrev pub written_side : ValueType → Direction → Option Direction
 written_side Proto d = None
 written_side _ d = Some d
 
--- all qualifiers that are written before a value
+-- the qualifiers that are written before a value
 abbrev pub written_qualifiers : CompleteQualifiers → Qualifiers
 written_qualifiers q = record {
   protocol = q.protocol;
@@ -74,7 +74,7 @@ written_qualifiers q = record {
   value_type = Some q.value_type;
 }
 
--- the tokens of a number as an operand, and then the rest
+-- the tokens of a number as an operand, and then others
 abbrev pub number_tokens : NumberTree → List TokenKind → List TokenKind
 number_tokens (literal n) rest = token.Number n ∷ rest
 number_tokens len rest = token.Len ∷ rest
@@ -87,17 +87,17 @@ number_tokens (negated a) rest =
 number_tokens (applied o a b) rest =
     token.Open ∷ number_tokens a (token.Operator o ∷ number_tokens b (token.Close ∷ rest))
 
--- the `)` after a node, if it is an operand, and then the rest
+-- the `)` after a node if it is an operand, and then other tokens
 abbrev pub close_operand : Bool → List TokenKind → List TokenKind
 close_operand true rest = token.Close ∷ rest
 close_operand false rest = rest
 
--- the `(` before a node, if it is an operand, and then the rest
+-- the `(` before a node if it is an operand, and then other tokens
 abbrev pub open_operand : Bool → List TokenKind → List TokenKind
 open_operand true rest = token.Open ∷ rest
 open_operand false rest = rest
 
--- the tokens of a truth, as an operand or as the whole, and then the rest
+-- the tokens of a truth, as an operand or as the whole, and then others
 abbrev pub truth_tokens : Bool → TruthTree → List TokenKind → List TokenKind
 truth_tokens operand (check p) rest = token.Protocol p ∷ rest
 truth_tokens operand (cast None c) rest = token.Cast c ∷ rest
@@ -120,11 +120,11 @@ truth_tokens operand (joined j a b) rest =
     open_operand operand
     (truth_tokens true a (token.Join j ∷ truth_tokens true b (close_operand operand rest)))
 
--- the tokens of what an expression means; the empty one has none
+-- the tokens of an expression's meaning; none for the empty one
 abbrev pub explained_tokens : Expression → List TokenKind
 explained_tokens empty = []
 explained_tokens (truth a) = truth_tokens false a []
 
--- the text of what an expression means, as `explain` returns it
+-- the text of an expression's meaning, as `explain` returns it
 abbrev pub explained_text : Expression → List ℕ
 explained_text e = tokens_text Other (explained_tokens e)

@@ -1,4 +1,4 @@
--- Tokens as a text: how each is spelled, and where blanks stand between them.
+-- The text of tokens: how each is spelled, and between which of them there are blanks.
 use Rattle.std.specs.Prelude.{ℕ, ◌/◌, ◌%◌, ◌^◌, ◌==◌, Bool, true, false, ◌||◌, List, [], ◌∷◌, ◌++◌, map, codes, if◌then◌else◌}
 use Rattle.std.specs.Fmt.{decimal, digit_glyph, digits}
 use Rattle.std.specs.List.{join_with_byte}
@@ -70,7 +70,7 @@ abbrev pub name_of_number_one : Following → List ℕ
 name_of_number_one IcmpBracket = codes "icmpcode"
 name_of_number_one _ = codes "tcp-fin"
 
--- the name of a number; one that has none is written in decimal
+-- the name of a number; without a name it is in decimal
 abbrev pub name_word : Following → ℕ → List ℕ
 name_word following n =
     if n == 0 then codes "icmptype" else
@@ -82,7 +82,7 @@ name_word following n =
     if n == 16 then codes "tcp-ack" else
     if n == 32 then codes "tcp-urg" else decimal n
 
--- the byte of an address that stands if a byte counts `weight`, a power of 256
+-- the byte of an address at the position with this weight, a power of 256
 abbrev pub octet : ℕ → ℕ → ℕ
 octet weight address = address / weight % 256
 
@@ -113,7 +113,7 @@ bytes_text half = join_with_byte 58 (map hex_byte (half_bytes half))
 unfoldable pub mac_word : ℕ → List ℕ
 mac_word address = bytes_text (address / 2 ^ 24) ++ 58 ∷ bytes_text (address % 2 ^ 24)
 
--- the group of half an IPv6 address that stands if a group counts `weight`, a power of 65,536
+-- the group of half an IPv6 address at the position with this weight, a power of 65,536
 abbrev pub group_at : ℕ → ℕ → ℕ
 group_at weight half = half / weight % 65536
 
@@ -131,7 +131,7 @@ groups_text half = join_with_byte 58 (map (digits 16 false) (half_groups half))
 unfoldable pub ip6_word : ℕ → List ℕ
 ip6_word address = groups_text (address / 2 ^ 64) ++ 58 ∷ groups_text (address % 2 ^ 64)
 
--- the spelling of a token, by what stands before it
+-- the spelling of a token, by what precedes it
 abbrev pub spelling : Following → TokenKind → List ℕ
 spelling following (token.Number n) = decimal n
 spelling following (token.Name n) = name_word following n
@@ -141,18 +141,18 @@ spelling following (token.Mac a) = mac_word a
 spelling following (token.Ip6 a) = ip6_word a
 spelling following t = fixed_spelling t
 
--- what stands before the token after `[`, by what stands before the `[`: after `icmp` it is `icmp[`
+-- what precedes the token after `[`, by what precedes the `[`: after `icmp` it is `icmp[`
 abbrev pub after_bracket : Following → Following
 after_bracket Icmp = IcmpBracket
 after_bracket _ = Other
 
--- what stands before the next token, by this token and what stands before it
+-- what precedes the next token, by this token and what precedes it
 abbrev pub next_after : Following → TokenKind → Following
 next_after following (token.Protocol protocol.Icmp) = Icmp
 next_after following token.OpenBracket = after_bracket following
 next_after following _ = Other
 
--- no blank stands after `(`, `[`, `:` and `/`
+-- whether no blank follows a token: `(`, `[`, `:` or `/`
 abbrev pub joins_next : TokenKind → Bool
 joins_next token.Open = true
 joins_next token.OpenBracket = true
@@ -160,7 +160,7 @@ joins_next token.Colon = true
 joins_next (token.Operator operator.Divide) = true
 joins_next _ = false
 
--- no blank stands before `)`, `[`, `]`, `:` and `/`
+-- whether no blank precedes a token: `)`, `[`, `]`, `:` or `/`
 abbrev pub joins_previous : TokenKind → Bool
 joins_previous token.Close = true
 joins_previous token.OpenBracket = true
@@ -174,7 +174,7 @@ abbrev pub gap : TokenKind → List TokenKind → List ℕ
 gap t [] = []
 gap t (u ∷ rest) = if joins_next t || joins_previous u then [] else codes " "
 
--- the text of tokens, by what stands before the first one: spellings, and the blanks between them
+-- the text of tokens, by what precedes the first one: their spellings, with blanks between them
 abbrev pub tokens_text : Following → List TokenKind → List ℕ
 tokens_text following [] = []
 tokens_text following (t ∷ rest) =

@@ -24,17 +24,17 @@ pub record IsDottedAddress (address parts : ℕ) : Type 0 where
   pub small : address < 2 ^ 32
   pub missing : address % 256 ^ (4 - parts) ≡ 0
 
--- the parts of an IPv4 address are those that some word means
+-- some word means these parts of an IPv4 address
 abbrev pub IsWritableDotted : Dotted → Type 0
 IsWritableDotted d = IsDottedAddress d.address d.parts
 
--- the mask of a network is one that some text means
+-- some text means this mask of a network
 abbrev pub IsWritableMask : NetMask → Type 0
 IsWritableMask mask.Unwritten = Unit {0}
 IsWritableMask (mask.Prefix n) = n < 2 ^ 32
 IsWritableMask (mask.Mask d) = IsWritableDotted d
 
--- the value is one that some text means
+-- some text means this value
 abbrev pub IsWritableValue : Value → Type 0
 IsWritableValue (value.Number n m) = (n < 2 ^ 32) × IsWritableMask m
 IsWritableValue (value.Dotted d m) = IsWritableDotted d × IsWritableMask m
@@ -43,8 +43,8 @@ IsWritableValue (value.Ip6 a (Some n)) = (a < 2 ^ 128) × (n < 2 ^ 32)
 IsWritableValue (value.Mac a) = a < 2 ^ 48
 IsWritableValue (value.Range a b) = (a < 2 ^ 32) × (b < 2 ^ 32)
 
--- the numbers, names and protocols of arithmetic are those that some text can give: an accessor has
--- a protocol that may stand before a bracket
+-- some text gives these numbers, names and protocols of arithmetic: an accessor has a protocol that
+-- may precede a bracket
 abbrev pub IsWritableNumber : NumberTree → Type 0
 IsWritableNumber (literal n) = n < 2 ^ 32
 IsWritableNumber len = Unit {0}
@@ -53,8 +53,8 @@ IsWritableNumber (load p s a) = (is_accessor p ≡ true) × (s < 2 ^ 32) × IsWr
 IsWritableNumber (negated a) = IsWritableNumber a
 IsWritableNumber (applied o a b) = IsWritableNumber a × IsWritableNumber b
 
--- the numbers, names, addresses and protocols of a truth are those that some text can give: a
--- protocol stands alone, or before `broadcast` or `multicast`, only if it may
+-- some text gives these numbers, names, addresses and protocols of a truth; a protocol is by
+-- itself, or before `broadcast` or `multicast`, only if the language allows that
 abbrev pub IsWritableTruth : TruthTree → Type 0
 IsWritableTruth (check p) = stands_alone p ≡ true
 IsWritableTruth (cast None c) = Unit {0}
@@ -67,12 +67,12 @@ IsWritableTruth (compared c a b) = IsWritableNumber a × IsWritableNumber b
 IsWritableTruth (denied a) = IsWritableTruth a
 IsWritableTruth (joined j a b) = IsWritableTruth a × IsWritableTruth b
 
--- the numbers, names, addresses and protocols of a tree are those that some text can give
+-- some text gives the numbers, names, addresses and protocols of a tree
 abbrev pub IsWritable : Expression → Type 0
 IsWritable empty = Unit {0}
 IsWritable (truth a) = IsWritableTruth a
 
--- the text is an expression, and resolved it is this tree
+-- the text is an expression, and this tree after it is resolved
 pub record IsReadBack (text : List ℕ) (e : Expression) : Type 0 where
   pub tokens : List Token
   pub are_tokens : Tokens text (Ok tokens)

@@ -44,12 +44,12 @@ pub use Rattle.flt_bpf.proofs.Suffix.{answer_drop, valid_if_short, faultless_dro
 pub use Rattle.flt_gen.specs.{Correct.IsProgramOf, Counts.short_bound_of}
 pub use Rattle.flt_gen.specs.Elementary.{Yes, No, reading_of, with, under_mask, elementary_reads, type_test, MatchResult, compares, kind_test, Rejected, is_at}
 pub use Rattle.flt_gen.specs.Elementary.{field_at, field_reads}
-pub use Rattle.flt_gen.specs.Formula.{Formula, Single, Compare, Both, Either, Except, Split, Sought, is_in, is_within, no_interval, all_of, sides, Numbers}
-pub use Rattle.flt_gen.specs.Formula.{no_numbers, both, either, negation, reads, relation_reads, guarded_formula, checked_formula}
+pub use Rattle.flt_gen.specs.Formula.{Formula, Single, Compare, Both, Either, Except, Split, Sought, is_in, is_within, all_of, sides, Numbers}
+pub use Rattle.flt_gen.specs.Formula.{both, either, negation, reads, relation_reads, guarded_formula, checked_formula}
 pub use Rattle.flt_gen.specs.Laws.{word_mask, frame_kind, carries_kind, carries}
 pub use Rattle.flt_gen.specs.Numbers.{accessor_tests, width_of, base, number, result_of, accessors}
-pub use Rattle.flt_gen.specs.Primitives.{after, any_proto, mac_tests, check_formula, cast_formula, proto_formula, hosts_of_kind, hosts_formula, net_formula}
-pub use Rattle.flt_gen.specs.Primitives.{ip6_formula, ether_host, port_formula, port_test, port_sides, transport, value_formula, sized_formula}
+pub use Rattle.flt_gen.specs.Primitives.{after, any_proto, mac_tests, check_formula, cast_formula, proto_formula, hosts_of_kind, hosts_formula, in_net}
+pub use Rattle.flt_gen.specs.Primitives.{ip6_formula, ether_host, port_formula, is_port, in_range, transport, value_formula, sized_formula}
 pub use Rattle.flt_gen.specs.Primitives.{qualified_formula, partial_mask, ip6_tests, address_test, ip6_test, address_places, port_is, port_between, port_places}
 pub use Rattle.flt_gen.specs.Primitives.{following, ip_transport, ip6_transport}
 pub use Rattle.flt_gen.specs.Reading.{formula, holds}
@@ -57,7 +57,6 @@ pub use Rattle.flt_gen.specs.declared.elementary.Elementary.{Elementary, TheVari
 pub use Rattle.flt_gen.specs.declared.elementary.{FrameKind.FrameKind, Interval.Interval, Offset.Offset}
 pub use Rattle.flt_gen.specs.declared.elementary.Offset.TheVariants.{Fixed, AfterHeader}
 pub use Rattle.flt_gen.specs.declared.{elementary.Sides.Sides, group.Entry.Entry}
-pub use Rattle.flt_gen.specs.declared.port.Ports.TheVariants.{One, Between, Several}
 pub use Rattle.flt_gen.specs.declared.port.Transport.{Transport}
 pub use Rattle.flt_gen.specs.inside.Code.{accessor_offset, constant_or, Block, block, emit_all, low_of, plain, constant, computation, takes_constant}
 pub use Rattle.flt_gen.specs.inside.Code.{constant_operand, branch_insn, emit_branch, emit_comparison, emit_field, emit_mask, emit_accessor, emit_number}
@@ -71,10 +70,10 @@ pub use Rattle.flt_gen.specs.inside.Folding.{negated_constant, applied_constant,
 pub use Rattle.flt_gen.specs.inside.Folding.{joined_truth, folded_truth, folded_expression, node_or, with_negation, with_operator, Held, with_held, with_folded}
 pub use Rattle.flt_gen.specs.inside.Folding.{hold, put_back}
 pub use Rattle.flt_gen.specs.inside.Group.{Group, no_group, entry, interval, with_member, same_type, same_protocol, same_direction, goes_with, net_numbers}
-pub use Rattle.flt_gen.specs.inside.Group.{member_of, group_and, larger_group, is_searched, is_address, numbers_of, several_formula, rows_formula}
+pub use Rattle.flt_gen.specs.inside.Group.{member_of, group_and, larger_group, is_searched, has_addresses, numbers_of, several_formula, rows_formula}
 pub use Rattle.flt_gen.specs.inside.Group.{group_formula, or_any, or_group, truth_member, choice, grouped_formula, MOST_TOGETHER, FEWEST_RANGES}
-pub use Rattle.flt_gen.specs.inside.Intervals.{insert_ascending, is_gap, extended, joined_from, joined_all, is_aligned, idle_bits, left_out, high_mask, cut}
-pub use Rattle.flt_gen.specs.inside.Intervals.{same_interval, without, numbers_by, sought}
+pub use Rattle.flt_gen.specs.inside.Intervals.{no_interval, insert_ascending, is_gap, extended, joined_from, joined_all, is_aligned, idle_bits, left_out}
+pub use Rattle.flt_gen.specs.inside.Intervals.{high_mask, cut, same_interval, without, numbers_by, sought}
 pub use Rattle.flt_gen.specs.inside.ProgramCode.{emit_accessor_tests, expression_code, program_code, returns_code}
 pub use Rattle.flt_gen.specs.inside.Walk.{Walk, finish_formula, emit_node, emit_both_nodes, or_walk, emit_nodes, start_walk, insns_of, targets, finish_truth}
 pub use Rattle.flt_gen.specs.inside.Walk.{finish_number, with_insns, flush_members, flush_group, emit_truth_node}

@@ -1,13 +1,13 @@
 -- The counts of the table's formulas are at most those of the tree.
 use Rattle.flt_gen.proofs.Ascending.{Ready, Searches}
 use Rattle.flt_gen.proofs.Common.{◌≡◌, ℕ, ◌+◌, ◌-◌, ◌≤◌, max, min, List, [], ◌∷◌, length, Option, Some, None, refl, arith, Protocol, Source, Destination, And}
-use Rattle.flt_gen.proofs.Common.{Or, ValueType, Host, Net, Port, PortRange, Proto, Direction, Value, Link, FrameKind, Elementary, Sides, One, Between}
-use Rattle.flt_gen.proofs.Common.{ip_transport, ip6_transport, Formula, Single, Both, Either, Split, Sought, all_of, sides, Numbers, no_numbers, after}
-use Rattle.flt_gen.proofs.Common.{any_proto, mac_tests, check_formula, cast_formula, proto_formula, hosts_of_kind, hosts_formula, net_formula, ip6_formula}
-use Rattle.flt_gen.proofs.Common.{ether_host, port_formula, port_test, port_sides, transport, value_formula, sought_tests, tests, nodes, words}
+use Rattle.flt_gen.proofs.Common.{Or, ValueType, Host, Net, Port, PortRange, Proto, Direction, Value, Link, FrameKind, Elementary, Sides}
+use Rattle.flt_gen.proofs.Common.{ip_transport, ip6_transport, Formula, Single, Both, Either, Split, Sought, all_of, sides, Numbers, after}
+use Rattle.flt_gen.proofs.Common.{in_net, is_port, in_range, port_places}
+use Rattle.flt_gen.proofs.Common.{any_proto, mac_tests, check_formula, cast_formula, proto_formula, hosts_of_kind, hosts_formula, ip6_formula}
+use Rattle.flt_gen.proofs.Common.{ether_host, port_formula, transport, value_formula, sought_tests, tests, nodes, words}
 use Rattle.flt_words.specs.declared.token.Cast.{Cast, TheVariants.Broadcast, TheVariants.Multicast}
 use Rattle.flt_ast.specs.Counts as count
-use Rattle.flt_gen.specs.declared.{address.Hosts.Hosts, port.PortTest.PortTest}
 
 -- a formula with at most s nodes of arithmetic, w words of memory and n tests, in which all numbers
 -- that are searched ascend
@@ -100,22 +100,22 @@ abbrev pub of_kinds : Option Protocol → ℕ → ℕ
 of_kinds None n = n + n + n
 of_kinds (Some p) n = n
 
-pub bare_hosts : (link : Link) (p : Option Protocol) (h : Hosts) (bs : Numbers) (n : ℕ) → 1 ≤ n
-    → ((k : FrameKind) → Bare (hosts_of_kind link k h bs) n) → Bare (hosts_formula link p h bs) (of_kinds p n)
-bare_hosts link None h bs n some each = bare_within _ (omega arith) (bare_either (each FrameKind.Ip) (bare_either (each FrameKind.Arp) (each FrameKind.Rarp)))
-bare_hosts link (Some Protocol.Ip) h bs n some each = each FrameKind.Ip
-bare_hosts link (Some Protocol.Arp) h bs n some each = each FrameKind.Arp
-bare_hosts link (Some Protocol.Rarp) h bs n some each = each FrameKind.Rarp
-bare_hosts link (Some _) h bs n some each = bare_some _ some
+pub bare_hosts : (link : Link) (p : Option Protocol) (asked : Sides → Formula) (n : ℕ) → 1 ≤ n → ((k : FrameKind) → Bare (hosts_of_kind link k asked) n)
+    → Bare (hosts_formula link p asked) (of_kinds p n)
+bare_hosts link None asked n some each = bare_within _ (omega arith) (bare_either (each FrameKind.Ip) (bare_either (each FrameKind.Arp) (each FrameKind.Rarp)))
+bare_hosts link (Some Protocol.Ip) asked n some each = each FrameKind.Ip
+bare_hosts link (Some Protocol.Arp) asked n some each = each FrameKind.Arp
+bare_hosts link (Some Protocol.Rarp) asked n some each = each FrameKind.Rarp
+bare_hosts link (Some _) asked n some each = bare_some _ some
 
 ip4_are : (p : Option Protocol) (d : Direction) → of_kinds p (1 + count.side_tests d 1) ≡ count.ip4_tests p d
 ip4_are None d = refl
 ip4_are (Some p) d = refl
 
-bare_net : (link : Link) (p : Option Protocol) (d : Direction) (mask : Option ℕ) (a : ℕ) → Bare (net_formula link p d mask a) (count.ip4_tests p d)
+bare_net : (link : Link) (p : Option Protocol) (d : Direction) (mask : Option ℕ) (a : ℕ) → Bare (hosts_formula link p (in_net d mask a)) (count.ip4_tests p d)
 bare_net link p d mask a =
     let e = ip4_are p d in
-    bare_within _ (omega arith) (bare_hosts link p (Hosts.Net d mask a) no_numbers _ (omega arith)
+    bare_within _ (omega arith) (bare_hosts link p (in_net d mask a) _ (omega arith)
     (λ k. bare_after (bare_sides d _ _ 1 (omega arith) (omega arith) (omega arith))))
 
 bare_ip6 : (link : Link) (d : Direction) (prefix : Option ℕ) (a : ℕ) → Bare (ip6_formula link d prefix a) (count.ip6_test_count d)
@@ -128,12 +128,11 @@ bare_transport (Some Protocol.Tcp) s t f n h = bare_after h
 bare_transport (Some Protocol.Udp) s t f n h = bare_after h
 bare_transport (Some _) s t f n h = bare_some _ (omega arith)
 
-pub bare_ports : (link : Link) (wanted : PortTest) (bs : Numbers) (n : ℕ) → Bare (port_sides wanted.ports wanted.direction (ip_transport link) bs) n
-    → Bare (port_sides wanted.ports wanted.direction (ip6_transport link) bs) n → Bare (port_formula link wanted bs)
-    (1 + count.transport_tests wanted.protocol + 1 + n + (1 + count.transport_tests wanted.protocol + n))
-bare_ports link wanted bs n ip ip6 =
-    bare_within _ (omega arith)
-    (bare_either (bare_after (bare_transport wanted.protocol _ _ _ _ (bare_after ip))) (bare_after (bare_transport wanted.protocol _ _ _ n ip6)))
+pub bare_ports : (link : Link) (p : Option Protocol) (asked : Sides → Formula) (n : ℕ) → Bare (asked (port_places (ip_transport link))) n
+    → Bare (asked (port_places (ip6_transport link))) n → Bare (port_formula link p asked)
+    (1 + count.transport_tests p + 1 + n + (1 + count.transport_tests p + n))
+bare_ports link p asked n ip ip6 =
+    bare_within _ (omega arith) (bare_either (bare_after (bare_transport p _ _ _ _ (bare_after ip))) (bare_after (bare_transport p _ _ _ n ip6)))
 
 -- values
 pub bare_value : (link : Link) (k : ValueType) (p : Option Protocol) (d : Direction) (v : Value) → Bare (value_formula link k p d v) (count.typed_tests k p d v)
@@ -144,10 +143,10 @@ bare_value link Net p d (Value.Number n m) = bare_net link p d _ _
 bare_value link Net p d (Value.Dotted a m) = bare_net link p d _ _
 bare_value link Net p d (Value.Ip6 a n) = bare_ip6 link d n a
 bare_value link Port p d (Value.Number n m) =
-    bare_ports link (port_test p d (One n)) no_numbers _ (bare_sides d _ _ 1 (omega arith) (omega arith) (omega arith))
+    bare_ports link p (is_port d n) _ (bare_sides d _ _ 1 (omega arith) (omega arith) (omega arith))
     (bare_sides d _ _ 1 (omega arith) (omega arith) (omega arith))
 bare_value link PortRange p d (Value.Range a b) =
-    bare_ports link (port_test p d (Between (min a b) (max a b))) no_numbers _ (bare_sides d _ _ 2 (omega arith) (omega arith) (omega arith))
+    bare_ports link p (in_range d (min a b) (max a b)) _ (bare_sides d _ _ 2 (omega arith) (omega arith) (omega arith))
     (bare_sides d _ _ 2 (omega arith) (omega arith) (omega arith))
 bare_value link Proto p d (Value.Number n m) = bare_proto_value link p n
 bare_value link _ None d _ = bare_some _ (omega arith)

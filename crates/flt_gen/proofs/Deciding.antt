@@ -6,6 +6,8 @@ use Rattle.flt_gen.proofs.Common.{false, Option, Some, None, refl, sym, ap, ap�
 use Rattle.flt_gen.proofs.Common.{needed_tests, ◌==◌, ◌&&◌, nat_lt, nat_le, bit_and, nat_tests, and_parts, pow_pos, and_le_r, Tcp, Direction, Link, first_bits}
 use Rattle.flt_gen.proofs.Common.{Word, HalfWord, Byte, Width, Offset, Fixed, Equal, Elementary, Field, MatchResult, Yes, No, Rejected, reading_of, with}
 use Rattle.flt_gen.proofs.Common.{field_at, under_mask, compares, elementary_reads, network_offset, Formula, both, either, all_of, reads, partial_mask}
+use Rattle.flt_gen.proofs.Common.{sides, value_needed, value_formula, kind_test, FrameKind, ValueType, Net, Value, Source, Destination, And}
+use Rattle.flt_words.specs.declared.token.Side.{Side}
 use Rattle.flt_gen.proofs.Counted.{Bare, bare_within, bare_all, bare_one, bare_some, bare_both, bare_either, bare_split}
 use Rattle.flt_gen.proofs.Exclusive.{both_either, or_no, either_assoc, and_yes}
 use Rattle.flt_gen.proofs.{Needed.all_put, Needed.later_none, Needed.idle_holds, Needed.fewer, Once.equal_are, Together.word_small}
@@ -228,10 +230,6 @@ sizes_rest f fs (_ ∷ rs) h = absurd h.0
 abbrev pub Known : MatchResult → Type 0
 Known r = (b : Bool) × (r ≡ reading_of (Some b))
 
-pub known_both : {r s : MatchResult} → Known r → Known s → Known (both r s)
-known_both (true, e) (b, f) = (b, ap₂ both e f)
-known_both (false, e) (b, f) = (false, ap₂ both e f)
-
 pub known_either : {r s : MatchResult} → Known r → Known s → Known (either r s)
 known_either (true, e) (b, f) = (true, ap₂ either e f)
 known_either (false, e) (b, f) = (b, ap₂ either e f)
@@ -384,6 +382,22 @@ module _ (link : Link) (p : List ℕ) (n : ℕ) where
   needed_read (f ∷ []) (Field t ∷ u ∷ us) h = absurd h.4
   needed_read (f ∷ g ∷ gs) (Field t ∷ _) h = absurd h.4
   needed_read _ _ h = absurd h
+
+  -- a value, by the tests that decide
+  sides_same : (d : Direction) (s t u v : List Elementary) → told s ≡ told u → told t ≡ told v → reads link (sides d s t) p n ≡ reads link (sides d u v) p n
+  sides_same (direction.One Source) s t u v h k = h
+  sides_same (direction.One Destination) s t u v h k = k
+  sides_same (direction.Both Or) s t u v h k = ap₂ either h k
+  sides_same (direction.Both And) s t u v h k = ap₂ both h k
+
+  pub value_same : (k : ValueType) (q : Option Protocol) (d : Direction) (v : Value) → reads link (value_needed link k q d v) p n ≡ reads link
+      (value_formula link k q d v) p n
+  value_same Net q d (Value.Ip6 a m) =
+      let ts : Side → List Elementary = λ s. case_tests link (direction.One s) (Ip6 m a) in
+      let same : (s : Side) → told (needed_tests (ts s)) ≡ told (ts s) =
+      λ s. needed_read (fields_of link (direction.One s) (Ip6 m a)) (ts s) (shape_of link (direction.One s) (Ip6 m a)) in
+      ap (both (elementary_reads (kind_test link FrameKind.Ip6) p)) (sides_same d _ _ _ _ (same Source) (same Destination))
+  value_same k q d v = refl
 
   -- ---- cases in another order
 

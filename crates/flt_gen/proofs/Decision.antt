@@ -1,15 +1,15 @@
 -- A decision tree, unfolded once, and the tests of a case from a word on.
-use Rattle.std.proofs.Common.{◌≡◌, ℕ, zero, suc, ◌+◌, ◌-◌, ◌<◌, List, [], ◌∷◌, drop, take, get_or, length, Bool, true, false, Option, Some, None, refl, ap, ap₂}
+use Rattle.std.proofs.Common.{◌≡◌, ℕ, zero, suc, ◌+◌, ◌-◌, ◌<◌, List, [], ◌∷◌, drop, take, get_or, length, Bool, true, false, Option, Some, refl, ap, ap₂}
 use Rattle.std.proofs.Common.{◌∙◌, sym, subst, arith, nat_le, ◌≤◌, ◌⊎◌, inl, inr}
 use Rattle.std.proofs.lemmas.Bool.Decides.{nat_tests}
-use Rattle.std.specs.Prelude.{slice_get, is_none, if◌then◌else◌, Result}
+use Rattle.std.specs.Prelude.{is_none, if◌then◌else◌, Result}
 use Rattle.std.specs.declared.alloc.AllocError.{AllocError}
 use Rattle.flt_gen.specs.Formula.{Formula, Single, Both, Split, all_of, guarded_formula}
 use Rattle.flt_gen.specs.{declared.cases.Bound.TheVariants.Exactly, declared.cases.Case.Case}
 use Rattle.flt_gen.specs.declared.elementary.Elementary.{Elementary}
 use Rattle.flt_gen.specs.inside.Cases.{chain, decided, decision, all_keep, is_parted, middle}
 use Rattle.flt_gen.specs.inside.Cases.{test_at, lowest, from_test, same_word}
-use Rattle.flt_gen.specs.inside.Emitted.{needed_tests, last_test, is_idle}
+use Rattle.flt_gen.specs.inside.Emitted.{needed_tests}
 use Rattle.flt_gen.specs.inside.{Code.Block, Code.emit_all, Code.emit_elementary, Code.emit_formula, Emits.Emits}
 use Rattle.flt_gen.proofs.Ascending.{if_case}
 use Rattle.flt_bpf.specs.declared.insn.Insn.{Insn}
@@ -59,40 +59,6 @@ turn_emitted r new link tests word cs other hit miss c e l is done =
     subst (λ (f : Block). Emits r f new)
     (sym (chain_emitted link tests word cs other hit miss c l ∙ ap (λ (f : Block). emit_all (needed_tests (drop word (tests (get_or cs 0 other)))) hit
     f.entry f.code) is)) done
-
-pub tests_from : (ts : List Elementary) (word : ℕ) (t : Elementary) → slice_get ts word ≡ Some t → drop word ts ≡ t ∷ drop (word + 1) ts
-tests_from [] zero t e = cc
-tests_from [] (suc word) t e = cc
-tests_from (u ∷ ts) zero t e = (let same : u ≡ t = cc in ap (λ (x : Elementary). x ∷ ts) same)
-tests_from (u ∷ ts) (suc word) t e = (let next : suc word + 1 ≡ suc (word + 1) = omega arith in tests_from ts word t e ∙ ap (λ k. t ∷ drop k (u ∷ ts))
-    (sym next))
-
-pub none_from : (ts : List Elementary) (word : ℕ) → slice_get ts word ≡ None → drop word ts ≡ []
-none_from [] zero e = refl
-none_from [] (suc word) e = refl
-none_from (t ∷ ts) zero e = cc
-none_from (t ∷ ts) (suc word) e = none_from ts word e
-
--- the last test, and one in front of others
-pub last_needed : (ts : List Elementary) (word : ℕ) (t : Elementary) → slice_get ts word ≡ Some t → is_none (slice_get ts (word + 1)) ≡ true
-    → needed_tests (drop word ts) ≡ last_test t ∷ []
-last_needed ts word t e last = ap needed_tests (tests_from ts word t e ∙ ap (λ us. t ∷ us) (by (slice_get ts (word + 1)) refl last))
-  where
-    by : (o : Option Elementary) → slice_get ts (word + 1) ≡ o → is_none o ≡ true → drop (word + 1) ts ≡ []
-    by None f last = none_from ts (word + 1) f
-    by (Some u) f last = cc
-
-pub next_needed : (ts : List Elementary) (word : ℕ) (t : Elementary) (b : Bool) → slice_get ts word ≡ Some t → is_none (slice_get ts (word + 1)) ≡
-    false → is_idle t ≡ b → needed_tests (drop word ts) ≡ (if b then needed_tests (drop (word + 1) ts) else t ∷ needed_tests (drop (word + 1) ts))
-next_needed ts word t b e more idle = by (slice_get ts (word + 1)) refl more
-    ∙ ap (λ c. if c then needed_tests (drop (word + 1) ts) else t ∷ needed_tests (drop (word + 1) ts)) idle
-  where
-    by : (o : Option Elementary) → slice_get ts (word + 1) ≡ o → is_none o ≡ false → needed_tests (drop word ts) ≡
-        (if is_idle t then needed_tests (drop (word + 1) ts) else t ∷ needed_tests (drop (word + 1) ts))
-    by None f more = cc
-    by (Some u) f more =
-        let next = tests_from ts (word + 1) u f in
-        ap needed_tests (tests_from ts word t e ∙ ap (λ us. t ∷ us) next) ∙ ap (λ us. if is_idle t then needed_tests us else t ∷ needed_tests us) (sym next)
 
 -- the parts of a decision
 module _ (few k : ℕ) (by : Case → List Elementary) (w : ℕ) (cs : List Case) (some : 0 < k) (many : few < length cs) where

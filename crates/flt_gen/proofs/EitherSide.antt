@@ -3,8 +3,9 @@
 use Rattle.flt_gen.proofs.Ascending.{if_case}
 use Rattle.flt_gen.proofs.Common.{◌≡◌, ℕ, suc, ◌+◌, ◌-◌, ◌*◌, ◌/◌, ◌%◌, ◌^◌, ◌<◌, ◌≤◌, List, [], ◌∷◌, length, max, min, Bool, true, false, Option, Some, None}
 use Rattle.flt_gen.proofs.Common.{refl, sym, ap, ap₂, ◌∙◌, subst, arith, ◌==◌, ◌&&◌, nat_le, nat_tests, and_parts, Direction, Link, Source, Destination}
-use Rattle.flt_gen.proofs.Common.{And, Or, Word, HalfWord, Width, Offset, field, Elementary, Field, MatchResult, Yes, No, Rejected, reading_of, with}
+use Rattle.flt_gen.proofs.Common.{And, Or, Word, Width, Offset, Elementary, Field, MatchResult, Yes, No, Rejected, reading_of, with}
 use Rattle.flt_gen.proofs.Common.{network_offset, Formula, Outcome, both, either, all_of, reads, needed_tests, drop, if◌then◌else◌}
+use Rattle.flt_gen.proofs.Common.{zero, is_at, compares, under_mask, field_at, elementary_reads, slice_get}
 use Rattle.flt_gen.proofs.Counted.{Bare, bare_within, bare_all, bare_one, bare_some, bare_both, bare_either}
 use Rattle.flt_gen.proofs.Deciding.{Shapes, fields_of, shape_of, some_fields, rows, rows_rest, shapes_rest, sizes, sizes_rest, Known, known_either, read_all}
 use Rattle.flt_gen.proofs.Deciding.{needed_read, read_put}
@@ -61,16 +62,32 @@ one_more No d first second all others h k =
 
 -- ---- where one is no, none is rejected
 
-seen_last : (o : Option ℕ) (v w : ℕ) → Known (reading_of (with o (λ x. Some (x == v)))) → Known (reading_of (with o (λ x. Some (x == w))))
-seen_last None v w (true, e) = cc
-seen_last None v w (false, e) = cc
-seen_last (Some x) v w k = (x == w, refl)
+seen_by : (o : Option ℕ) (f g : ℕ → Bool) → Known (reading_of (with o (λ x. Some (f x)))) → Known (reading_of (with o (λ x. Some (g x))))
+seen_by None f g (true, e) = cc
+seen_by None f g (false, e) = cc
+seen_by (Some x) f g k = (g x, refl)
 
 seen_after : (r a b : MatchResult) → (Known a → Known b) → Known (both r a) → Known (both r b)
 seen_after Yes a b h k = h k
 seen_after No a b h k = (false, refl)
 seen_after Rejected a b h (true, e) = cc
 seen_after Rejected a b h (false, e) = cc
+
+-- the same tests, but the last ones are of the same field
+abbrev Alike_last : Elementary → Elementary → Type 0
+Alike_last (Field t) (Field u) = (t.offset ≡ u.offset) × (t.width ≡ u.width)
+Alike_last _ _ = ⊥
+
+abbrev Almost : List Elementary → List Elementary → Type 0
+Almost (t ∷ []) (u ∷ []) = Alike_last t u
+Almost (t ∷ x ∷ xs) (u ∷ y ∷ ys) = (t ≡ u) × Almost (x ∷ xs) (y ∷ ys)
+Almost _ _ = ⊥
+
+-- no test has a mask
+abbrev Whole : List Elementary → Type 0
+Whole [] = Unit {0}
+Whole (Field t ∷ ts) = (t.mask ≡ None) × Whole ts
+Whole _ = ⊥
 
 -- numbers that have their first words in common
 upper_word : (a b k : ℕ) → a / 2 ^ 32 ≡ b / 2 ^ 32 → a / (2 ^ 32 * k) ≡ b / (2 ^ 32 * k)
@@ -79,62 +96,55 @@ upper_word a b k e = sym (div-div-eq-div-mul a (2 ^ 32) k) ∙ ap (λ x. x / k) 
 abbrev either_side : Direction
 either_side = direction.Both Or
 
-macs_are : (a b : ℕ) → same_words either_side (Mac a) (Mac b) ≡ true → a / 2 ^ 16 ≡ b / 2 ^ 16
-macs_are a b e = let h : (a / 2 ^ 16 == b / 2 ^ 16) ≡ true = e in grind (arith, nat_tests)
-
-ip6_are : (m : Option ℕ) (a b : ℕ) → same_words either_side (Ip6 None a) (Ip6 m b) ≡ true → (m ≡ None) × (a / 2 ^ 32 ≡ b / 2 ^ 32)
-ip6_are None a b e = (refl, (let h : (a / 2 ^ 32 == b / 2 ^ 32) ≡ true = e in grind (arith, nat_tests)))
-ip6_are (Some x) a b e = cc
-
-module _ (link : Link) (s : Side) (p : List ℕ) (n : ℕ) where
-  abbrev by : Case → List Elementary
-  by = case_tests link (direction.One s)
-
-  abbrev told : Case → MatchResult
-  told c = reads link (all_of (by c)) p n
-
-  abbrev word : ℕ → Width → ℕ → MatchResult
-  word at width v = reading_of (with (field p at width) (λ x. Some (x == v)))
-
-  macs_seen : (a b : ℕ) → a / 2 ^ 16 ≡ b / 2 ^ 16 → Known (told (Mac a)) → Known (told (Mac b))
-  macs_seen a b e k =
-      let at = mac_place (direction.One s) in
-      subst (λ v. Known (both (word at Word (v % 2 ^ 32)) (word (at + 4) HalfWord (b % 2 ^ 16)))) e
-      (seen_after (word at Word (a / 2 ^ 16 % 2 ^ 32)) _ _ (seen_last (field p (at + 4) HalfWord) (a % 2 ^ 16) (b % 2 ^ 16)) k)
-
-  ip6_seen : (a b : ℕ) → a / 2 ^ 32 ≡ b / 2 ^ 32 → Known (told (Ip6 None a)) → Known (told (Ip6 None b))
-  ip6_seen a b e k =
-      let at = network_offset link + ip6_place (direction.One s) in
-      let w : ℕ → ℕ → MatchResult = λ i v. word (at + 4 * i) Word (v % 2 ^ 32) in
-      subst (λ r. Known r)
-      (ap₂ both (ap (w 0) (upper_word a b (2 ^ 64) e)) (ap₂ both (ap (w 1) (upper_word a b (2 ^ 32) e)) (ap (λ v. both (w 2 v) (w 3 (b / 1))) e)))
-      (seen_after (w 0 (a / 2 ^ 96)) _ _ (seen_after (w 1 (a / 2 ^ 64)) _ _ (seen_after (w 2 (a / 2 ^ 32)) _ _
-      (seen_last (field p (at + 4 * 3) Word) (a / 1 % 2 ^ 32) (b / 1 % 2 ^ 32)))) k)
-
-  -- both ways
-  seen : (a b : Case) → are_either either_side a ≡ true → same_words either_side a b ≡ true → (Known (told a) → Known (told b)) × (Known (told b) → Known
-      (told a))
-  seen (Mac a) (Mac b) i e = (macs_seen a b (macs_are a b e), macs_seen b a (sym (macs_are a b e)))
-  seen (Ip6 None a) (Ip6 m b) i e =
-      let h = ip6_are m a b e in
-      subst (λ o. (Known (told (Ip6 None a)) → Known (told (Ip6 o b))) × (Known (told (Ip6 o b)) → Known (told (Ip6 None a)))) (sym h.0)
-      (ip6_seen a b h.1, ip6_seen b a (sym h.1))
-  seen (Ip6 (Some x) a) (Ip6 m b) i e = cc
-  seen _ _ i e = cc
-
-  all_seen : (k : Case) (cs : List Case) → are_either either_side k ≡ true → Likes either_side k cs → Known (told k) → Known (read_all link p n (rows by 0 cs))
-  all_seen k [] i h e = (false, refl)
-  all_seen k (c ∷ cs) i h e = known_either ((seen k c i h.0).0 e) (all_seen k cs i h.1 e)
-
-  -- a case, and others like one
-  others_seen : (k c : Case) (cs : List Case) → are_either either_side k ≡ true → same_words either_side k c ≡ true → Likes either_side k cs
-      → told c ≡ No → Known (read_all link p n (rows by 0 cs))
-  others_seen k c cs i e h refused = all_seen k cs i h ((seen k c i e).1 (false, refused))
-
--- ---- how cases read, and how many tests they have, on either side or not
-
 abbrev side : Link → Side → Case → List Elementary
 side link s c = case_tests link (direction.One s) c
+
+macs_almost : (link : Link) (s : Side) (a b : ℕ) → a / 2 ^ 16 ≡ b / 2 ^ 16 → Almost (side link s (Mac a)) (side link s (Mac b))
+macs_almost link s a b e = (ap (λ v. is_at (mac_place (direction.One s)) Word (v % 2 ^ 32)) e, (refl, refl))
+
+ip6_almost : (link : Link) (s : Side) (a b : ℕ) → a / 2 ^ 32 ≡ b / 2 ^ 32 → Almost (side link s (Ip6 None a)) (side link s (Ip6 None b))
+ip6_almost link s a b e =
+    let at = network_offset link + ip6_place (direction.One s) in
+    let w : ℕ → ℕ → Elementary = λ i v. is_at (at + 4 * i) Word (v % 2 ^ 32) in
+    (ap (w 0) (upper_word a b (2 ^ 64) e), (ap (w 1) (upper_word a b (2 ^ 32) e), (ap (w 2) e, (refl, refl))))
+
+-- so it is with addresses that are looked for together, both ways
+almost : (link : Link) (s : Side) (a b : Case) → are_either either_side a ≡ true → same_words either_side a b ≡ true → Almost (side link s a) (side link s b)
+    × Almost (side link s b) (side link s a) × Whole (side link s a)
+almost link s (Mac a) (Mac b) i e =
+    let h : a / 2 ^ 16 ≡ b / 2 ^ 16 = (let t : (a / 2 ^ 16 == b / 2 ^ 16) ≡ true = e in grind (arith, nat_tests)) in
+    (macs_almost link s a b h, macs_almost link s b a (sym h), (refl, (refl, tt)))
+almost link s (Ip6 None a) (Ip6 None b) i e =
+    let h : a / 2 ^ 32 ≡ b / 2 ^ 32 = (let t : (a / 2 ^ 32 == b / 2 ^ 32) ≡ true = e in grind (arith, nat_tests)) in
+    (ip6_almost link s a b h, ip6_almost link s b a (sym h), (refl, (refl, (refl, (refl, tt)))))
+almost link s (Ip6 _ a) (Ip6 _ b) i e = cc
+almost link s _ _ i e = cc
+
+module _ (link : Link) (s : Side) (p : List ℕ) (n : ℕ) where
+  abbrev told : List Elementary → MatchResult
+  told ts = reads link (all_of ts) p n
+
+  seen : (r q : List Elementary) → Almost r q → Known (told r) → Known (told q)
+  seen (t ∷ []) (u ∷ []) h k = last t u h k
+    where
+      last : (t u : Elementary) → Alike_last t u → Known (elementary_reads t p) → Known (elementary_reads u p)
+      last (Field t) (Field u) h k = subst (λ o. Known (reading_of (with o (λ x. Some (compares u.comparison (under_mask u.mask x) u.value)))))
+          (ap₂ (λ o w. field_at o w p) h.0 h.1) (seen_by (field_at t.offset t.width p) _ _ k)
+      last _ _ h k = absurd h
+  seen (t ∷ x ∷ xs) (u ∷ y ∷ ys) h k =
+      subst (λ z. Known (both (elementary_reads z p) (told (y ∷ ys)))) h.0 (seen_after (elementary_reads t p) _ _ (seen (x ∷ xs) (y ∷ ys) h.1) k)
+  seen _ _ h k = absurd h
+
+  all_seen : (k : Case) (cs : List Case) → are_either either_side k ≡ true → Likes either_side k cs → Known (told (side link s k))
+      → Known (read_all link p n (rows (side link s) 0 cs))
+  all_seen k [] i h e = (false, refl)
+  all_seen k (c ∷ cs) i h e = known_either (seen _ _ (almost link s k c i h.0).0 e) (all_seen k cs i h.1 e)
+
+  -- where a case is no, one like it and others are seen
+  like_seen : (k c : Case) → are_either either_side k ≡ true → same_words either_side k c ≡ true → told (side link s c) ≡ No → Known (told (side link s k))
+  like_seen k c i e refused = seen _ _ (almost link s k c i e).1 (false, refused)
+
+-- ---- how cases read, and how many tests they have, on either side or not
 
 abbrev pub one_formula : Bool → Link → Direction → Case → Formula
 one_formula true link d c = Formula.Either (all_of (side link Source c)) (all_of (side link Destination c))
@@ -178,9 +188,10 @@ list_more true link (direction.Both Or) kind first c i cs p n are e f h =
     (read_all link p n (rows (side link s) 0 cs)) = λ s. read_put link p n 0 (side link s) (fields_of link (direction.One s) kind) c i cs
     (shapes_of link either_side (direction.One s) kind (c ∷ []) (e, tt)).0 (shapes_of link either_side (direction.One s) kind cs h) in
     let one : (s : Side) → reads link (all_of (side link s c)) p n ≡ No → Known (reads link (all_of (side link s first)) p n) =
-    λ s refused. (seen link s p n kind first are f).0 ((seen link s p n kind c are e).1 (false, refused)) in
+    λ s refused. seen link s p n _ _ (almost link s kind first are f).0 (like_seen link s p n kind c are e refused) in
     ap₂ (λ x y. by_sides x (reads link (all_of (side link Source c)) p n) (reads link (all_of (side link Destination c)) p n) y) (put Source) (put Destination)
-    ∙ one_more _ _ _ _ _ _ (λ refused. (others_seen link Source p n kind c cs are e h refused, one Source refused)) (one Destination)
+    ∙ one_more _ _ _ _ _ _ (λ refused. (all_seen link Source p n kind cs are h (like_seen link Source p n kind c are e refused), one Source refused))
+    (one Destination)
 list_more true link (direction.Both And) kind first c i cs p n are e f h = (let none = (and_parts (is_address kind) false are).1 in cc)
 list_more true link (direction.One s) kind first c i cs p n are e f h = (let none = (and_parts (is_address kind) false are).1 in cc)
 
@@ -193,11 +204,6 @@ like_either d (Case.Relation a) (Case.Relation b) e = refl
 like_either d _ _ e = cc
 
 -- ---- the tree of a side
-
--- the words that all have in common, in front of the last
-abbrev front_words : Case → ℕ
-front_words (Ip6 m a) = 3
-front_words _ = 1
 
 kept_lowest : (o : Option Elementary) (v : ℕ) → keeps (Exactly v) o ≡ true → lowest o ≡ v
 kept_lowest (Some (Field t)) v e = let h = (and_parts (is_whole t.mask) (t.value == v) e).1 in grind (arith, nat_tests)
@@ -229,10 +235,6 @@ common_bare by few j w v m k (c ∷ cs) h l many more =
         if_case (λ (f : Formula). Bare f (1 + m)) (is_none u) _ _ (λ e. bare_some _ (omega arith))
         (λ e. bare_within _ (omega arith) (bare_both (bare_one t) more))
 
-next_shapes : (f : Offset × Width) (fs : List (Offset × Width)) (by : Case → List Elementary) (w : ℕ) (cs : List Case) → Shapes (f ∷ fs) (rows by w cs)
-    → Shapes fs (rows by (w + 1) cs)
-next_shapes f fs by w cs h = subst (Shapes fs) (sym (rows_rest by w cs)) (shapes_rest f fs (rows by w cs) h)
-
 -- one word of each
 single_sizes : (f : Offset × Width) (rs : List (List Elementary)) → Shapes (f ∷ []) rs → sizes rs ≡ length rs
 single_sizes f [] h = refl
@@ -240,95 +242,50 @@ single_sizes f ((Field t ∷ []) ∷ rs) h = let more = single_sizes f rs h.1 in
 single_sizes f ((Field t ∷ u ∷ us) ∷ rs) h = absurd (h.0).4
 single_sizes f (_ ∷ rs) h = absurd h.0
 
-word_sizes : (f : Offset × Width) (fs : List (Offset × Width)) (by : Case → List Elementary) (w : ℕ) (cs : List Case) → Shapes (f ∷ fs) (rows by w cs)
-    → sizes (rows by w cs) ≡ length cs + sizes (rows by (w + 1) cs)
-word_sizes f fs by w cs h =
-    let long = length-map cs (λ (c : Case). drop w (by c)) in
-    let next = ap sizes (rows_rest by w cs) in
-    omega (arith, long, next, sizes_rest f fs (rows by w cs) h)
+-- n cases with a last word, and with so many in front of it
+abbrev words_of : ℕ → ℕ → ℕ
+words_of zero n = n
+words_of (suc m) n = n + words_of m n
 
-last_bare : (link : Link) (by : Case → List Elementary) (few j w : ℕ) (f : Offset × Width) (cs : List Case) → Shapes (f ∷ []) (rows by w cs)
-    → 0 < length cs → Bare (decision few j by w cs) (length cs + (length cs - max 1 few))
-last_bare link by few j w f cs h some =
-    let long = length-map cs (λ (c : Case). drop w (by c)) in
-    let size = single_sizes f (rows by w cs) h in
-    bare_within _ (omega arith) ((decision_good link by few j w (f ∷ []) cs h).1 (omega arith) (omega arith))
+almost_at : (r q : List Elementary) (w : ℕ) → Almost r q → suc w < length r → slice_get q w ≡ slice_get r w
+almost_at (t ∷ []) (u ∷ []) w h l = absurd (omega arith)
+almost_at (t ∷ x ∷ xs) (u ∷ y ∷ ys) zero h l = ap Some (sym h.0)
+almost_at (t ∷ x ∷ xs) (u ∷ y ∷ ys) (suc w) h l = almost_at (x ∷ xs) (y ∷ ys) w h.1 (omega arith)
+almost_at _ _ w h l = absurd h
 
-equal_numbers : (x y : ℕ) → x ≡ y → (y == x) ≡ true
-equal_numbers x y e = grind (arith, nat_tests)
+whole_kept : (r : List Elementary) (w : ℕ) → Whole r → w < length r → keeps (Exactly (lowest (slice_get r w))) (slice_get r w) ≡ true
+whole_kept [] w h l = absurd (omega arith)
+whole_kept (Field t ∷ ts) zero h l = ap₂ (λ m b. is_whole m && b) h.0 (let same : (t.value == t.value) ≡ true = grind (arith, nat_tests) in same)
+whole_kept (Field t ∷ ts) (suc w) h l = whole_kept ts w h.1 (omega arith)
+whole_kept (_ ∷ ts) w h l = absurd h
 
-module _ (link : Link) (s : Side) (few : ℕ) (cs : List Case) (many : few < length cs) where
-  abbrev tests : Case → List Elementary
-  tests = side link s
+-- a tree of cases that have all words but the last in common, of which m are left
+module _ (link : Link) (s : Side) (few : ℕ) (k : Case) (cs : List Case) (i : are_either either_side k ≡ true) (h : Likes either_side k cs)
+    (many : few < length cs) where
+  abbrev by : Case → List Elementary
+  by = side link s
 
-  abbrev place : ℕ → Offset × Width
-  place k = (Offset.Fixed (network_offset link + ip6_place (direction.One s) + 4 * k), Word)
-
-  abbrev mac_word : Offset × Width
-  mac_word = (Offset.Fixed (mac_place (direction.One s)), Word)
-
-  abbrev mac_end : Offset × Width
-  mac_end = (Offset.Fixed (mac_place (direction.One s) + 4), HalfWord)
-
-  mac_kept : (a : ℕ) (c : Case) → same_words either_side (Mac a) c ≡ true → keeps (Exactly (a / 2 ^ 16 % 2 ^ 32)) (word_test tests 0 c) ≡ true
-  mac_kept a (Mac b) e = equal_numbers _ _ (ap (λ v. v % 2 ^ 32) (macs_are a b e))
-  mac_kept a _ e = cc
-
-  macs_shapes : (a : ℕ) → Likes either_side (Mac a) cs → Shapes (mac_word ∷ mac_end ∷ []) (rows tests 0 cs) × Shapes (mac_end ∷ []) (rows tests 1 cs)
-  macs_shapes a h =
-      let all = shapes_of link either_side (direction.One s) (Mac a) cs h in (all, next_shapes mac_word (mac_end ∷ []) tests 0 cs all)
-
-  macs_bare : (a : ℕ) → Likes either_side (Mac a) cs → Bare (all_on_side link few s cs) (1 + (length cs + (length cs - max 1 few)))
-  macs_bare a h =
-      common_bare tests few 63 0 (a / 2 ^ 16 % 2 ^ 32) _ (Mac a) cs (mac_kept a) h many
-      (last_bare link tests few 63 1 mac_end cs (macs_shapes a h).1 (omega arith))
-
-  macs_sizes : (a : ℕ) → Likes either_side (Mac a) cs → sizes (rows tests 0 cs) ≡ 2 * length cs
-  macs_sizes a h =
-      let k = macs_shapes a h in
-      let long = length-map cs (λ (c : Case). drop 1 (tests c)) in
-      omega (arith, word_sizes mac_word (mac_end ∷ []) tests 0 cs k.0, single_sizes mac_end (rows tests 1 cs) k.1, long)
-
-  ip6_kept : (a w k : ℕ) → ((m : Option ℕ) (b : ℕ) → m ≡ None → a / 2 ^ 32 ≡ b / 2 ^ 32 → keeps (Exactly k) (word_test tests w (Ip6 m b)) ≡ true)
-      → (c : Case) → same_words either_side (Ip6 None a) c ≡ true → keeps (Exactly k) (word_test tests w c) ≡ true
-  ip6_kept a w k h (Ip6 m b) e = let i = ip6_are m a b e in h m b i.0 i.1
-  ip6_kept a w k h _ e = cc
-
-  ip6_shapes : (a : ℕ) → Likes either_side (Ip6 None a) cs → Shapes (place 0 ∷ place 1 ∷ place 2 ∷ place 3 ∷ []) (rows tests 0 cs)
-      × Shapes (place 1 ∷ place 2 ∷ place 3 ∷ []) (rows tests 1 cs) × Shapes (place 2 ∷ place 3 ∷ []) (rows tests 2 cs) × Shapes (place 3 ∷ [])
-      (rows tests 3 cs)
-  ip6_shapes a h =
-      let all = shapes_of link either_side (direction.One s) (Ip6 None a) cs h in
-      let one = next_shapes (place 0) (place 1 ∷ place 2 ∷ place 3 ∷ []) tests 0 cs all in
-      let two = next_shapes (place 1) (place 2 ∷ place 3 ∷ []) tests 1 cs one in
-      (all, one, two, next_shapes (place 2) (place 3 ∷ []) tests 2 cs two)
-
-  ip6_bare : (a : ℕ) → Likes either_side (Ip6 None a) cs → Bare (all_on_side link few s cs) (3 + (length cs + (length cs - max 1 few)))
-  ip6_bare a h =
-      bare_within _ (omega arith)
-      (common_bare tests few 63 0 (a / 2 ^ 96 % 2 ^ 32) _ (Ip6 None a) cs
-      (ip6_kept a 0 _ (λ m b i e. subst (λ o. keeps (Exactly (a / 2 ^ 96 % 2 ^ 32)) (word_test tests 0 (Ip6 o b)) ≡ true) (sym i)
-      (equal_numbers _ _ (ap (λ v. v % 2 ^ 32) (upper_word a b (2 ^ 64) e))))) h many
-      (common_bare tests few 62 1 (a / 2 ^ 64 % 2 ^ 32) _ (Ip6 None a) cs
-      (ip6_kept a 1 _ (λ m b i e. subst (λ o. keeps (Exactly (a / 2 ^ 64 % 2 ^ 32)) (word_test tests 1 (Ip6 o b)) ≡ true) (sym i)
-      (equal_numbers _ _ (ap (λ v. v % 2 ^ 32) (upper_word a b (2 ^ 32) e))))) h many
-      (common_bare tests few 61 2 (a / 2 ^ 32 % 2 ^ 32) _ (Ip6 None a) cs
-      (ip6_kept a 2 _ (λ m b i e. subst (λ o. keeps (Exactly (a / 2 ^ 32 % 2 ^ 32)) (word_test tests 2 (Ip6 o b)) ≡ true) (sym i)
-      (equal_numbers _ _ (ap (λ v. v % 2 ^ 32) e)))) h many
-      (last_bare link tests few 61 3 (place 3) cs (ip6_shapes a h).3 (omega arith)))))
-
-  ip6_sizes : (a : ℕ) → Likes either_side (Ip6 None a) cs → sizes (rows tests 0 cs) ≡ 4 * length cs
-  ip6_sizes a h =
-      let k = ip6_shapes a h in
-      let long = length-map cs (λ (c : Case). drop 3 (tests c)) in
-      omega (
-        arith,
-        word_sizes (place 0) (place 1 ∷ place 2 ∷ place 3 ∷ []) tests 0 cs k.0,
-        word_sizes (place 1) (place 2 ∷ place 3 ∷ []) tests 1 cs k.1,
-        word_sizes (place 2) (place 3 ∷ []) tests 2 cs k.2,
-        single_sizes (place 3) (rows tests 3 cs) k.3,
-        long,
+  tree : (m w j : ℕ) (fs : List (Offset × Width)) → Shapes fs (rows by w cs) → length fs ≡ suc m → suc m + w ≡ length (by k) → m ≤ j
+      → Bare (decision few j by w cs) (m + (length cs + (length cs - max 1 few))) × (sizes (rows by w cs) ≡ words_of m (length cs))
+  tree zero w j (f ∷ []) g long at l =
+      let rows_long = length-map cs (λ (c : Case). drop w (by c)) in
+      let size = single_sizes f (rows by w cs) g in
+      (bare_within _ (omega arith) ((decision_good link by few j w (f ∷ []) cs g).1 (omega arith) (omega arith)), omega arith)
+  tree (suc m) w (suc j) (f ∷ fs) g long at l =
+      let next = rows_rest by w cs in
+      let more = tree m (w + 1) j fs (subst (Shapes fs) (sym next) (shapes_rest f fs (rows by w cs) g)) (omega arith) (omega arith) (omega arith) in
+      let rows_long = length-map cs (λ (c : Case). drop w (by c)) in (
+        bare_within _ (omega arith)
+            (common_bare by few j w (lowest (slice_get (by k) w)) _ k cs (λ c e.
+            let a = almost link s k c i e in
+            ap (keeps (Exactly (lowest (slice_get (by k) w)))) (almost_at (by k) (by c) w a.0 (omega arith))
+            ∙ whole_kept (by k) w a.2 (omega arith)) h many more.0),
+        omega (arith, more.1, ap sizes next, sizes_rest f fs (rows by w cs) g),
       )
+  tree zero w j [] g long at l = absurd (omega arith)
+  tree zero w j (f ∷ x ∷ fs) g long at l = absurd (omega arith)
+  tree (suc m) w j [] g long at l = absurd (omega arith)
+  tree (suc m) w zero (f ∷ fs) g long at l = absurd (omega arith)
 
 -- ---- both trees
 
@@ -339,29 +296,34 @@ few_fits (Mac a) n i l =
 few_fits (Ip6 m a) n i l = (omega arith, omega arith)
 few_fits _ n i l = cc
 
+-- of m words in front of the last
+both_bare : (link : Link) (m few : ℕ) (kind first : Case) (cs : List Case) → are_either either_side kind ≡ true → Likes either_side kind cs
+    → ((s : Side) → (length (fields_of link (direction.One s) kind) ≡ suc m) × (length (side link s kind) ≡ suc m) × (length (side link s first) ≡ suc m))
+    → few < length cs → m ≤ 64
+    → 2 * (m + (length cs + (length cs - max 1 few))) + 2 * suc m + 1 ≤ 2 * words_of m (length cs) + (length cs - 1)
+    → Bare (either_formula link few first cs) (list_size true link either_side cs + (length cs - 1))
+both_bare link m few kind first cs i h long many l fits =
+    let one : (s : Side) → Bare (on_side link s first) (suc m) = λ s. let e = (long s).2 in let f = fewer (side link s first) in
+    bare_all (needed_tests (side link s first)) (suc m) (omega arith) (omega arith) in
+    let source = at Source in
+    let destination = at Destination in
+    bare_within _ (omega (arith, source.1, destination.1))
+    (bare_either (bare_both source.0 (bare_either (one Source) (bare_either (one Destination) (bare_one (Outcome true))))) destination.0)
+  where
+    at : (s : Side) → Bare (all_on_side link few s cs) (m + (length cs + (length cs - max 1 few))) × (sizes (rows (side link s) 0 cs)
+        ≡ words_of m (length cs))
+    at s = tree link s few kind cs i h many m 0 MOST_DECISIONS (fields_of link (direction.One s) kind)
+        (shapes_of link either_side (direction.One s) kind cs h) (long s).0 (let e = (long s).1 in omega arith) l
+
 either_bare : (link : Link) (kind first : Case) (cs : List Case) → are_either either_side kind ≡ true → same_words either_side kind first ≡ true
     → Likes either_side kind cs → fewest_either first ≤ length cs → Bare (either_formula link (few_of first (length cs)) first cs)
     (list_size true link either_side cs + (length cs - 1))
 either_bare link (Mac a) (Mac b) cs i e h many =
     let few = few_fits (Mac b) (length cs) refl many in
-    let tree : (s : Side) → Bare (all_on_side link (few_of (Mac b) (length cs)) s cs) (1 + (length cs + (length cs - max 1 (few_of (Mac b) (length cs))))) =
-    λ s. macs_bare link s _ cs few.1 a h in
-    let one : (s : Side) → Bare (on_side link s (Mac b)) 2 = λ s. bare_all (needed_tests (side link s (Mac b))) 2 (fewer (side link s (Mac b))) (omega arith) in
-    let source = macs_sizes link Source _ cs few.1 a h in
-    let destination = macs_sizes link Destination _ cs few.1 a h in
-    bare_within _ (omega arith)
-    (bare_either (bare_both (tree Source) (bare_either (one Source) (bare_either (one Destination) (bare_one (Outcome true))))) (tree Destination))
-either_bare link (Ip6 None a) (Ip6 m b) cs i e h many =
-    let few = few_fits (Ip6 m b) (length cs) refl many in
-    let tree : (s : Side) → Bare (all_on_side link (few_of (Ip6 m b) (length cs)) s cs) (3 + (length cs + (length cs - max 1 (few_of (Ip6 m b) (length cs))))) =
-    λ s. ip6_bare link s _ cs few.1 a h in
-    let one : (s : Side) → Bare (on_side link s (Ip6 m b)) 4 = λ s. bare_all (needed_tests (side link s (Ip6 m b))) 4 (fewer (side link s (Ip6 m b)))
-    (omega arith) in
-    let source = ip6_sizes link Source _ cs few.1 a h in
-    let destination = ip6_sizes link Destination _ cs few.1 a h in
-    bare_within _ (omega arith)
-    (bare_either (bare_both (tree Source) (bare_either (one Source) (bare_either (one Destination) (bare_one (Outcome true))))) (tree Destination))
-either_bare link (Ip6 (Some x) a) (Ip6 m b) cs i e h many = cc
+    both_bare link 1 _ (Mac a) (Mac b) cs i h (λ s. (refl, refl, refl)) few.1 (omega arith) (omega arith)
+either_bare link (Ip6 m a) (Ip6 l b) cs i e h many =
+    let few = few_fits (Ip6 l b) (length cs) refl many in
+    both_bare link 3 _ (Ip6 m a) (Ip6 l b) cs i h (λ s. (refl, refl, refl)) few.1 (omega arith) (omega arith)
 either_bare link _ _ cs i e h many = cc
 
 -- a list's formula

@@ -5,11 +5,11 @@ use Rattle.flt_gen.proofs.Ascending.{within_inserted, within_joined, searchable_
 use Rattle.flt_gen.proofs.Common.{◌≡◌, ℕ, ◌+◌, ◌-◌, ◌*◌, ◌/◌, ◌^◌, ◌<◌, ◌≤◌, max, List, [], ◌∷◌, length, Bool, true, false, Option, Some, None, refl, sym, ap}
 use Rattle.flt_gen.proofs.Common.{ap₂, ◌∙◌}
 use Rattle.flt_gen.proofs.Common.{subst, arith, ◌==◌, ◌||◌, ◌&&◌, nat_lt, nat_le, if◌then◌else◌, suc-mul, nat_tests, and_parts, or_parts, Protocol, Ip, Tcp}
-use Rattle.flt_gen.proofs.Common.{Udp, Source, Destination, And, Or, ValueType, Host, Net, Port, PortRange, Direction, CompleteQualifiers, Value, Interval}
-use Rattle.flt_gen.proofs.Common.{Sides, FrameKind, network_offset, not, map, and-false, inl, inr, Sought, sought_tests, is_address, joined_all, left_out}
+use Rattle.flt_gen.proofs.Common.{Source, Destination, And, Or, ValueType, Host, Net, Port, PortRange, Direction, CompleteQualifiers, Value, Interval}
+use Rattle.flt_gen.proofs.Common.{Sides, FrameKind, network_offset, not, map, and-false, inl, inr, Sought, sought_tests, has_addresses, joined_all, left_out}
 use Rattle.flt_gen.proofs.Common.{high_mask, cut, address_places, port_places, ip_transport, ip6_transport, sought, Entry, TruthTree, check, cast, sized, bare}
-use Rattle.flt_gen.proofs.Common.{valued, qualified, compared, denied, joined, is_unfilled, any_primitive, Link, Several, Formula, Both, Either, Except, is_in}
-use Rattle.flt_gen.proofs.Common.{is_within, both, either, negation, Numbers, reads, check_formula, cast_formula, sized_formula, hosts_formula, port_test}
+use Rattle.flt_gen.proofs.Common.{valued, qualified, compared, denied, joined, is_unfilled, any_primitive, Link, Formula, Both, Either, Except, is_in}
+use Rattle.flt_gen.proofs.Common.{is_within, both, either, negation, Numbers, reads, check_formula, cast_formula, sized_formula, hosts_formula}
 use Rattle.flt_gen.proofs.Common.{port_formula, relation_formula, qualified_needed, formula, first_ends, Group, no_group, entry, with_member, same_type}
 use Rattle.flt_gen.proofs.Common.{same_protocol, same_direction, goes_with, member_of, group_and, larger_group, is_searched, numbers_of, several_formula}
 use Rattle.flt_gen.proofs.Common.{accessor_tests, accessor_test_count, guarded_formula, Elementary, with, Tcp, value_formula, Proto, rows_formula}
@@ -20,14 +20,14 @@ use Rattle.flt_gen.proofs.Deciding.{some_front, rows, Likes, likes_put, length_p
 use Rattle.flt_gen.proofs.EitherSide.{one_formula, one_size, list_read, list_size, list_alone, list_more, none_size, size_put, list_formula, list_good}
 use Rattle.flt_gen.proofs.EitherSide.{like_either}
 use Rattle.flt_gen.proofs.{Exclusive.or_no, Exclusive.both_either, Exclusive.either_assoc, IdleBits.uncut}
-use Rattle.flt_gen.proofs.{Needed.bare_needed, Needed.value_same, Once.relation_sizes, Once.relation_same, Once.all_read, Once.guarded_read}
+use Rattle.flt_gen.proofs.{Deciding.value_same, Needed.bare_needed, Once.relation_sizes, Once.equal_are, Once.relation_same, Once.all_read, Once.guarded_read}
 use Rattle.flt_gen.proofs.Relations.{entry_tests, entry_bare, IsEntry, entry_is}
 use Rattle.flt_gen.proofs.Prefixes.{Idle, idle_sought, cut_in, cut_within, cut_order, cut_apart}
 use Rattle.flt_gen.proofs.Together.{Fitting, fitting_small, unmasked_fitting, address_fitting, Merged, members_read, members_more, members_alone, member_reads}
 use Rattle.flt_gen.proofs.Together.{IsMember, member_tests, several_are, member_is}
 use Rattle.std.specs.Prelude.{◌⊎◌, count_by, is_none}
 use Rattle.flt_words.specs.declared.token.Protocol.TheVariants as protocol
-use Rattle.flt_gen.specs.declared.{address.Hosts.Hosts, cases.Case.Case}
+use Rattle.flt_gen.specs.declared.cases.Case.{Case}
 use Rattle.flt_gen.specs.inside.Cases.{case_of, same_words, key_of, case_front, insert_case, are_either}
 use Rattle.flt_gen.specs.inside.Group.{with_case, shares_words, case_goes_with, larger_with, together_formula, entry_formula, entry_of, leaf_formula}
 use Rattle.flt_gen.specs.inside.Group.{fewest, fewest_as, fewest_either}
@@ -127,18 +127,21 @@ module _ (link : Link) (q : CompleteQualifiers) (numbers : Numbers) (n : ℕ) (h
   sought_bare : (at : Sides) → Ready at numbers → Bare (Sought q.direction at numbers) (n * count.side_tests q.direction 1 + (n - 1))
   sought_bare at r = bare_within _ (sought_few q.direction numbers n h two) (bare_sought q.direction at numbers r)
 
-  hosts_bare : ((f : FrameKind) → Ready (address_places link f) numbers) → Bare (hosts_formula link q.protocol (Hosts.Several q.direction) numbers)
+  abbrev asked : Sides → Formula
+  asked at = Sought q.direction at numbers
+
+  hosts_bare : ((f : FrameKind) → Ready (address_places link f) numbers) → Bare (hosts_formula link q.protocol asked)
       (n * count.ip4_tests q.protocol q.direction)
   hosts_bare r = bare_within _ (several_hosts_few q.protocol q.direction n (n - 1) (omega arith))
-      (bare_hosts link q.protocol (Hosts.Several q.direction) numbers _ (omega arith) (λ f. bare_after (sought_bare _ (r f))))
+      (bare_hosts link q.protocol asked _ (omega arith) (λ f. bare_after (sought_bare _ (r f))))
 
   ports_bare : Ready (port_places (ip_transport link)) numbers × Ready (port_places (ip6_transport link)) numbers
-      → Bare (port_formula link (port_test q.protocol q.direction Several) numbers) (n * count.port_tests q.protocol q.direction 1)
+      → Bare (port_formula link q.protocol asked) (n * count.port_tests q.protocol q.direction 1)
   ports_bare r = bare_within _ (several_ports_few q.protocol q.direction n (n - 1) two (omega arith))
-      (bare_ports link (port_test q.protocol q.direction Several) numbers _ (sought_bare _ r.0) (sought_bare _ r.1))
+      (bare_ports link q.protocol asked _ (sought_bare _ r.0) (sought_bare _ r.1))
 
-  bare_several : (k : ValueType) → (is_address k ≡ true → (f : FrameKind) → Ready (address_places link f) numbers)
-      → (is_address k ≡ false → Ready (port_places (ip_transport link)) numbers × Ready (port_places (ip6_transport link)) numbers)
+  bare_several : (k : ValueType) → (has_addresses k ≡ true → (f : FrameKind) → Ready (address_places link f) numbers)
+      → (has_addresses k ≡ false → Ready (port_places (ip_transport link)) numbers × Ready (port_places (ip6_transport link)) numbers)
       → Bare (several_formula link q k numbers) (n * member_tests k q.protocol q.direction)
   bare_several Host r s = hosts_bare (r refl)
   bare_several Net r s = hosts_bare (r refl)
@@ -195,13 +198,13 @@ group_bare_several link group ms h e = by group.is_plain refl e
     with_numbers few two =
         bare_within _ h.counted
         (bare_several link group.qualifiers (numbers_of group) n few two k
-        (λ e f. ready (address_places link f) (is_address k && not group.is_plain) group ms h (omega arith)
-        (address_fitting (is_address k && not group.is_plain) link f) (λ mask _. address_reached link f mask))
+        (λ e f. ready (address_places link f) (has_addresses k && not group.is_plain) group ms h (omega arith)
+        (address_fitting (has_addresses k && not group.is_plain) link f) (λ mask _. address_reached link f mask))
         (λ e. let no = ap (λ c. c && not group.is_plain) e in let l = offset_few link in (
-          ready (port_places (ip_transport link)) (is_address k && not group.is_plain) group ms h (omega arith)
-              (unmasked_fitting (is_address k && not group.is_plain) (port_places (ip_transport link)) no) (λ mask f. (f no, refl)),
-          ready (port_places (ip6_transport link)) (is_address k && not group.is_plain) group ms h (omega arith)
-              (unmasked_fitting (is_address k && not group.is_plain) (port_places (ip6_transport link)) no)
+          ready (port_places (ip_transport link)) (has_addresses k && not group.is_plain) group ms h (omega arith)
+              (unmasked_fitting (has_addresses k && not group.is_plain) (port_places (ip_transport link)) no) (λ mask f. (f no, refl)),
+          ready (port_places (ip6_transport link)) (has_addresses k && not group.is_plain) group ms h (omega arith)
+              (unmasked_fitting (has_addresses k && not group.is_plain) (port_places (ip6_transport link)) no)
               (λ mask f. (omega arith, omega arith, omega arith, omega arith)),
         )))
 
@@ -215,7 +218,7 @@ group_bare_several link group ms h e = by group.is_plain refl e
         let c = h.all_count in
         let pts = h.points plain in
         let few = joined_points group.all (omega arith) pts.1 in
-        let off : (is_address k && not group.is_plain) ≡ false = ap (λ b. is_address k && not b) plain ∙ and-false (is_address k) in
+        let off : (has_addresses k && not group.is_plain) ≡ false = ap (λ b. has_addresses k && not b) plain ∙ and-false (has_addresses k) in
         let point : first_ends (cut 0 group.first ∷ []) ≡ 0 = one_point (cut 0 group.first) (let e = pts.0 in omega arith) in
         with_numbers
         (subst (λ b. Numbered (sought b group.first group.all) n) (sym off)
@@ -225,7 +228,7 @@ group_bare_several link group ms h e = by group.is_plain refl e
         let three : 3 ≤ n = grind (arith, nat_tests) in
         let c = h.all_count in
         let few = joined_few group.all (omega arith) in
-        let same = length_cut (is_address k && not group.is_plain) in
+        let same = length_cut (has_addresses k && not group.is_plain) in
         with_numbers (inr (omega arith, three)) (omega arith)
 
 rows_bare : (link : Link) (es : List Entry) → 0 < length es → Bare (rows_formula link es) (entries_tests es)
@@ -303,9 +306,9 @@ group_rows link p n group k =
     by (numbered l empty ms h) e =
         let few = sym (by_numbers group empty) ∙ e in
         ap (λ o. reads link (together_formula link group o) p n) empty
-        ∙ several_are link p n group.qualifiers (is_address group.qualifiers.value_type && not group.is_plain) group.first ms group.all
+        ∙ several_are link p n group.qualifiers (has_addresses group.qualifiers.value_type && not group.is_plain) group.first ms group.all
         (h.merged (searched_two group few)) h.ascends h.all_within group.qualifiers.value_type
-        (λ t. (and_parts (is_address group.qualifiers.value_type) (not group.is_plain) t).0)
+        (λ t. (and_parts (has_addresses group.qualifiers.value_type) (not group.is_plain) t).0)
         ∙ sym (h.rows link p n)
     by (listed l h) e = (listed_is link group h e).1 p n
 
@@ -337,11 +340,7 @@ or_stands link f a group k s same = record { counts = sizes group.entries (λ l.
 -- which members go together
 protocols_are : (a b : Option Protocol) → same_protocol a b ≡ true → b ≡ a
 protocols_are None None e = refl
-protocols_are (Some Ip) (Some Ip) e = refl
-protocols_are (Some protocol.Arp) (Some protocol.Arp) e = refl
-protocols_are (Some protocol.Rarp) (Some protocol.Rarp) e = refl
-protocols_are (Some Tcp) (Some Tcp) e = refl
-protocols_are (Some Udp) (Some Udp) e = refl
+protocols_are (Some p) (Some q) e = ap Some (sym (equal_are p q e))
 protocols_are _ _ e = cc
 
 directions_are : (a b : Direction) → same_direction a b ≡ true → (b ≡ a) × Merged a

@@ -4,7 +4,7 @@ use Rattle.flt_gen.proofs.Common.{◌≡◌, ℕ, ◌+◌, ◌≤◌, ◌==◌, 
 use Rattle.flt_gen.proofs.Common.{accessor_test_count, truth_tests, Link, accessor_tests, width_of, reading_of, with, Single, Compare, both, reads, formula}
 use Rattle.flt_gen.proofs.Common.{Entry}
 use Rattle.flt_gen.proofs.{Counted.Bare, Counted.bare_within, Counted.bare_one, Numbers.indexed_same}
-use Rattle.flt_gen.proofs.Needed.{bare_needed, value_same}
+use Rattle.flt_gen.proofs.{Deciding.value_same, Needed.bare_needed}
 use Rattle.flt_gen.proofs.Once.{guarded_sizes, accessor_tests_are, all_read, guarded_read}
 use Rattle.flt_ast.specs.Counts.{value_tests}
 use Rattle.flt_gen.specs.inside.{Group.entry_formula, Group.entry_of, Relations.relation_test}

@@ -4,11 +4,11 @@ use Rattle.flt_gen.proofs.Common.{◌≡◌, ℕ, ◌+◌, ◌*◌, ◌^◌, ◌
 use Rattle.flt_gen.proofs.Common.{subst, ◌-◌, ◌∙◌, arith, inl, inr, ◌==◌, ◌||◌, ◌&&◌, nat_le, min, max, bit_and, nat_tests, and_parts, or-false, Protocol, Ip}
 use Rattle.flt_gen.proofs.Common.{Tcp, Udp, ValueType}
 use Rattle.flt_gen.proofs.Common.{Host, Net, Port, PortRange, Source, Destination, And, Or, Direction, CompleteQualifiers, Value, first_bits, Word, HalfWord}
-use Rattle.flt_gen.proofs.Common.{Offset, field, Link, type_offset, FrameKind, Elementary, Interval, One, Between, Several, Sides, Transport, MatchResult, Yes}
+use Rattle.flt_gen.proofs.Common.{Offset, field, Link, type_offset, FrameKind, Elementary, Interval, Sides, Transport, MatchResult, Yes}
 use Rattle.flt_gen.proofs.Common.{No, Rejected, reading_of, with, field_at, under_mask, kind_test, elementary_reads, Formula, Sought, is_in, is_within, both}
-use Rattle.flt_gen.proofs.Common.{either, all_of, sides, Numbers, no_numbers, reads, address_places, address_test, partial_mask, port_is, port_between}
-use Rattle.flt_gen.proofs.Common.{port_places, port_sides, transport, following, ip_transport, ip6_transport, port_test, port_formula, net_formula}
-use Rattle.flt_gen.proofs.Common.{value_formula, joined_all, left_out, high_mask, cut, sought, is_address, net_numbers, member_of, several_formula}
+use Rattle.flt_gen.proofs.Common.{either, all_of, sides, reads, address_places, address_test, partial_mask, port_is, port_between}
+use Rattle.flt_gen.proofs.Common.{port_places, in_net, hosts_formula, transport, following, ip_transport, ip6_transport, port_formula}
+use Rattle.flt_gen.proofs.Common.{value_formula, joined_all, left_out, high_mask, cut, sought, has_addresses, net_numbers, member_of, several_formula}
 use Rattle.flt_gen.proofs.Exclusive.{or_no, both_either, kinds_exclude}
 use Rattle.flt_gen.proofs.Prefixes.{Idle, idle_sought, Small, cut_in, cut_within, net_hit}
 use Rattle.flt_gen.proofs.Runs.{one_number}
@@ -19,7 +19,6 @@ use Rattle.flt_ast.specs.Nets.{ip4_mask}
 use Rattle.flt_gen.specs.inside.Group.{is_prefix}
 use Rattle.std.specs.Prelude.{count_ones}
 use Rattle.flt_gen.specs.declared.elementary.FrameKind.TheVariants as kind
-use Rattle.flt_gen.specs.declared.port.Ports.{Ports}
 
 -- the fields of these sides fit the masks that numbers may have
 abbrev pub Fitting : Bool → Sides → Type 0
@@ -261,14 +260,18 @@ module _ (link : Link) (p : List ℕ) (n : ℕ) where
   sides_join PortRange protocol x y = ports_join protocol x y
   sides_join _ protocol x y = refl
 
-  ports_are : (protocol : Option Protocol) (d : Direction) (ports : Ports) (bs : Numbers)
-      → reads link (port_formula link (port_test protocol d ports) bs) p n ≡ two_headers protocol
-      (reads link (port_sides ports d (ip_transport link) bs) p n) (reads link (port_sides ports d (ip6_transport link) bs) p n)
-  ports_are protocol d ports bs =
-      let h = ip_transport link in
-      let k = ip6_transport link in
-      ap₂ (λ v w. either (both (kind_reads kind.Ip) v) (both (kind_reads kind.Ip6) w)) (after_is protocol h (port_sides ports d h bs))
-      (after_is protocol k (port_sides ports d k bs))
+  -- what is asked of the places
+  abbrev told_at : (Sides → Formula) → Sides → MatchResult
+  told_at asked at = reads link (asked at) p n
+
+  ports_are : (protocol : Option Protocol) (asked : Sides → Formula) → reads link (port_formula link protocol asked) p n ≡ ports_by protocol (told_at asked)
+  ports_are protocol asked =
+      ap₂ (λ v w. either (both (kind_reads kind.Ip) v) (both (kind_reads kind.Ip6) w)) (after_is protocol (ip_transport link) _)
+      (after_is protocol (ip6_transport link) _)
+
+  hosts_are : (protocol : Option Protocol) (asked : Sides → Formula) → reads link (hosts_formula link protocol asked) p n ≡ hosts_by protocol (told_at asked)
+  hosts_are (Some Ip) asked = refl
+  hosts_are _ asked = refl
 
   hosts_same : (protocol : Option Protocol) (x y : Sides → MatchResult) → ((k : FrameKind) → x (address_places link k) ≡ y (address_places link k))
       → hosts_by protocol x ≡ hosts_by protocol y
@@ -306,13 +309,13 @@ module _ (link : Link) (p : List ℕ) (n : ℕ) where
   pub members_alone : (k : ValueType) (protocol : Option Protocol) (d : Direction) (m : Interval) → members_read k protocol d m [] ≡ member_reads k protocol d m
   members_alone k protocol d m = ap (by_sides k protocol) (λ i at. one_alone d (source_of at) (destination_of at) (hit m) i)
 
-  -- the formula of several
-  abbrev sought_at : Sides → Direction → Numbers → MatchResult
-  sought_at at d numbers = reads link (Sought d at numbers) p n
-
   module _ (q : CompleteQualifiers) (b : Bool) (m : Interval) (ms all : List Interval) (h : Merged q.direction) (o : Ordered 0 all)
       (w : (y : ℕ) → is_within y all ≡ is_within y (m ∷ ms)) where
-    sides_are : (at : Sides) → Fitting b at → sought_at at q.direction (sought b m all) ≡ sides_read q.direction (source_of at) (destination_of at)
+    -- the formula of several
+    abbrev asked : Sides → Formula
+    asked at = Sought q.direction at (sought b m all)
+
+    sides_are : (at : Sides) → Fitting b at → told_at asked at ≡ sides_read q.direction (source_of at) (destination_of at)
         (hit m) (λ x. is_within x (m ∷ ms))
     sides_are at fit = by q.direction h ∙ sides_seen q.direction (source_of at) (destination_of at) _ _ _ _ (λ x e. one x (small x (inl e)))
         (λ x e. one x (small x (inr e))) (λ x e. some x (small x (inl e))) (λ x e. some x (small x (inr e)))
@@ -335,31 +338,26 @@ module _ (link : Link) (p : List ℕ) (n : ℕ) where
         some : (x : ℕ) → Small last x → is_within (u x) (map (cut last) (joined_all all)) ≡ is_within x (m ∷ ms)
         some x l = cut_within last x m (joined_all all) idle l ∙ within_joined x all o ∙ w x
 
-        by : (e : Direction) → Merged e → sought_at at e (sought b m all) ≡ sides_read e (source_of at) (destination_of at)
+        by : (e : Direction) → Merged e → reads link (Sought e at (sought b m all)) p n ≡ sides_read e (source_of at) (destination_of at)
             (λ x. is_within (u x) (cut last m ∷ [])) (λ x. is_within (u x) (map (cut last) (joined_all all)))
         by (Direction.Both And) q = absurd q
         by (Direction.One Source) q = refl
         by _ q = refl
 
-    hosts_are : reads link (several_formula link q Host (sought b m all)) p n ≡ members_read Host q.protocol q.direction m ms
-    hosts_are = by q.protocol ∙ hosts_same q.protocol _ _ (λ k. sides_are (address_places link k) (address_fitting b link k))
-      where
-        by : (protocol : Option Protocol) → reads link (several_formula link (record q { protocol = protocol }) Host (sought b m all)) p n ≡ hosts_by
-            protocol (λ at. sought_at at q.direction (sought b m all))
-        by (Some Ip) = refl
-        by _ = refl
+    several_hosts : reads link (hosts_formula link q.protocol asked) p n ≡ members_read Host q.protocol q.direction m ms
+    several_hosts = hosts_are q.protocol asked ∙ hosts_same q.protocol _ _ (λ k. sides_are (address_places link k) (address_fitting b link k))
 
     -- ports have no mask
-    several_ports : b ≡ false → reads link (several_formula link q Port (sought b m all)) p n ≡ members_read Port q.protocol q.direction m ms
+    several_ports : b ≡ false → reads link (port_formula link q.protocol asked) p n ≡ members_read Port q.protocol q.direction m ms
     several_ports e =
-        ports_are q.protocol q.direction Several (sought b m all)
-        ∙ ap₂ (two_headers q.protocol) (sides_are (port_places (ip_transport link)) (unmasked_fitting b (port_places (ip_transport link)) e))
-        (sides_are (port_places (ip6_transport link)) (unmasked_fitting b (port_places (ip6_transport link)) e))
+        let ip = port_places (ip_transport link) in
+        let ip6 = port_places (ip6_transport link) in
+        ports_are q.protocol asked ∙ ap₂ (two_headers q.protocol) (sides_are ip (unmasked_fitting b ip e)) (sides_are ip6 (unmasked_fitting b ip6 e))
 
-    pub several_are : (k : ValueType) → (b ≡ true → is_address k ≡ true) → reads link (several_formula link q k (sought b m all)) p n ≡ members_read k
+    pub several_are : (k : ValueType) → (b ≡ true → has_addresses k ≡ true) → reads link (several_formula link q k (sought b m all)) p n ≡ members_read k
         q.protocol q.direction m ms
-    several_are Host f = hosts_are
-    several_are Net f = hosts_are
+    several_are Host f = several_hosts
+    several_are Net f = several_hosts
     several_are Port f = several_ports (not_both b _ f refl)
     several_are PortRange f = several_ports (not_both b _ f refl)
     several_are _ f = refl
@@ -373,18 +371,12 @@ module _ (link : Link) (p : List ℕ) (n : ℕ) where
   row_sides at (Direction.Both And) s t f e h = ap₂ both e h
 
   address_row : (protocol : Option Protocol) (d : Direction) (mask : Option ℕ) (a : ℕ) (f : ℕ → Bool)
-      → ((x : ℕ) → x < 2 ^ 32 → (under_mask mask x == a) ≡ f x) → reads link (net_formula link protocol d mask a) p n ≡ hosts_by protocol
+      → ((x : ℕ) → x < 2 ^ 32 → (under_mask mask x == a) ≡ f x) → reads link (hosts_formula link protocol (in_net d mask a)) p n ≡ hosts_by protocol
       (λ at. plain_reads d (source_of at) (destination_of at) f)
-  address_row protocol d mask a f e = kinds_are protocol ∙ hosts_same protocol row (λ at. plain_reads d (source_of at) (destination_of at) f) each
+  address_row protocol d mask a f e = hosts_are protocol (in_net d mask a) ∙ hosts_same protocol _ _ each
     where
-      row : Sides → MatchResult
-      row at = reads link (sides d (address_test mask a at.source ∷ []) (address_test mask a at.destination ∷ [])) p n
-
-      kinds_are : (protocol : Option Protocol) → reads link (net_formula link protocol d mask a) p n ≡ hosts_by protocol row
-      kinds_are (Some Ip) = refl
-      kinds_are _ = refl
-
-      each : (k : FrameKind) → row (address_places link k) ≡ plain_reads d (source_of (address_places link k)) (destination_of (address_places link k)) f
+      each : (k : FrameKind) → told_at (in_net d mask a) (address_places link k) ≡ plain_reads d (source_of (address_places link k))
+          (destination_of (address_places link k)) f
       each k =
           let at = address_places link k in
           let fit = address_fitting true link k refl p in
@@ -396,18 +388,17 @@ module _ (link : Link) (p : List ℕ) (n : ℕ) where
   both_ends None a b = refl
   both_ends (Some x) a b = yes_and (nat_le a x) (nat_le x b)
 
-  port_row : (protocol : Option Protocol) (d : Direction) (ports : Ports) (tests : Offset → List Elementary) (f : ℕ → Bool)
-      → ((header : Transport) → port_sides ports d header no_numbers ≡ sides d (tests header.source) (tests header.destination))
+  port_row : (protocol : Option Protocol) (d : Direction) (tests : Offset → List Elementary) (f : ℕ → Bool)
       → ((at : Offset) → reads link (all_of (tests at)) p n ≡ read_by (field_at at HalfWord p) f)
-      → reads link (port_formula link (port_test protocol d ports) no_numbers) p n ≡ ports_by protocol
+      → reads link (port_formula link protocol (λ at. sides d (tests at.source) (tests at.destination))) p n ≡ ports_by protocol
       (λ at. plain_reads d (source_of at) (destination_of at) f)
-  port_row protocol d ports tests f are e = ports_are protocol d ports no_numbers ∙ ap₂ (two_headers protocol) (row (ip_transport link))
-      (row (ip6_transport link))
+  port_row protocol d tests f e =
+      ports_are protocol (λ at. sides d (tests at.source) (tests at.destination))
+      ∙ ap₂ (two_headers protocol) (row (ip_transport link)) (row (ip6_transport link))
     where
-      row : (header : Transport) → reads link (port_sides ports d header no_numbers) p n ≡ plain_reads d (source_of (port_places header))
-          (destination_of (port_places header)) f
-      row header = ap (λ (x : Formula). reads link x p n) (are header) ∙ row_sides (port_places header) d (tests header.source)
-          (tests header.destination) f (e header.source) (e header.destination)
+      row : (header : Transport) → reads link (sides d (tests header.source) (tests header.destination)) p n ≡ plain_reads d
+          (source_of (port_places header)) (destination_of (port_places header)) f
+      row header = row_sides (port_places header) d _ _ f (e header.source) (e header.destination)
 
   -- a value that looks for these numbers: their order, its tests, of which there are no fewer, and how it reads
   abbrev pub IsMember : ValueType → Option Protocol → Direction → Value → Interval → Type 0
@@ -416,7 +407,7 @@ module _ (link : Link) (p : List ℕ) (n : ℕ) where
 
   abbrev IsNet : Option Protocol → Direction → ℕ → ℕ → Interval → Type 0
   IsNet protocol d mask a m = (m.low ≤ m.high) × (count.ip4_tests protocol d ≤ count.ip4_tests protocol d)
-      × (reads link (net_formula link protocol d (partial_mask mask) a) p n ≡ member_reads Net protocol d m)
+      × (reads link (hosts_formula link protocol (in_net d (partial_mask mask) a)) p n ≡ member_reads Net protocol d m)
 
   prefix_hit : (mask b a x : ℕ) → mask ≡ first_bits 32 b → bit_and a mask ≡ a → x < 2 ^ 32 → (under_mask (partial_mask mask) x == a) ≡ is_in x
       (record { low = a; high = a + (2 ^ 32 - 1 - mask) })
@@ -442,13 +433,11 @@ module _ (link : Link) (p : List ℕ) (n : ℕ) where
   member_is Port protocol d (Value.Number x z) = (
     omega arith,
     omega arith,
-    port_row protocol d (One x) (port_is x) _ (λ header. refl)
-        (λ at. ap (read_by (field_at at HalfWord p)) (λ i y. one_number y x x refl i)),
+    port_row protocol d (port_is x) _ (λ at. ap (read_by (field_at at HalfWord p)) (λ i y. one_number y x x refl i)),
   )
   member_is PortRange protocol d (Value.Range a b) = (
     omega arith,
     (let more = more_tests d in omega arith),
-    port_row protocol d (Between (min a b) (max a b)) (port_between (min a b) (max a b)) _
-        (λ header. refl) (λ at. both_ends (field_at at HalfWord p) (min a b) (max a b)),
+    port_row protocol d (port_between (min a b) (max a b)) _ (λ at. both_ends (field_at at HalfWord p) (min a b) (max a b)),
   )
   member_is _ protocol d _ = tt

@@ -1,5 +1,5 @@
 -- Tests joined by and, or and not, and how they are read.
-use Rattle.std.specs.Prelude.{ℕ, ◌&&◌, ◌||◌, nat_le, Bool, true, false, List, [], ◌∷◌, Option, Some, None}
+use Rattle.std.specs.Prelude.{ℕ, ◌&&◌, ◌||◌, nat_le, Bool, true, false, List, [], ◌∷◌, Option, Some}
 use Rattle.flt_words.specs.declared.token.{Comparison.Comparison, Join.TheVariants.And, Join.TheVariants.Or}
 use Rattle.flt_words.specs.declared.token.{Protocol.Protocol, Side.TheVariants.Source, Side.TheVariants.Destination}
 use Rattle.flt_ast.specs.{Tree.NumberTree, declared.qualifiers.Direction.Direction}
@@ -126,11 +126,3 @@ sides (Direction.One Source) source destination = all_of source
 sides (Direction.One Destination) source destination = all_of destination
 sides (Direction.Both Or) source destination = Either (all_of source) (all_of destination)
 sides (Direction.Both And) source destination = Both (all_of source) (all_of destination)
-
--- an interval that nothing looks for
-abbrev pub no_interval : Interval
-no_interval = record { low = 0; high = 0 }
-
--- nothing is looked for
-abbrev pub no_numbers : Numbers
-no_numbers = record { mask = None; first = no_interval; all = []; others = [] }

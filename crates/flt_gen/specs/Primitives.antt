@@ -12,14 +12,12 @@ use Rattle.flt_ast.specs.{Nets.first_bits, Nets.ip4_net, Tree.literal, Tree.len}
 use Rattle.flt_ast.specs.declared.qualifiers.{CompleteQualifiers.CompleteQualifiers, Direction.Direction}
 use Rattle.flt_ast.specs.declared.value.{Ip4Net.Ip4Net, Value.Value}
 use Rattle.flt_gen.specs.Elementary.{with, is_at, compares_at, compares_under, has_type, kind_test, first_fragment, has_ip_proto, has_ip6_proto}
-use Rattle.flt_gen.specs.Formula.{Formula, Single, Compare, Both, Either, Sought, all_of, sides, Numbers, no_numbers}
-use Rattle.flt_gen.specs.declared.{address.Hosts.Hosts, elementary.Elementary.Elementary}
+use Rattle.flt_gen.specs.Formula.{Formula, Single, Compare, Both, Either, all_of, sides}
+use Rattle.flt_gen.specs.declared.elementary.Elementary.{Elementary}
 use Rattle.flt_gen.specs.declared.elementary.{Elementary.TheVariants.Outcome, FrameKind.FrameKind}
 use Rattle.flt_gen.specs.declared.elementary.FrameKind.TheVariants.{Ethernet, Ip, Ip6, Arp, Rarp}
 use Rattle.flt_gen.specs.declared.elementary.Offset.{Offset, TheVariants.Fixed, TheVariants.AfterHeader}
-use Rattle.flt_gen.specs.declared.{elementary.Sides.Sides, port.PortTest.PortTest, port.Ports.Ports}
-use Rattle.flt_gen.specs.declared.port.Ports.TheVariants.{One, Between, Several}
-use Rattle.flt_gen.specs.declared.port.Transport.{Transport}
+use Rattle.flt_gen.specs.declared.{elementary.Sides.Sides, port.Transport.Transport}
 
 -- a test, and then a formula
 abbrev pub after : Elementary → Formula → Formula
@@ -124,36 +122,25 @@ address_places link kind = record {
   destination = Fixed (network_offset link + destination_offset kind);
 }
 
--- the addresses of a header of a kind, as a direction asks for them, are those of hosts: all in a
--- network, or several, which are these numbers
-abbrev pub hosts_sides : Link → FrameKind → Hosts → Numbers → Formula
-hosts_sides link kind (Hosts.Net direction mask address) numbers =
-    let at = address_places link kind in
+-- the address of a source or a destination, as a direction asks for them, is in a network
+abbrev pub in_net : Direction → Option ℕ → ℕ → Sides → Formula
+in_net direction mask address at =
     sides direction (address_test mask address at.source ∷ [])
     (address_test mask address at.destination ∷ [])
-hosts_sides link kind (Hosts.Several direction) numbers =
-    Sought direction (address_places link kind) numbers
 
--- hosts in a header of a kind
-abbrev pub hosts_of_kind : Link → FrameKind → Hosts → Numbers → Formula
-hosts_of_kind link kind wanted numbers =
-    after (kind_test link kind) (hosts_sides link kind wanted numbers)
+-- in a header of a kind, what is asked of the places of its addresses
+abbrev pub hosts_of_kind : Link → FrameKind → (Sides → Formula) → Formula
+hosts_of_kind link kind asked = after (kind_test link kind) (asked (address_places link kind))
 
--- hosts of IPv4 in the headers that a protocol, or none, allows
-abbrev pub hosts_formula : Link → Option Protocol → Hosts → Numbers → Formula
-hosts_formula link (Some Protocol.Ip) wanted numbers = hosts_of_kind link Ip wanted numbers
-hosts_formula link (Some Protocol.Arp) wanted numbers = hosts_of_kind link Arp wanted numbers
-hosts_formula link (Some Protocol.Rarp) wanted numbers = hosts_of_kind link Rarp wanted numbers
-hosts_formula link None wanted numbers =
-    Either (hosts_of_kind link Ip wanted numbers)
-    (Either (hosts_of_kind link Arp wanted numbers) (hosts_of_kind link Rarp wanted numbers))
-hosts_formula link (Some _) wanted numbers = Single (Outcome false)
-
--- the hosts with this address, as far as the mask goes, in the headers that a protocol, or none,
--- allows
-abbrev pub net_formula : Link → Option Protocol → Direction → Option ℕ → ℕ → Formula
-net_formula link protocol direction mask address =
-    hosts_formula link protocol (Hosts.Net direction mask address) no_numbers
+-- the same in the headers that a protocol, or none, allows
+abbrev pub hosts_formula : Link → Option Protocol → (Sides → Formula) → Formula
+hosts_formula link (Some Protocol.Ip) asked = hosts_of_kind link Ip asked
+hosts_formula link (Some Protocol.Arp) asked = hosts_of_kind link Arp asked
+hosts_formula link (Some Protocol.Rarp) asked = hosts_of_kind link Rarp asked
+hosts_formula link None asked =
+    Either (hosts_of_kind link Ip asked)
+    (Either (hosts_of_kind link Arp asked) (hosts_of_kind link Rarp asked))
+hosts_formula link (Some _) asked = Single (Outcome false)
 
 -- IPv6 addresses and networks: four words
 
@@ -198,14 +185,14 @@ port_places header =
       destination = header.destination;
     }
 
--- the ports after a header are those that are looked for: if they are several, these numbers
-abbrev pub port_sides : Ports → Direction → Transport → Numbers → Formula
-port_sides (One n) direction header numbers =
-    sides direction (port_is n header.source) (port_is n header.destination)
-port_sides (Between a b) direction header numbers =
-    sides direction (port_between a b header.source) (port_between a b header.destination)
-port_sides Several direction header numbers =
-    Sought direction (port_places header) numbers
+-- the port of a source or a destination, as a direction asks for them, is this one
+abbrev pub is_port : Direction → ℕ → Sides → Formula
+is_port direction n at = sides direction (port_is n at.source) (port_is n at.destination)
+
+-- it is in a range
+abbrev pub in_range : Direction → ℕ → ℕ → Sides → Formula
+in_range direction a b at =
+    sides direction (port_between a b at.source) (port_between a b at.destination)
 
 -- the test of TCP, that of UDP, or either, and then a formula
 abbrev pub transport : Option Protocol → Elementary → Elementary → Formula → Formula
@@ -219,11 +206,12 @@ abbrev pub following : Option Elementary → Formula → Formula
 following None f = f
 following (Some t) f = after t f
 
--- the ports after a header that names the protocol that is asked for, and isn't a later fragment's
-abbrev pub transport_ports : Transport → PortTest → Numbers → Formula
-transport_ports header wanted numbers =
-    transport wanted.protocol header.tcp header.udp
-    (following header.no_later_fragment (port_sides wanted.ports wanted.direction header numbers))
+-- after a header that names the protocol that is asked for, and isn't a later fragment's, what is
+-- asked of the places of its ports
+abbrev pub transport_ports : Transport → Option Protocol → (Sides → Formula) → Formula
+transport_ports header protocol asked =
+    transport protocol header.tcp header.udp
+    (following header.no_later_fragment (asked (port_places header)))
 
 -- what follows an IPv4 header, which has no fixed length; no later fragment has ports
 abbrev pub ip_transport : Link → Transport
@@ -248,15 +236,10 @@ ip6_transport link = record {
 }
 
 -- `port` and `portrange`: the ports of TCP and UDP over IPv4 or IPv6; for SCTP no port is read
-abbrev pub port_formula : Link → PortTest → Numbers → Formula
-port_formula link wanted numbers =
-    Either (after (kind_test link Ip) (transport_ports (ip_transport link) wanted numbers))
-    (after (kind_test link Ip6) (transport_ports (ip6_transport link) wanted numbers))
-
--- a test of these ports
-abbrev pub port_test : Option Protocol → Direction → Ports → PortTest
-port_test protocol direction ports =
-    record { protocol = protocol; direction = direction; ports = ports }
+abbrev pub port_formula : Link → Option Protocol → (Sides → Formula) → Formula
+port_formula link protocol asked =
+    Either (after (kind_test link Ip) (transport_ports (ip_transport link) protocol asked))
+    (after (kind_test link Ip6) (transport_ports (ip6_transport link) protocol asked))
 
 -- Values with their qualifiers. What doesn't fit was refused before: most of that isn't one here
 -- and above, and of the rest nothing depends on what it is (a host of fewer parts, a port's mask).
@@ -264,7 +247,7 @@ port_test protocol direction ports =
 -- the hosts of the network of IPv4 that a value means; no, if it means none
 abbrev pub ip4_formula : Link → Option Protocol → Direction → Option Ip4Net → Formula
 ip4_formula link protocol direction (Some net) =
-    net_formula link protocol direction (partial_mask net.mask) net.address
+    hosts_formula link protocol (in_net direction (partial_mask net.mask) net.address)
 ip4_formula link protocol direction None = Single (Outcome false)
 
 -- `net` with a network of IPv4 or IPv6
@@ -276,15 +259,15 @@ net_value_formula link protocol direction v = ip4_formula link protocol directio
 -- a value with these qualifiers: the ends of a range may stand in either order
 abbrev pub value_formula : Link → ValueType → Option Protocol → Direction → Value → Formula
 value_formula link Host protocol direction (Value.Dotted dotted mask) =
-    net_formula link protocol direction None dotted.address
+    hosts_formula link protocol (in_net direction None dotted.address)
 value_formula link Host protocol direction (Value.Ip6 address prefix) =
     ip6_formula link direction None address
 value_formula link Host protocol direction (Value.Mac address) = ether_host link direction address
 value_formula link Net protocol direction v = net_value_formula link protocol direction v
 value_formula link Port protocol direction (Value.Number n mask) =
-    port_formula link (port_test protocol direction (One n)) no_numbers
+    port_formula link protocol (is_port direction n)
 value_formula link PortRange protocol direction (Value.Range a b) =
-    port_formula link (port_test protocol direction (Between (min a b) (max a b))) no_numbers
+    port_formula link protocol (in_range direction (min a b) (max a b))
 value_formula link Proto protocol direction (Value.Number n mask) = proto_formula link protocol n
 value_formula link _ protocol direction _ = Single (Outcome false)
 

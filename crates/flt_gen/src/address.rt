@@ -4,44 +4,28 @@
 
 ghost use Rattle.std.specs.Prelude.{◌≡◌, ◌+◌, ◌≤◌};
 ghost use Rattle.cap_octet.specs.Link.{longest_header};
-ghost use Rattle.flt_gen.specs.Primitives.{partial_mask, address_test, address_places};
-ghost use Rattle.flt_gen.specs.inside.Emitted.{is_idle, last_test, ip6_needed};
+ghost use Rattle.flt_gen.specs.Primitives.{partial_mask, address_places};
+ghost use Rattle.flt_gen.specs.inside.Emitted.{is_idle, last_test, ip6_needed, wanted_formula};
 ghost use Rattle.flt_gen.specs.{inside.Emits.EmitsFormula};
 ghost use Rattle.flt_gen.specs.Primitives.{hosts_of_kind, hosts_formula, ip6_test, ip6_tests};
 
 use crate::code::{Code, Targets};
 use crate::elementary::{
-    Elementary, FieldTest, FrameKind, Offset, Sides, compares_under, kind_test, network_offset,
+    Elementary, FieldTest, FrameKind, Offset, Sides, kind_test, network_offset,
 };
 use crate::intervals::Numbers;
+use crate::wanted::{Wanted, address_test};
 use cap_octet::Link;
 use flt_ast::{Direction, ip4_prefix_mask};
 use flt_bpf::operation::Width;
 use flt_words::{Comparison, Protocol};
 use std::alloc::{AllocError, Allocator};
 
-/// The hosts of IPv4 that are looked for.
-#[derive(Clone, Copy)]
-pub enum Hosts {
-    /// Those of a network, which may be a single one, on these sides: its mask, where not the whole
-    /// address counts, and its address.
-    Net(Direction, Option<u32>, u32),
-    /// Several numbers, on these sides.
-    Several(Direction),
-}
-
 /// The mask of a word of 32 bits, or `None` if all of its bits count.
 pub fn partial_mask(mask: u32) -> Option<u32>
     ensures { result ≡ partial_mask mask }
 {
     if mask == u32::MAX { None } else { Some(mask) }
-}
-
-/// The test that the word at a place is an address, as far as the mask goes.
-fn address_test(mask: Option<u32>, address: u32, offset: Offset) -> Elementary
-    ensures { result ≡ address_test mask address offset }
-{
-    compares_under(mask, offset, Width::Word, Comparison::Equal, address)
 }
 
 /// Where both addresses of a header of a kind stand: IPv4 (RFC 791), at bytes 12 and 16, or ARP and
@@ -126,22 +110,14 @@ impl<A: Allocator> Code<A> {
         &mut self,
         link: Link,
         kind: FrameKind,
-        wanted: Hosts,
+        wanted: Wanted,
         numbers: &Numbers<'_>,
         to: Targets,
     ) -> Result<usize, AllocError>
-        ensures { EmitsFormula link (hosts_of_kind link kind wanted numbers.now) to self.old result
-            self.new }
+        ensures { EmitsFormula link (hosts_of_kind link kind (wanted_formula wanted numbers.now)) to
+            self.old result self.new }
     {
-        let at = address_places(link, kind);
-        let yes = match wanted {
-            Hosts::Net(direction, mask, address) => {
-                let source = address_test(mask, address, at.source);
-                let destination = address_test(mask, address, at.destination);
-                self.emit_sides(direction, false, &[source], &[destination], to)?
-            }
-            Hosts::Several(direction) => self.emit_among(direction, at, numbers, to)?,
-        };
+        let yes = self.emit_wanted(address_places(link, kind), wanted, numbers, to)?;
         self.emit_elementary(kind_test(link, kind), Targets { yes, no: to.no })
     }
 
@@ -151,12 +127,13 @@ impl<A: Allocator> Code<A> {
         &mut self,
         link: Link,
         protocol: Option<Protocol>,
-        wanted: Hosts,
+        wanted: Wanted,
         numbers: &Numbers<'_>,
         to: Targets,
     ) -> Result<usize, AllocError>
-        ensures { EmitsFormula link (hosts_formula link protocol wanted numbers.now) to self.old
-            result self.new }
+        ensures { EmitsFormula link
+            (hosts_formula link protocol (wanted_formula wanted numbers.now)) to self.old result
+            self.new }
     {
         let kind = match protocol {
             Some(Protocol::Ip) => FrameKind::Ip,

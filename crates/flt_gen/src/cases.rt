@@ -3,17 +3,18 @@
 //! Addresses are on one side, or on either, if all of their words but the last are the same. Each
 //! test loads its word; `flt_short` leaves out repeated loads.
 
-ghost use Rattle.std.specs.Prelude.{◌≡◌, drop, length, OnOk, count_by, nat_lt};
+ghost use Rattle.std.specs.Prelude.{◌≡◌, ◌≤◌, ◌+◌, drop, length, OnOk, count_by, nat_lt};
 ghost use Rattle.flt_gen.specs.inside.Cases.{case_of, same_words, key_of, insert_case, case_front};
 ghost use Rattle.flt_gen.specs.inside.Cases.{case_tests, lowest, reach, word_test, keeps, all_keep};
 ghost use Rattle.flt_gen.specs.inside.Cases.{test_at, from_test, middle, is_parted, chain};
 ghost use Rattle.flt_gen.specs.inside.{Emits.Emits, Code.emit_all, Code.emit_formula};
 ghost use Rattle.flt_gen.specs.inside.Emitted.{needed_tests};
 ghost use Rattle.flt_gen.specs.inside.Cases.{decision, either_formula, cases_formula, few_of};
-ghost use Rattle.flt_gen.specs.inside.Cases.{shares, are_either};
+ghost use Rattle.flt_gen.specs.inside.Cases.{shares, are_either, mac_place, ip6_place};
+ghost use Rattle.cap_octet.specs.Link.{longest_header, network_offset};
 ghost use Rattle.flt_gen.specs.inside.Emits.{EmitsFormula};
 
-use crate::address::{ip6_test, is_idle, last_test};
+use crate::address::{ip6_test, ip6_tests};
 use crate::code::{Code, Targets};
 use crate::elementary::{
     Elementary, FieldTest, FrameKind, has_ip_proto, has_ip6_proto, kind_test, network_offset,
@@ -101,8 +102,8 @@ fn shares(direction: Direction, are_same: bool) -> bool
     }
 }
 
-/// Whether both are compared in the same words, of which on either side all but the last are the
-/// same.
+/// Whether both may be in one list: they are of one kind, so the same words are compared, and on
+/// either side all words but the last are the same.
 pub fn same_words(direction: Direction, one: Case, other: Case) -> bool
     ensures { result ≡ same_words direction one other }
 {
@@ -151,20 +152,37 @@ pub fn put_case<A: Allocator>(cases: &mut Vec<Case, A>, new: Case) -> Result<(),
     }
 }
 
+/// The place of a side's address in an Ethernet frame.
+fn mac_place(direction: Direction) -> u32
+    ensures { result ≡ mac_place direction }
+{
+    match direction {
+        Direction::One(Side::Source) => 6,
+        _ => 0,
+    }
+}
+
+/// The place of a side's address in a packet of IPv6: byte 8 or 24 of its header (RFC 8200, section
+/// 3).
+fn ip6_place(link: Link, direction: Direction) -> u32
+    ensures place { result ≡ network_offset link + ip6_place direction }
+    ensures near { result ≤ longest_header + 24 }
+{
+    match direction {
+        Direction::One(Side::Source) => network_offset(link) + 8,
+        _ => network_offset(link) + 24,
+    }
+}
+
 /// The test of a word of a case; `None` past its last one.
 fn word_test(link: Link, direction: Direction, case: Case, word: usize) -> Option<Elementary>
     ensures { result ≡ word_test (case_tests link direction) word case }
 {
-    let is_source = matches!(direction, Direction::One(Side::Source));
-    // The addresses stand at bytes 8 and 24 of the IPv6 header (RFC 8200, section 3).
-    let ip6_at = network_offset(link) + if is_source { 8 } else { 24 };
     match (case, word) {
-        (Case::Mac(address), 0 | 1) => {
-            // The source is at byte 6 of a frame, the destination at byte 0.
-            let at = if is_source { 6 } else { 0 };
-            Some(mac_tests(at, address)[word])
+        (Case::Mac(address), 0 | 1) => Some(mac_tests(mac_place(direction), address)[word]),
+        (Case::Ip6(prefix, address), 0..=3) => {
+            Some(ip6_test(prefix, address, ip6_place(link, direction), word as u32))
         }
-        (Case::Ip6(prefix, address), 0..=3) => Some(ip6_test(prefix, address, ip6_at, word as u32)),
         (Case::IpProto(number), 0) => Some(has_ip_proto(link, number)),
         (Case::Ip6Proto(number), 0) => Some(has_ip6_proto(link, number)),
         (Case::Relation(relation), 0) => Some(relation_test(link, relation)),
@@ -307,9 +325,24 @@ fn few_of(one: Case, count: usize) -> usize
 }
 
 impl<A: Allocator> Code<A> {
-    /// Emits the tests of a case from a word on, which all have to hold, without those that decide
-    /// nothing. Returns the place where they begin; for no test that is `to.yes`. It calls itself
-    /// for each: they are few.
+    /// Emits the tests of words from one on, which all have to hold, without those that decide
+    /// nothing. Returns the place where they begin; for no test that is `to.yes`.
+    fn emit_words(
+        &mut self,
+        word: usize,
+        tests: &[Elementary],
+        to: Targets,
+    ) -> Result<usize, AllocError>
+        ensures { Emits result
+            (emit_all (needed_tests (drop word tests.now)) to.yes to.no self.old) self.new }
+    {
+        if word >= tests.len() {
+            return Ok(to.yes);
+        }
+        self.emit_tests(true, &tests[word..], to)
+    }
+
+    /// Emits the tests of a case from a word on, as `emit_words`.
     fn emit_case_from(
         &mut self,
         link: Link,
@@ -322,17 +355,18 @@ impl<A: Allocator> Code<A> {
             (emit_all (needed_tests (drop word (case_tests link direction case))) to.yes to.no
             self.old) self.new }
     {
-        let Some(test) = word_test(link, direction, case, word) else {
-            return Ok(to.yes);
-        };
-        if word_test(link, direction, case, word + 1).is_none() {
-            return self.emit_elementary(last_test(test), to);
+        match case {
+            Case::Mac(address) => {
+                self.emit_words(word, &mac_tests(mac_place(direction), address), to)
+            }
+            Case::Ip6(prefix, address) => {
+                let tests = ip6_tests(prefix, address, ip6_place(link, direction));
+                self.emit_words(word, &tests, to)
+            }
+            Case::IpProto(number) => self.emit_words(word, &[has_ip_proto(link, number)], to),
+            Case::Ip6Proto(number) => self.emit_words(word, &[has_ip6_proto(link, number)], to),
+            Case::Relation(relation) => self.emit_words(word, &[relation_test(link, relation)], to),
         }
-        let yes = self.emit_case_from(link, direction, word + 1, case, to)?;
-        if is_idle(test) {
-            return Ok(yes);
-        }
-        self.emit_elementary(test, Targets { yes, no: to.no })
     }
 
     /// Emits one case after the other. It calls itself for each: they are few, but where networks

@@ -13,15 +13,14 @@ ghost use Rattle.flt_gen.specs.inside.Intervals.{insert_ascending};
 ghost use Rattle.flt_gen.specs.inside.Group.{has_networks, case_goes_with, with_case};
 ghost use Rattle.flt_gen.specs.inside.Group.{larger_by, entry_formula, fewest_either};
 
-use crate::address::Hosts;
 use crate::cases::{Case, are_either, case_of, put_case, same_words};
 use crate::code::{Code, Targets};
 use crate::elementary::Interval;
 use crate::intervals::{Numbers, Room};
 use crate::number::emit_protocol_tests;
-use crate::port::{PortTest, Ports};
 use crate::relation::{Relation, relation_test};
 use crate::stack::Stack;
+use crate::wanted::Wanted;
 use cap_octet::Link;
 use flt_ast::{CompleteQualifiers, Direction, Value};
 use flt_words::{Join, Protocol, Side, ValueType};
@@ -105,18 +104,13 @@ fn same_type(one: ValueType, other: ValueType) -> bool
     }
 }
 
-/// Whether both have no protocol, or the same of `ip`, `arp`, `rarp`, `tcp` and `udp`. Any other
-/// counts as never the same: it isn't looked for together.
+/// Whether both have no protocol, or the same.
 fn same_protocol(one: Option<Protocol>, other: Option<Protocol>) -> bool
     ensures { result ≡ same_protocol one other }
 {
     match (one, other) {
         (None, None) => true,
-        (Some(Protocol::Ip), Some(Protocol::Ip)) => true,
-        (Some(Protocol::Arp), Some(Protocol::Arp)) => true,
-        (Some(Protocol::Rarp), Some(Protocol::Rarp)) => true,
-        (Some(Protocol::Tcp), Some(Protocol::Tcp)) => true,
-        (Some(Protocol::Udp), Some(Protocol::Udp)) => true,
+        (Some(one), Some(other)) => one == other,
         _ => false,
     }
 }
@@ -346,14 +340,14 @@ impl<A: Allocator> Code<A> {
             (several_formula link qualifiers qualifiers.value_type numbers.now) to self.old result
             self.new }
     {
-        let (protocol, direction) = (qualifiers.protocol, qualifiers.direction);
+        let protocol = qualifiers.protocol;
+        let wanted = Wanted::Several(qualifiers.direction);
         match qualifiers.value_type {
             ValueType::Host | ValueType::Net => {
-                self.emit_hosts(link, protocol, Hosts::Several(direction), numbers, to)
+                self.emit_hosts(link, protocol, wanted, numbers, to)
             }
             ValueType::Port | ValueType::PortRange => {
-                let wanted = PortTest::new(protocol, direction, Ports::Several);
-                self.emit_ports(link, wanted, numbers, to)
+                self.emit_ports(link, protocol, wanted, numbers, to)
             }
             // No other type has members.
             _ => Ok(to.no),

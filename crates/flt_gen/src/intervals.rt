@@ -2,9 +2,8 @@
 //! are looked at.
 
 ghost use Rattle.std.specs.List.{list_all};
-ghost use Rattle.std.specs.Prelude.{◌≡◌, ◌≤◌, map, count_by, OnOk, IfOk};
+ghost use Rattle.std.specs.Prelude.{◌≡◌, ◌≤◌, [], map, count_by, OnOk, IfOk};
 ghost use Rattle.flt_gen.specs.inside.Intervals.{joined_all, sought, is_aligned, idle_bits};
-ghost use Rattle.flt_gen.specs.Formula.{no_numbers};
 ghost use Rattle.flt_gen.specs.inside.Intervals.{is_block, left_out, high_mask, cut, without};
 
 use crate::elementary::Interval;
@@ -37,7 +36,11 @@ impl<'a> Model for Numbers<'a> {
 impl<'a> Numbers<'a> {
     /// No number is looked for.
     pub fn none() -> Self
-        ensures { result ≡ no_numbers }
+        ensures all { result.all ≡ [] }
+        ensures others { result.others ≡ [] }
+        ensures mask { result.mask ≡ None }
+        ensures low { result.first.low ≡ 0 }
+        ensures high { result.first.high ≡ 0 }
     {
         Numbers {
             mask: None,
@@ -61,18 +64,14 @@ fn join_touching<A: Allocator>(
         return Ok(());
     };
     let mut last = *first;
-    let mut at = 0;
-    // The label names the loop in its proof.
-    'touching: while at < others.len() {
-        let next = others[at];
+    for next in others {
         // There is a number between them.
         if next.low.saturating_sub(last.high) > 1 {
             joined.push(last)?;
-            last = next;
+            last = *next;
         } else {
             last.high = last.high.max(next.high);
         }
-        at += 1;
     }
     match joined.push(last) {
         Ok(()) => Ok(()),
@@ -180,15 +179,12 @@ fn put_cut<A: Allocator>(
 {
     all.clear();
     others.clear();
-    let mut at = 0;
-    // The label names the loop in its proof.
-    'cut: while at < items.len() {
-        let item = cut(last, items[at]);
+    for item in items {
+        let item = cut(last, *item);
         all.push(item)?;
         if !(first.low == item.low && first.high == item.high) {
             others.push(item)?;
         }
-        at += 1;
     }
     Ok(())
 }

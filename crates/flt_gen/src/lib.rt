@@ -9,9 +9,9 @@
 //!   code, which grows from its last instruction to its first; `emit` has the code of a test,
 //!   `among` that of a search, and `cases` that of a decision tree.
 //! - `protocol`, `address` and `port` emit the rows of the table of primitives
-//!   (`specs/Primitives.antt`); `group` emits members of a list, which are looked for together; the
-//!   numbers of hosts or ports are `intervals`. `value` emits any other value, and `relation` a
-//!   comparison that may be a member.
+//!   (`specs/Primitives.antt`), with `wanted`, the tests of addresses and ports. `group` emits
+//!   members of a list, which are looked for together; the numbers of hosts or ports are
+//!   `intervals`. `value` emits any other value, and `relation` a comparison that may be a member.
 //! - `stack` is the stack that these use, and `laws` has laws of the table of primitives.
 #![tactic(auto)]
 
@@ -34,6 +34,7 @@ mod stack;
 mod value;
 mod waiting;
 mod walk;
+mod wanted;
 
 pub use cap_octet::Link;
 pub use program::generate;

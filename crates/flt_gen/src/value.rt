@@ -7,18 +7,18 @@
 
 ghost use Rattle.flt_gen.specs.inside.{Emits.EmitsFormula, Emitted.qualified_needed};
 
-use crate::address::{Hosts, partial_mask};
+use crate::address::partial_mask;
 use crate::code::{Code, Targets};
 use crate::intervals::Numbers;
-use crate::port::{PortTest, Ports};
+use crate::wanted::Wanted;
 use cap_octet::Link;
 use flt_ast::{CompleteQualifiers, Value};
 use flt_words::ValueType;
 use std::alloc::{AllocError, Allocator};
 
 impl<A: Allocator> Code<A> {
-    /// Emits a value with its qualifiers. What doesn't fit them was refused before, and isn't one
-    /// here if the table has no row for it.
+    /// Emits the test of one value, such as that of `tcp dst port 80`, by the table's row for its
+    /// qualifiers. A value that no row takes was refused before; here it is no.
     pub fn emit_value(
         &mut self,
         link: Link,
@@ -33,7 +33,7 @@ impl<A: Allocator> Code<A> {
         let none = Numbers::none();
         match (qualifiers.value_type, value) {
             (ValueType::Host, Value::Dotted(host, _)) => {
-                let wanted = Hosts::Net(direction, None, host.address);
+                let wanted = Wanted::Net(direction, None, host.address);
                 self.emit_hosts(link, protocol, wanted, &none, to)
             }
             (ValueType::Host, Value::Ip6(address, _)) => {
@@ -48,18 +48,16 @@ impl<A: Allocator> Code<A> {
             (ValueType::Net, value) => match value.ip4_net() {
                 None => Ok(to.no),
                 Some(net) => {
-                    let wanted = Hosts::Net(direction, partial_mask(net.mask), net.address);
+                    let wanted = Wanted::Net(direction, partial_mask(net.mask), net.address);
                     self.emit_hosts(link, protocol, wanted, &none, to)
                 }
             },
             (ValueType::Port, Value::Number(port, _)) => {
-                let wanted = PortTest::new(protocol, direction, Ports::One(port));
-                self.emit_ports(link, wanted, &none, to)
+                self.emit_ports(link, protocol, Wanted::Port(direction, port), &none, to)
             }
             (ValueType::PortRange, Value::Range { first, last }) => {
-                let ports = Ports::Between(first.min(last), first.max(last));
-                let wanted = PortTest::new(protocol, direction, ports);
-                self.emit_ports(link, wanted, &none, to)
+                let wanted = Wanted::Ports(direction, first.min(last), first.max(last));
+                self.emit_ports(link, protocol, wanted, &none, to)
             }
             (ValueType::Proto, Value::Number(number, _)) => {
                 self.emit_proto(link, protocol, number, to)

@@ -1,4 +1,4 @@
--- The names that most proofs here cite, passed on from one place. Declares nothing.
+-- Re-exports the names that most proofs of this crate cite; declares nothing.
 pub use Rattle.std.proofs.Common.{◌≡◌, ℕ, suc, ◌-◌, ◌<◌, ◌≤◌, List, ◌∷◌, length, drop, refl, ap, ◌∙◌, arith, Some, None, Bool, true, false, zero, inl, [], sym}
 pub use Rattle.std.proofs.Common.{subst, Option, nat_le, zero-le, ◌≢◌, ◌+◌, ◌⊎◌, inr, ⊎_elim, lit≤, sum_by, fold, max, ◌||◌, not, ◌&&◌, is_some, unwrap_or, map}
 pub use Rattle.std.proofs.Common.{take, get_or, one-add, reverse, ◌↔◌, IsTrue, cond, nat_lt, if◌then◌else◌, ◌++◌, ◌*◌, below_more, count_by}

@@ -22,7 +22,7 @@ tight_operand frame.Negate fs h = omega arith
 tight_operand (frame.Apply o) fs h = omega arith
 tight_operand _ fs h = absurd (omega arith)
 
--- after a frame that the next token makes take its operand, no value goes on
+-- after a frame that the next token makes took its operand, no value continues it
 no_prefix : (x : Operand) (ts : List TokenKind) (f : Frame) (fs : List Frame) (d : List Node) → precedence f ≤ next_precedence ts
     → after_operand ts (f ∷ fs) x d ≡ next_of ts (f ∷ fs) x d
 no_prefix (operand.Plain n) (token.Operator Divide ∷ token.Number m ∷ ts) f fs d h = rw (le_false 1 (operand_precedence (f ∷ fs)) (tight_operand f fs h)) refl

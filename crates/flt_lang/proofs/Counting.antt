@@ -78,7 +78,7 @@ arithmetic_nodes_whole items whole = ap (λ l. sum_by node_size l) (sym whole) �
 moved_to : (h m i n : ℕ) (rest : List Node) → h ≡ i → m ≡ n → fold climb (h, m) rest ≡ fold climb (i, n) rest
 moved_to h m i n rest e f = cc
 
--- a number on h others goes up to h + 1 and its words, and leaves h + 1
+-- a number on top of h others reaches the height h + 1 plus its words, and then h + 1
 climb_number : (a : NumberTree) (h m : ℕ) (rest : List Node) → fold climb (h, m) (number_nodes a rest) ≡ fold climb (h + 1, max m (h + 1 + number_words a)) rest
 climb_number (load p s a) h m rest = climb_number a h m (node.Load p s ∷ rest) ∙ moved_to _ _ _ _ rest refl (omega arith)
 climb_number (negated a) h m rest = climb_number a h m (node.Negate ∷ rest) ∙ moved_to _ _ _ _ rest refl (omega arith)
@@ -87,7 +87,7 @@ climb_number (applied o a b) h m rest =
     (omega arith)
 climb_number _ h m rest = moved_to _ _ _ _ rest refl (omega arith)
 
--- a truth goes up to one more than its words, and leaves nothing
+-- a truth reaches one more than its words, and then nothing remains
 climb_truth : (a : TruthTree) (m : ℕ) (rest : List Node) → 1 ≤ m → fold climb (0, m) (truth_nodes a rest) ≡ fold climb (0, max m (1 + truth_words a)) rest
 climb_truth (compared c a b) m rest some =
     climb_number a 0 m (number_nodes b (node.Compare c ∷ rest)) ∙ climb_number b (0 + 1) _ (node.Compare c ∷ rest)
@@ -129,6 +129,6 @@ expr_zero : (e : Expression) → some_zero_divisor false (expr_nodes e) ≡ some
 expr_zero empty = refl
 expr_zero (truth a) = truth_zero a false [] ∙ or-false (any_primitive divides_by_zero a)
 
--- of a whole tree
+-- the same for a complete tree
 pub zero_whole : (items : List Node) → IsTree items → some_zero_divisor false items ≡ some_primitive divides_by_zero (tree_of items)
 zero_whole items whole = ap (λ l. some_zero_divisor false l) (sym whole) ∙ expr_zero (tree_of items)

@@ -18,7 +18,7 @@ is_primitive (denied a) = false
 is_primitive (joined j a b) = false
 is_primitive _ = true
 
--- a test of nodes and one of primitives say the same
+-- a test of nodes and one of primitives agree
 record Agrees (g : Node → Bool) (f : TruthTree → Bool) : Type 0 where
   primitives : (a : TruthTree) (rest : List Node) → is_primitive a ≡ true → list_any g (truth_nodes a rest) ≡ (f a || list_any g rest)
   denials : g node.Not ≡ false
@@ -128,7 +128,7 @@ expr_completed : (e : Expression) → map completed_node (expr_nodes (expr_inher
 expr_completed empty = refl
 expr_completed (truth a) = truth_completed (with_inherited only_host a) []
 
--- of a whole tree
+-- the same for a complete tree
 pub inherited_whole : (items news : List Node) → IsTree items → news ≡ inherited_nodes only_host items → news ≡ expr_nodes (expr_inherited (tree_of items))
 inherited_whole items news whole same = same ∙ ap (inherited_nodes only_host) (sym whole) ∙ expr_is_inherited (tree_of items)
 
@@ -144,8 +144,7 @@ nodes_are_tree e news same = rw same (ap expr_nodes (tree_back e))
 pub tree_is : (e : Expression) (news : List Node) → news ≡ expr_nodes e → tree_of news ≡ e
 tree_is e news same = ap tree_of same ∙ tree_back e
 
--- the faults of a filled tree
--- what holds of no primitive holds of none of the completed tree
+-- what is true of no primitive of a tree is true of none of the completed tree
 completed_keeps : (f : TruthTree → Bool) → ((q : Qualifiers) (v : Value) → f (valued q v) ≡ false → f (qualified (completed_qualifiers q) v) ≡ false)
     → (a : TruthTree) → any_primitive f a ≡ false → any_primitive f (complete a) ≡ false
 completed_keeps f keeps (valued q v) h = keeps q v h
@@ -167,7 +166,7 @@ undirected true t (Some d) h = cc
 undirected false true (Some d) h = cc
 undirected false false (Some d) h = refl
 
--- no bare value is left
+-- no bare value remains
 none_bare : (q : Qualifiers) (a : TruthTree) → any_primitive is_unfilled (complete (with_inherited q a)) ≡ false
 none_bare q (denied a) = none_bare q a
 none_bare q (joined j a b) = or_from _ _ (none_bare q a) (none_bare (latest q a) b)

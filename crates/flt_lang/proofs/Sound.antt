@@ -25,14 +25,14 @@ abbrev pub SoFar : Option Operand → List Frame → List Node → List TokenKin
 SoFar None fs d start here = Stacked fs d start here
 SoFar (Some x) fs d start here = Following 1 fs x d start here
 
--- it holds after a step
+-- it is still true after a step
 abbrev pub After : Begun → List TokenKind → List TokenKind → Type 0
 After r start ts = SoFar r.1.1 r.1.0 r.1.2 start (drop r.0 ts)
 
 pub begun : (ts start : List TokenKind) (r s : Begun) → After r start ts → ◌≡◌ {A = Option Begun} (Some r) (Some s) → After s start ts
 begun ts start r s b same = carried (λ r. After r start ts) b same
 
--- a whole truth
+-- a complete truth
 truth_begun : (t : TokenKind) (ts : List TokenKind) (fs : List Frame) (d : List Node) (start : List TokenKind) (r : Begun) (k : ℕ) (n : Node)
     (a : TruthTree) → Stacked fs d start (t ∷ ts) → Truth 0 (t ∷ ts) a (drop k ts) → n ∷ d ≡ truth_onto a d → ◌≡◌ {A = Option Begun}
     (Some (k, (fs, Some operand.Truth, n ∷ d))) (Some r) → After r start ts

@@ -16,7 +16,7 @@ pub some_first : {A B : Type 0} (o : Option A) (f : A → Option B) (z : B) → 
 some_first None f z e = cc
 some_first (Some w) f z e = (w, refl, e)
 
--- a test whose other branch fails holds
+-- a test is true if its other branch fails
 pub some_then : {A : Type 0} (b : Bool) (o : Option A) (z : A) → (if b then o else None) ≡ Some z → (b ≡ true) × (o ≡ Some z)
 some_then true o z e = (refl, e)
 some_then false o z e = cc

@@ -45,7 +45,7 @@ pub run_begins_on : (ts : List Token) (t : Token) (fs : List Frame) (d : List No
 run_begins_on [] t fs d k s h e = absurd (omega arith)
 run_begins_on (u ∷ ts) t fs d k s h e = rw (one-add, ← drop-map) (run_begins (kinds_of (u ∷ ts)) fs d k s (omega arith) e)
 
--- a step reads what is left as it reads what the step leaves
+-- reading the remaining tokens is reading those after the step
 pub runs_on : (ts : List Token) (at used : ℕ) (fs gs : List Frame) (x y : Option Operand) (d e : List Node) (all : Option (List Node))
     → run (kinds_of (take (length ts - at) (drop at ts))) 0 fs x d ≡ run (kinds_of (drop used (take (length ts - at) (drop at ts)))) 0 gs y e
     → run (kinds_of (drop at ts)) 0 fs x d ≡ all → run (kinds_of (drop (at + used) ts)) 0 gs y e ≡ all
@@ -128,7 +128,7 @@ not_too_deep (Ok a) h e = cc
 not_too_deep (Err f) (inl h) e = cc
 not_too_deep (Err f) (inr h) e = cc
 
--- the whole is the operand that is left, where no frame is
+-- without a frame, the whole expression is the operand
 pub finish_reads : (x : Option Operand) (read y : Operand) (fs gs : List Frame) (d e f : List Node) → x ≡ Some read → reduce 8 fs read d ≡ Some
     (gs, y, e) → gs ≡ [] → f ≡ e → finish x fs d ≡ as_truth y f
 finish_reads x read y fs gs d e f is reduced gone kept = rw (is, reduced, gone, kept) refl

@@ -13,7 +13,7 @@ use Rattle.flt_ast.specs.declared.value.Value.TheVariants as value
 use Rattle.flt_ast.specs.declared.node.Node.TheVariants as node
 use Rattle.flt_lang.specs.declared.frame.Operand.TheVariants as operand
 
--- rest is what is left of ts
+-- `rest` is what follows in ts
 pub record IsSuffix (ts rest : List TokenKind) : Type 0 where
   pub used : ℕ
   pub drops : drop used ts ≡ rest
@@ -58,7 +58,7 @@ qualifiers_suffix (qualifiers p d k) = joined_suffix _ _ _ (joined_suffix _ _ _ 
 pub whole_suffix : {ts mid rest : List TokenKind} {q : Qualifiers} {v : Value} → ReadsQualifiers ts q mid → ReadsValue mid v rest → IsSuffix ts rest
 whole_suffix qs v = joined_suffix _ _ _ (qualifiers_suffix qs) (value_suffix v)
 
--- a type, a direction or a protocol stands first, the last with neither a bracket nor a cast after
+-- a type, a direction or a protocol comes first, the last with neither a bracket nor a cast after
 -- it
 abbrev is_front : List TokenKind → Bool
 is_front (token.Protocol p ∷ ts) = ends_protocol ts
@@ -165,7 +165,7 @@ side_some Destination _ = refl
 pub side_written : (s : Side) (ts : List TokenKind) → is_written (qualifiers_of (token.Side s ∷ ts)).0 ≡ true
 side_written s ts = ap (λ b. b || is_some (type_of (direction_of (token.Side s ∷ ts)).1).0) (side_some s ts)
 
--- what is left of a qualified value
+-- the tokens after a qualified value
 pub left_after : (t : TokenKind) (ts mid rest : List TokenKind) (q : Qualifiers) (v : Value) → ReadsQualifiers (t ∷ ts) q mid → ReadsValue mid v rest
     → drop (length (t ∷ ts) - length rest - 1) ts ≡ rest
 left_after t ts mid rest q v qs vs =
@@ -196,7 +196,7 @@ value_runs {ts = ts} {rest = rest} {v = v} vs is fs d h =
     ∙ ap (λ o. with_frames fs o) found in
     runs_past (value_suffix vs) (value_some vs) fs d _ _ begun
 
--- no mask stands here
+-- there is no mask here
 abbrev pub IsNoMask : List TokenKind → Type 0
 IsNoMask (token.Mask ∷ ts) = ⊥
 IsNoMask _ = Unit {0}
@@ -211,7 +211,7 @@ pub plain_runs : (n : ℕ) (rest : List TokenKind) (fs : List Frame) (d : List N
 plain_runs n (token.Mask ∷ ts) fs d h = absurd h
 plain_runs n _ fs d h = refl
 
--- what is left of a value
+-- the tokens after a value
 pub value_left : (t : TokenKind) (ts rest : List TokenKind) (v : Value) → ReadsValue (t ∷ ts) v rest → drop (length (t ∷ ts) - length rest - 1) ts ≡ rest
 value_left t ts rest v vs =
     let suffix = value_suffix vs in

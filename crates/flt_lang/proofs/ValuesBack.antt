@@ -7,7 +7,7 @@ use Rattle.flt_words.specs.declared.token.Operator.TheVariants as operator
 use Rattle.flt_words.specs.declared.token.TokenKind.TheVariants as token
 use Rattle.flt_ast.specs.declared.qualifiers.Direction.TheVariants as direction
 
--- what holds of the value of an option holds of that of an equal one
+-- what is true of the value of an option is true of that of an equal one
 pub carried : {A : Type 0} (P : A → Type 0) {r s : A} → P r → ◌≡◌ {A = Option A} (Some r) (Some s) → P s
 carried P {r} {s} holds same = let one : r ≡ s = cc in subst P one holds
 
@@ -24,7 +24,7 @@ abbrev pub ends_protocol : List TokenKind → Bool
 ends_protocol (token.Side s ∷ ts) = true
 ends_protocol ts = ends_direction ts
 
--- where a value begins stands none of what may come before it
+-- a value begins with none of the tokens that may precede it
 type_none : (ts : List TokenKind) → starts_value ts ≡ true → type_of ts ≡ (None, ts)
 type_none (token.ValueType k ∷ ts) h = cc
 type_none _ h = refl

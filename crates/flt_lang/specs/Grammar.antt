@@ -1,4 +1,4 @@
--- The grammar: the tree of the tokens at the start, and the tokens after it.
+-- The grammar: which tree the tokens begin with, and which tokens follow it.
 use Rattle.std.specs.Prelude.{◌≡◌, Bool, true, false, ℕ, suc, List, [], ◌∷◌, map, Some, None}
 use Rattle.flt_words.specs.declared.token.{Cast.Cast, Comparison.Comparison}
 use Rattle.flt_words.specs.declared.token.{Join.Join, Operator.Operator, Protocol.Protocol}
@@ -24,27 +24,27 @@ level Operator.Or = 3
 level Operator.And = 3
 level Operator.ExclusiveOr = 3
 
--- the protocols that may stand alone
+-- the protocols that may be a primitive by themselves
 abbrev pub stands_alone : Protocol → Bool
 stands_alone Protocol.Ether = false
 stands_alone _ = true
 
--- the protocols that may stand before a bracket
+-- the protocols that may precede a bracket
 abbrev pub is_accessor : Protocol → Bool
 is_accessor Protocol.Icmp6 = false
 is_accessor _ = true
 
--- the protocols that may stand before `broadcast` or `multicast`
+-- the protocols that may precede `broadcast` or `multicast`
 abbrev pub has_casts : Protocol → Bool
 has_casts Protocol.Ether = true
 has_casts Protocol.Ip = true
 has_casts Protocol.Ip6 = true
 has_casts _ = false
 
--- the tokens begin with this number, of a level, and these are left after it. Level 0 is a literal,
--- `len`, a name, an accessor, a number in parentheses, or one of level 0 after `-`; level 1 is also
--- a product, a quotient or a remainder, level 2 a sum or a difference, level 3 a shift, level 4 any
--- number. A chain associates to the left
+-- The tokens begin with this number, of a level, and these follow it. Level 0 is a literal, `len`,
+-- a name, an accessor, a number in parentheses, or one of level 0 after `-`; level 1 is also a
+-- product, a quotient or a remainder, level 2 a sum or a difference, level 3 a shift, level 4 any
+-- number. A chain associates to the left.
 pub data Number : ℕ → List TokenKind → NumberTree → List TokenKind → Type 0 where
   of_literal : {n : ℕ} {rest : List TokenKind}
       → Number 0 (TokenKind.Number n ∷ rest) (literal n) rest
@@ -67,8 +67,8 @@ pub data Number : ℕ → List TokenKind → NumberTree → List TokenKind → T
       → Number (suc k) ts a (TokenKind.Operator o ∷ mid) → level o ≡ k → Number k mid b rest
       → Number (suc k) ts (applied o a b) rest
 
--- the tokens begin with this truth, of a level, and these are left after it. Level 0 is a term,
--- level 1 a chain of one term or more, which associates to the left
+-- The tokens begin with this truth, of a level, and these follow it. Level 0 is a term, level 1 a
+-- chain of one or more terms, which associates to the left.
 pub data Truth : ℕ → List TokenKind → TruthTree → List TokenKind → Type 0 where
   of_check : {p : Protocol} {rest : List TokenKind} → stands_alone p ≡ true
       → Truth 0 (TokenKind.Protocol p ∷ rest) (check p) rest
@@ -93,7 +93,7 @@ pub data Truth : ℕ → List TokenKind → TruthTree → List TokenKind → Typ
   terms : {ts mid rest : List TokenKind} {a b : TruthTree} {j : Join}
       → Truth 1 ts a (TokenKind.Join j ∷ mid) → Truth 0 mid b rest → Truth 1 ts (joined j a b) rest
 
--- all of the tokens are read as this tree; without tokens it is the empty one
+-- all tokens are this tree; without tokens it is the empty one
 pub data IsReadAs : List TokenKind → Expression → Type 0 where
   no_tokens : IsReadAs [] empty
   all_tokens : {ts : List TokenKind} {a : TruthTree} → Truth 1 ts a [] → IsReadAs ts (truth a)

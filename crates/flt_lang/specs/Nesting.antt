@@ -5,19 +5,19 @@ use Rattle.std.specs.Prelude.{drop, count_by}
 use Rattle.flt_words.specs.declared.token.Operator.TheVariants.{Subtract}
 use Rattle.flt_words.specs.declared.token.{Token.Token, TokenKind.TokenKind}
 
--- `(` and `[`
+-- whether a token is `(` or `[`
 abbrev pub is_opening_kind : TokenKind → Bool
 is_opening_kind TokenKind.Open = true
 is_opening_kind TokenKind.OpenBracket = true
 is_opening_kind _ = false
 
--- `)` and `]`
+-- whether a token is `)` or `]`
 abbrev pub is_closing_kind : TokenKind → Bool
 is_closing_kind TokenKind.Close = true
 is_closing_kind TokenKind.CloseBracket = true
 is_closing_kind _ = false
 
--- `not`, and `-`, which may be a sign
+-- whether a token is `not`, or `-`, which may be a sign
 abbrev pub is_prefix_operator_kind : TokenKind → Bool
 is_prefix_operator_kind TokenKind.Not = true
 is_prefix_operator_kind (TokenKind.Operator Subtract) = true
@@ -31,7 +31,7 @@ is_opening t = is_opening_kind t.kind
 unfoldable pub is_closing : Token → Bool
 is_closing t = is_closing_kind t.kind
 
--- the token is an operator that may stand before its operand
+-- the token is an operator that may precede its operand
 unfoldable pub is_prefix_operator : Token → Bool
 is_prefix_operator t = is_prefix_operator_kind t.kind
 
@@ -48,6 +48,6 @@ BeginsWithLongPrefix ts = (101 ≤ length ts) × (list_all is_prefix_operator (t
 abbrev pub HasLongPrefix : List Token → Type 0
 HasLongPrefix ts = (i : ℕ) × BeginsWithLongPrefix (drop i ts)
 
--- what is refused as nested too deep
+-- the tokens are refused as nested too deep
 abbrev pub IsTooDeep : List Token → Type 0
 IsTooDeep ts = HasDeepFront ts ⊎ HasLongPrefix ts

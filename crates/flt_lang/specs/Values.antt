@@ -8,13 +8,13 @@ use Rattle.flt_words.specs.declared.token.{TokenKind.TokenKind, ValueType.ValueT
 use Rattle.flt_ast.specs.declared.qualifiers.{Direction.Direction, Qualifiers.Qualifiers}
 use Rattle.flt_ast.specs.declared.value.{NetMask.NetMask, Value.Value}
 
--- the tokens begin with this protocol, or none is read, and these are left then
+-- the tokens begin with this protocol, or none is read, and these follow
 pub data ReadsProtocol : List TokenKind → Option Protocol → List TokenKind → Type 0 where
   no_protocol : {ts : List TokenKind} → ReadsProtocol ts None ts
   protocol : {p : Protocol} {ts : List TokenKind}
       → ReadsProtocol (TokenKind.Protocol p ∷ ts) (Some p) ts
 
--- the tokens begin with this direction, or none is read, and these are left then
+-- the tokens begin with this direction, or none is read, and these follow
 pub data ReadsDirection : List TokenKind → Option Direction → List TokenKind → Type 0 where
   no_direction : {ts : List TokenKind} → ReadsDirection ts None ts
   one_side : {s : Side} {ts : List TokenKind}
@@ -26,24 +26,24 @@ pub data ReadsDirection : List TokenKind → Option Direction → List TokenKind
       → ReadsDirection (TokenKind.Side Destination ∷ TokenKind.Join j ∷ TokenKind.Side Source ∷ ts)
       (Some (Direction.Both j)) ts
 
--- the tokens begin with this type, or none is read, and these are left then
+-- the tokens begin with this type, or none is read, and these follow
 pub data ReadsType : List TokenKind → Option ValueType → List TokenKind → Type 0 where
   no_type : {ts : List TokenKind} → ReadsType ts None ts
   of_type : {k : ValueType} {ts : List TokenKind}
       → ReadsType (TokenKind.ValueType k ∷ ts) (Some k) ts
 
--- the tokens begin with these qualifiers, each written or not, and these are left after them
+-- the tokens begin with these qualifiers, each given or not, and these follow them
 pub data ReadsQualifiers : List TokenKind → Qualifiers → List TokenKind → Type 0 where
   qualifiers : {ts mid later rest : List TokenKind}
       {p : Option Protocol} {d : Option Direction} {k : Option ValueType}
       → ReadsProtocol ts p mid → ReadsDirection mid d later → ReadsType later k rest
       → ReadsQualifiers ts (record { protocol = p; direction = d; value_type = k }) rest
 
--- something is written before the value
+-- whether any qualifier is given before the value
 abbrev pub is_written : Qualifiers → Bool
 is_written q = is_some q.protocol || is_some q.direction || is_some q.value_type
 
--- the tokens begin with this mask, or none is read, and these are left then
+-- the tokens begin with this mask, or none is read, and these follow
 pub data ReadsMask : List TokenKind → NetMask → List TokenKind → Type 0 where
   no_mask : {ts : List TokenKind} → ReadsMask ts NetMask.Unwritten ts
   prefix : {m : ℕ} {ts : List TokenKind}
@@ -52,7 +52,7 @@ pub data ReadsMask : List TokenKind → NetMask → List TokenKind → Type 0 wh
       → ReadsMask (TokenKind.Mask ∷ TokenKind.Dotted a p ∷ ts)
       (NetMask.Mask (record { address = a; parts = p })) ts
 
--- the tokens begin with this value, and these are left after it
+-- the tokens begin with this value, and these follow it
 pub data ReadsValue : List TokenKind → Value → List TokenKind → Type 0 where
   number : {n : ℕ} {ts rest : List TokenKind} {m : NetMask} → ReadsMask ts m rest
       → ReadsValue (TokenKind.Number n ∷ ts) (Value.Number n m) rest

@@ -157,11 +157,6 @@ stops_free k c spot best free p n s a holds x e =
 
 pub ruleset stops = (stops_same, stops_free, take_rest)
 
--- one more walk, from where the one before it ended
-pub goes_further : (k : Known) (c : List Insn) (from place next : ℕ) → GoesOn k c from place → LeadsTo k c (record { place = place; held = k.held })
-    place next → GoesOn k c from next
-goes_further k c from place next so_far leads p n s h = leads p n s s.accumulator h h.a refl ∙ so_far p n s h
-
 -- a test with other targets inside the code
 test_sound : (t : Test) (o : Operand) (i : Insn) (a b len : ℕ) → operation_of i.code ≡ Some (JumpIf t o) → (i.jt < len → a < len)
     → (i.jf < len → b < len) → fault_of i len ≡ None → fault_of (record i { jt = a; jf = b }) len ≡ None

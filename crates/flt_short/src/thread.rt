@@ -2,9 +2,10 @@
 //! where that leads.
 //!
 //! A walk starts at each target of a test, with the state (`Known`) after that outcome. It passes
-//! only instructions whose effect follows from this state. The new target is the last place of the
-//! walk at which a run may continue instead of at the old target. If the walk ends at a test, it
-//! goes on after both of its outcomes.
+//! instructions whose effect follows from this state, and ends at the next place at which a run may
+//! continue instead of at its start. At a test whose outcome isn't known it goes on after both
+//! outcomes; if both lead to the same place, it ends there. The next walk starts at its end; the end
+//! of the last one is the new target.
 //!
 //! In a walk a place is an index of the code that follows the test. Clauses state that what is
 //! known stays true and that a run has the same answer. The contract of `threaded` follows.
@@ -152,10 +153,10 @@ fn place_or_best(known: &Known, code: &[Wide], spot: Spot, best: usize) -> usize
     if is_free(&code[place..]) { place } else { best }
 }
 
-/// The last place found at which a run may continue instead of at the start of a walk that is at
-/// `spot`; `best` if it finds none. The walk goes on to the first instruction that it can't pass,
-/// past at most `fuel` instructions. If that is a test, it goes on after both outcomes, unless it
-/// did so before (`forks`): if both lead to the same place, that is the result.
+/// A place at which a run may continue instead of at the start of a walk that is at `spot`; `best`
+/// if the walk finds none. It passes at most `fuel` instructions. If it may fork (`forks`), it ends
+/// at the first such place; at a test that it can't pass it goes on after both outcomes. It may not
+/// fork then, and finds the last such place of each: if that is the same, it is the result.
 fn walk(fuel: usize, known: &Known, code: &[Wide], spot: Spot, best: usize, forks: bool) -> usize
     ensures { LeadsTo known.now code.now spot best result }
 {

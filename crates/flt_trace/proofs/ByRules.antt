@@ -101,7 +101,7 @@ same_or_broken prog p n (suc t) place count s = found (λ k s'. same_or_broken p
 end_answers : (m : Progress) (a c : ℕ) → run_end m ≡ Some (a, c) → m ≡ Answered a c
 end_answers m a c e = grind arith
 
--- an answer that a run gives is the machine's
+-- the result that a run returns is the machine's
 pub answered : (prog : List Insn) (p : List ℕ) (n a c : ℕ) → run_by_rules prog p n ≡ Some (a, c) → machine prog p n (length prog) ≡ Answered a c
 answered prog p n a c e = by (same_or_broken prog p n (length prog) 0 0 start)
   where

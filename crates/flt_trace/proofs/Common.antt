@@ -1,4 +1,4 @@
--- The names that most proofs here cite, passed on from one place. Declares nothing.
+-- Re-exports the names that most proofs of this crate cite; declares nothing.
 pub use Rattle.std.proofs.Common.{◌≡◌, ℕ, zero, suc, ◌+◌, ◌-◌, ◌<◌, ◌≤◌, List, length, true, Option, Some, None, refl, sym, ap, ◌∙◌, subst, arith, slice_get}
 pub use Rattle.std.proofs.Common.{IsSomeAnd, ◌/◌, ◌%◌, ◌^◌, ◌∷◌, false, rules, tests, drop, ◌==◌, if◌then◌else◌, slice_set, ◌≢◌, [], length-set, below_more}
 pub use Rattle.std.proofs.lemmas.List.{drop-set}

@@ -37,7 +37,7 @@ pub record Written (prog : List Insn) (p : List ℕ) (n : ℕ) (old now : List S
   pub each : (t : ℕ) → t < count → t < length old → IsSomeAnd (slice_get now t) (IsAfter prog p n t)
   pub others : (t : ℕ) → count ≤ t → slice_get now t ≡ slice_get old t
 
--- a run is before the instruction at a place, in a state, after a count of them
+-- a run is before the instruction at an index, in a state, after a count of them
 pub record Standing (prog : List Insn) (p : List ℕ) (n place : ℕ) (s : State) (count : ℕ) : Type 0 where
   pub counted : count ≤ place
   pub inside : place < length prog

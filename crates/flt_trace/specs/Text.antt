@@ -13,12 +13,12 @@ use Rattle.flt_bpf.specs.declared.operation.Test.{Test}
 use Rattle.flt_bpf.specs.declared.operation.Test.TheVariants.{Equal, Greater, AtLeast, AnyBit}
 use Rattle.flt_bpf.specs.declared.operation.Width.{Width, TheVariants.Word, TheVariants.HalfWord, TheVariants.Byte}
 
--- a number of 32 bits as C's %d prints it: from 2^31 on it is the number less 2^32, with a minus
--- sign (45)
+-- a 32-bit number as C's %d prints it: from 2^31 on it is the number less 2^32, with a minus sign
+-- (45)
 unfoldable pub signed_number : ℕ → List ℕ
 signed_number k = if nat_lt k (2 ^ 31) then decimal k else 45 ∷ decimal (2 ^ 32 - k)
 
--- a number as C's %x prints it: in small letters, without leading zeros
+-- a number as C's %x prints it: in lower case, without leading zeros
 abbrev pub hex : ℕ → List ℕ
 hex k = digits 16 false k
 
@@ -66,7 +66,7 @@ operation_name ReturnAccumulator = codes "ret"
 operation_name CopyToIndex = codes "tax"
 operation_name CopyToAccumulator = codes "txa"
 
--- the constant of an operation of arithmetic: for and, or and exclusive or in hexadecimal, else in
+-- the constant of an arithmetic operation: in hexadecimal for and, or and exclusive or, else in
 -- decimal
 abbrev pub constant_text : AluOperation → ℕ → List ℕ
 constant_text Or k = codes "#0x" ++ hex k
@@ -74,8 +74,8 @@ constant_text And k = codes "#0x" ++ hex k
 constant_text ExclusiveOr k = codes "#0x" ++ hex k
 constant_text _ k = codes "#" ++ signed_number k
 
--- what an operation with the number k works on, if it is at a place in a program: of `ja` the
--- place of its target; for negations, copies and the return of A nothing
+-- the operand of an operation with the number k at an index in a program: for `ja` the index of its
+-- target; empty for negations, copies and the return of A
 abbrev pub operand_text : Operation → ℕ → ℕ → List ℕ
 operand_text (LoadAbsolute width) k place = codes "[" ++ (signed_number k ++ codes "]")
 operand_text (LoadIndirect width) k place = codes "[x + " ++ (signed_number k ++ codes "]")
@@ -95,20 +95,20 @@ operand_text ReturnAccumulator k place = []
 operand_text CopyToIndex k place = []
 operand_text CopyToAccumulator k place = []
 
--- a text with blanks (32) after it, up to a width
+-- a text padded with blanks (32) up to a width
 abbrev pub filled_text : ℕ → List ℕ → List ℕ
 filled_text width text = text ++ replicate (width - length text) 32
 
--- a number in decimal, with zeros (48) before it up to three digits
+-- a number in decimal, padded with zeros (48) up to three digits
 abbrev pub three_digits : ℕ → List ℕ
 three_digits n = replicate (3 - length (decimal n)) 48 ++ decimal n
 
--- what the line of an instruction begins with: its place and its name, in a column of 8 bytes
+-- the start of an instruction's line: its index and its name, in a column of 8 bytes
 abbrev pub front_text : ℕ → List ℕ → List ℕ
 front_text place name =
     codes "(" ++ (three_digits place ++ (codes ") " ++ (filled_text 8 name ++ codes " ")))
 
--- what a conditional jump works on, in a column of 16 bytes, and the places of its two targets
+-- the operand of a conditional jump, in a column of 16 bytes, and the indices of its two targets
 abbrev pub branch_text : List ℕ → ℕ → ℕ → List ℕ
 branch_text operand target other =
     filled_text 16 operand ++ (codes " jt " ++ (decimal target ++ (codes "\tjf " ++ decimal other)))
@@ -123,6 +123,6 @@ operation_text (Some (JumpIf test operand)) i place =
 operation_text (Some operation) i place =
     front_text place (operation_name operation) ++ operand_text operation i.k place
 
--- the line of an instruction at a place in a program
+-- the line of an instruction at an index in a program
 unfoldable pub insn_text : Insn → ℕ → List ℕ
 insn_text i place = operation_text (operation_of i.code) i place

@@ -9,12 +9,12 @@ use Rattle.flt_trace.specs.declared.walk.Step.{Step}
 abbrev pub step_state : Step → State
 step_state s = record { accumulator = s.accumulator; index = s.index; memory = s.memory }
 
--- after t instructions the run of a program is at the place of a step, in the state that it shows
+-- after t instructions the run of a program is at the index and in the state that a step shows
 abbrev pub IsAfter : List Insn → List ℕ → ℕ → ℕ → Step → Type 0
 IsAfter prog p n t s = machine prog p n t ≡ Stands s.place (step_state s)
 
--- a run that returns an answer after a count of instructions, as a caller's array shows it: before
--- each instruction as far as there is room, from the first one on, and nothing else is written
+-- a run that returns after a count of instructions, as a caller's array shows it: the steps before
+-- each instruction, from the first on, as far as there is room, and nothing else
 pub record Traces (prog : List Insn) (p : List ℕ) (n : ℕ) (old new : List Step)
     (answer count : ℕ) : Type 0 where
   pub answers : machine prog p n (length prog) ≡ Answered answer count

@@ -1,7 +1,9 @@
-//! Runs that no program counts, step by step too, and instructions as `tcpdump -d` prints them.
+//! Runs of instructions that aren't a `Program`, so that nothing counts them, and instructions as
+//! `tcpdump -d` prints them.
 //!
-//! Only the library (`capkit_c`) calls it. [`run_insns`] runs a valid program, and [`trace`] writes
-//! the [`Step`]s of such a run. [`insn_text`] makes the line of an instruction.
+//! The library (`capkit_c`) calls it; the program doesn't. [`run_insns`] runs a valid program,
+//! [`run_any`] any instructions, and [`trace`] writes the [`Step`]s of a run. [`insn_text`] makes
+//! the line of an instruction.
 //!
 //! `walk` runs instructions; `text` makes the line of an instruction, with names and operands of
 //! `operand`, in a buffer of `line`. Nothing here takes memory.

@@ -10,7 +10,7 @@ ghost use Rattle.flt_trace.specs.{RunByRules.run_by_rules, Trace.Traces, inside.
 
 use flt_bpf::{Flow, Insn, Position, State, WORDS, advance, execute, insn_fault};
 
-/// The place of a run before one instruction, and its registers.
+/// The state of a run before one instruction.
 #[repr(C)]
 #[derive(Clone, Copy)]
 pub struct Step {
@@ -63,8 +63,8 @@ pub fn trace(insns: &[Insn], packet: &[u8], len: u32, steps: &mut [Step]) -> (u3
 }
 
 /// The answer of the instructions of a valid program, on a packet of original length `len`, and the
-/// count of those that the run met, the last one included. Takes no memory. No reach is kept of
-/// instructions that aren't a `Program`, so each load is tested.
+/// count of those that the run met, the last one included. Allocates nothing. Only a `Program`
+/// knows how far its loads reach, so each load is tested.
 #[inline(always)]
 #[tactic(auto, using(flt_bpf::proofs::Checking::parts))]
 pub fn run_insns(insns: &[Insn], packet: &[u8], len: u32) -> (u32, u32)

@@ -64,7 +64,7 @@ pub groups_are_parts : {form : Group} {text : List ℕ} {groups : List (List ℕ
     → groups ≡ slice_split (λ b. b == separator_of form) text
 groups_are_parts {form} {text} {groups} are some = parts_are form text groups are.joined are.each some
 
--- the answer at digits of which few are read
+-- the result for digits few of which are read
 pub small_answer : (digits : List ℕ) (most : ℕ) (r : Result ℕ WordFault) → most ≤ 4 → length digits ≤ most → FindsMeaning (WritesNumber 16 digits)
     is_word_sized r
     → MatchOption (result_ok r) (IsNumeral 16 digits × (length digits ≤ most) → ⊥) (λ n. IsNumeral 16 digits × (length digits ≤ most)
@@ -132,7 +132,7 @@ pub base_fits : (form : Group) (count : ℕ) → count < 8 → base_of form ^ (c
 base_fits group.Quad count h = pow-le-pow_right (lit< tt) {j = 8} (omega arith)
 base_fits _ count h = let most : 256 ^ (count + 1) ≤ 256 ^ 8 = pow-le-pow_right (lit< tt) {j = 8} (omega arith) in omega arith
 
--- what reading one more part leaves
+-- the state after one more part is read
 pub value_pushed : (form : Group) (groups : List (List ℕ)) (g : List ℕ) (value digit : ℕ) → value ≡ number_from_digits (base_of form)
     (group_values form groups) → digit ≡ group_value form g
     → value * base_of form + digit ≡ number_from_digits (base_of form) (group_values form (groups ++ g ∷ []))
@@ -264,7 +264,7 @@ ends_below e =
     (ends_fit _ (length e.first) _ (length e.last) (groups_below group.Quad e.first e.are_first.each) (groups_below group.Quad e.last e.are_last.each)
     e.at_most_seven)
 
--- two to four parts are 32 bits, the last of them 0 if they are missing
+-- two to four parts are 32 bits; missing ones are 0
 pub dotted_below : {word : List ℕ} {a parts : ℕ} → IsDotted word a parts → (a < 2 ^ 32) × (a % 256 ^ (4 - parts) ≡ 0)
 dotted_below {word} {a} {parts} d =
     let front = number_from_digits 256 (group_values group.Octet d.groups) in

@@ -1,4 +1,4 @@
--- Results for a word, carried from one reading to another, and two results that are the same.
+-- Results for a word, carried from one reading to another; and equal results.
 use Rattle.flt_words.proofs.Common.{Bool, ◌&&◌, refl, Result, Ok, Err, WordFault, FindsMeaning, both_known}
 use Rattle.std.proofs.Math.Bool.{and-false}
 use Rattle.flt_words.specs.declared.number.WordFault.TheVariants as fault

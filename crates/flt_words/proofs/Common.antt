@@ -1,4 +1,4 @@
--- The names that most proofs here cite, passed on from one place. Declares nothing.
+-- Re-exports the names that most proofs of this crate cite; declares nothing.
 pub use Rattle.std.proofs.Common.{◌≡◌, ℕ, suc, zero, ◌+◌, ◌-◌, ◌*◌, ◌%◌, ◌^◌, ◌<◌, ◌≤◌, List, [], ◌∷◌, ◌++◌, length, refl, sym, ap, ◌∙◌, arith, pow-add}
 pub use Rattle.std.proofs.Common.{pow-suc, length-append, replicate, Some, lit<, Bool, true, false, ◌&&◌, Result, Ok, Err, MatchResult, IsOkAnd, get_or, take}
 pub use Rattle.std.proofs.Common.{◌==◌, cond, count_by, codes, Option, ◌≢◌, drop, ◌||◌, nat_lt, None, subst, MatchOption, add-one, drop-cons, lit≤, length-drop}

@@ -5,7 +5,7 @@ use Rattle.flt_words.proofs.Common.{take-append_seam, nat_tests, get_or-append-a
 use Rattle.flt_words.proofs.Common.{AreGroups, AreIp6Ends, IsGroup, IsIp6, IsWholeIp6, IsDoubleColon, shortened, whole, has, or_parts, Group}
 use Rattle.flt_words.proofs.AddressValues.{group_lacks, group_some}
 
--- each colon stands before another byte
+-- each colon precedes another byte
 abbrev Parted : List ℕ → Type 0
 Parted text = (k : ℕ) → get_or text k 0 ≡ 58 → (get_or text (suc k) 0 ≢ 58) × (suc k < length text)
 

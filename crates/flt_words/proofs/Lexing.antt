@@ -4,7 +4,7 @@ use Rattle.flt_words.proofs.Common.{◌==◌, ◌-◌, cond, count_by, nat_lt, R
 use Rattle.flt_words.proofs.Common.{count_by_more_no, sum_by-append, ExprFault, Token, TokenKind, is_blank, is_inside, IsRefused, IsToken, TokensFrom, before}
 use Rattle.flt_words.proofs.Common.{at_end, blank, refused, token}
 
--- an answer after tokens
+-- a result after tokens
 abbrev pub after : List Token → Result (List Token) ExprFault → Result (List Token) ExprFault
 after [] answer = answer
 after (t ∷ tokens) answer = before t (after tokens answer)
@@ -21,7 +21,7 @@ pub after_err : (tokens : List Token) (refusal : ExprFault) → after tokens (Er
 after_err [] refusal = refl
 after_err (t ∷ tokens) refusal = ap (before t) (after_err tokens refusal)
 
--- the tokens up to a byte: whatever the rest gives, the whole text gives it after them
+-- the tokens up to a byte: whatever the remainder gives, the complete text gives it after them
 pub record IsCut (text : List ℕ) (at : ℕ) (tokens : List Token) : Type 0 where
   pub whole : (answer : Result (List Token) ExprFault) → TokensFrom text at answer → TokensFrom text 0 (after tokens answer)
 
@@ -58,7 +58,7 @@ pub blank_keeps : (c : ℕ) (text : List ℕ) (at : ℕ) → is_blank c ≡ fals
     → count_by (λ b. b == c) (take (at + 1) text) ≡ count_by (λ b. b == c) (take at text)
 blank_keeps c text at other within is = count_by_more_no (λ b. b == c) text at 0 within (blank_differs (get_or text at 0) c is other)
 
--- the counted brackets tell whether a byte stands inside
+-- the counted brackets decide whether a byte is inside
 pub inside_at : (P : Bool → List ℕ → Type 0) (text : List ℕ) (at opened closed : ℕ) → opened ≡ count_by (λ b. b == 91) (take at text)
     → closed ≡ count_by (λ b. b == 93) (take at text)
     → P (nat_lt closed opened) (take (length text - at) (drop at text)) → P (is_inside (take at text)) (drop at text)

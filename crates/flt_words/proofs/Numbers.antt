@@ -81,7 +81,7 @@ only_decimal either (capital_hexadecimal w) = ⊎_elim (λ short. absurd (omega 
 pub not_alone : {a b n : ℕ} {digits : List ℕ} → a ≡ 48 → WritesDecimal (a ∷ b ∷ digits) n → ⊥
 not_alone {a} {b} {n} {digits} zero w = let one : length (a ∷ b ∷ digits) ≡ 1 = w.no_leading_zero zero in omega arith
 
--- the radix that the front of a word tells, and the digits in it
+-- the radix that the prefix of a word means, and the digits after it
 abbrev pub form_of : List ℕ → ℕ × List ℕ
 form_of (a ∷ b ∷ digits) = cond (a == 48) (cond (b == 120 || b == 88) (16, digits) (8, b ∷ digits)) (10, a ∷ b ∷ digits)
 form_of word = (10, word)

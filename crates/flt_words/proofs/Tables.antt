@@ -40,7 +40,7 @@ all_keywords : list_all (λ entry. keyword_test entry.0 entry.1) keywords ≡ tr
 unfolding keyword_test keywords
 all_keywords = refl
 
--- a keyword is a token as it stands, begins with a letter, has no colon or point, and is no bracket
+-- a keyword is a token, begins with a letter, has no colon or point, and is no bracket
 pub record IsPlainWord (word : List ℕ) (kind : TokenKind) : Type 0 where
   pub fitting : fits kind ≡ true
   pub letter : nat_lt 57 (get_or word 0 0) ≡ true
@@ -109,7 +109,7 @@ in_table inside piece kind found =
       brackets = record { opened = eqb-true _ (openings kind) opened.0; closed = eqb-true _ (closings kind) opened.1 };
     }
 
--- what holds of the colon and of each symbol of the table holds of a symbol
+-- what is true of the colon and of each symbol of the table is true of a symbol
 pub symbol_passes : (P : Bool → List ℕ → TokenKind → Type 0) → P true (codes ":") token.Colon
     → ((inside : Bool) (piece : List ℕ) (kind : TokenKind) → look_up symbols piece ≡ Some kind → P inside piece kind)
     → (inside : Bool) (piece : List ℕ) (kind : TokenKind) → symbol_of inside piece ≡ Some kind → P inside piece kind
@@ -156,7 +156,7 @@ word_lacks : (inside : Bool) (piece : List ℕ) (c : ℕ) → within_word inside
 word_lacks inside piece c lacks w = counts_none (λ b. b == c) piece (λ i h. other_byte inside c (get_or piece i 0) lacks (w.within i h)
     (get_or piece i 0 == c) refl)
 
--- a word stands for no bracket
+-- a word means no bracket
 stands_for_none : {word : List ℕ} {kind : TokenKind} → Spells word kind → (openings kind ≡ 0) × (closings kind ≡ 0)
 stands_for_none {word} {kind} (keyword w) = let plain = keyword_is_plain word kind w in (plain.no_opening, plain.no_closing)
 stands_for_none _ = (refl, refl)

@@ -4,24 +4,24 @@ use Rattle.std.specs.Prelude.{◌≡◌, ◌≤◌, ◌+◌, ◌-◌, ℕ, List,
 use Rattle.std.specs.Str.Parse.{IsNumeral, digits_value}
 use Rattle.flt_words.specs.{Numbers.WritesDecimal, declared.address.Group.Group}
 
--- what joins groups of a form: a point, or a colon
+-- the separator of a form's groups: a point, or a colon
 abbrev pub separator_of : Group → ℕ
 separator_of Group.Octet = 46
 separator_of _ = 58
 
--- digits of a group's form: decimal up to 255 without leading zeros, one or two hexadecimal, one to
--- four hexadecimal
+-- digits of a group's form: decimal up to 255 without leading zeros, one or two hexadecimal digits,
+-- or one to four
 abbrev pub IsGroup : Group → List ℕ → Type 0
 IsGroup Group.Octet digits = (n : ℕ) × WritesDecimal digits n × (n ≤ 255)
 IsGroup Group.Byte digits = IsNumeral 16 digits × (length digits ≤ 2)
 IsGroup Group.Quad digits = IsNumeral 16 digits × (length digits ≤ 4)
 
--- the number that the digits of a group write
+-- the number that the digits of a group mean
 abbrev pub group_value : Group → List ℕ → ℕ
 group_value Group.Octet digits = digits_value 10 digits
 group_value _ digits = digits_value 16 digits
 
--- the numbers that the digits of groups write, in turn
+-- the numbers that the digits of groups mean, in order
 abbrev pub group_values : Group → List (List ℕ) → List ℕ
 group_values form groups = map (group_value form) groups
 
@@ -40,7 +40,7 @@ pub record IsDotted (word : List ℕ) (address parts : ℕ) : Type 0 where
   pub value : address
       ≡ number_from_digits 256 (group_values Group.Octet groups ++ replicate (4 - length groups) 0)
 
--- the word is this many groups of a form, and the address the number that they write in a base
+-- the word is this many groups of a form, and the address is the number that they mean in a base
 pub record IsWholeAddress (form : Group) (base many : ℕ) (word : List ℕ)
     (address : ℕ) : Type 0 where
   pub groups : List (List ℕ)
@@ -56,7 +56,7 @@ IsMac word address = IsWholeAddress Group.Byte 256 6 word address
 abbrev pub IsWholeIp6 : List ℕ → ℕ → Type 0
 IsWholeIp6 word address = IsWholeAddress Group.Quad 65536 8 word address
 
--- the two texts are at most seven groups of an IPv6 address together, and those left out between
+-- the two texts are together at most seven groups of an IPv6 address, and the omitted ones between
 -- them are 0
 pub record AreIp6Ends (front back : List ℕ) (address : ℕ) : Type 0 where
   pub first : List (List ℕ)
@@ -69,7 +69,7 @@ pub record AreIp6Ends (front back : List ℕ) (address : ℕ) : Type 0 where
       (group_values Group.Quad first
       ++ (replicate (8 - (length first + length last)) 0 ++ group_values Group.Quad last))
 
--- the word is an IPv6 address, in full or with one `::` for groups left out
+-- the word is an IPv6 address, in full or with one `::` for omitted groups
 pub data IsIp6 : List ℕ → ℕ → Type 0 where
   whole : {word : List ℕ} {address : ℕ} → IsWholeIp6 word address → IsIp6 word address
   shortened : {front back : List ℕ} {address : ℕ} → AreIp6Ends front back address

@@ -1,4 +1,4 @@
--- The texts of the refusals.
+-- The texts of refusals.
 use Rattle.std.specs.Fmt.{decimal}
 use Rattle.std.specs.Prelude.{ℕ, List, ◌++◌, Option, Some, None, codes}
 use Rattle.flt_words.specs.declared.fault.ExprFault.{ExprFault}
@@ -19,7 +19,7 @@ text_of ExprFault.TooManyWords = codes "more than 16 words"
 text_of ExprFault.ProgramTooLong = codes "program too long"
 text_of ExprFault.Memory = codes "no memory"
 
--- the place of a text's fault, in bytes from 1, or none if the refusal has no place
+-- the place of a text's fault, in bytes from 1; None if the refusal has no place
 abbrev pub place_of : ExprFault → Option ℕ
 place_of (ExprFault.UnknownCharacter place) = Some place
 place_of (ExprFault.UnknownWord place) = Some place
@@ -31,6 +31,6 @@ abbrev pub with_place : List ℕ → Option ℕ → List ℕ
 with_place text None = text
 with_place text (Some place) = text ++ (codes " at " ++ decimal place)
 
--- what a message says of a refused text: what is wrong, and where
+-- the message about a refused text: what is wrong, and the place
 abbrev pub message_of : ExprFault → List ℕ
 message_of fault = with_place (text_of fault) (place_of fault)

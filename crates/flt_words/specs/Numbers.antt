@@ -2,12 +2,12 @@
 use Rattle.std.specs.Prelude.{◌≡◌, ◌^◌, ℕ, List, ◌++◌, Bool, nat_lt, length, slice_index, codes}
 use Rattle.std.specs.Str.Parse.{IsNumeral, digits_value}
 
--- the digits, one or more, write the number in this radix
+-- one or more digits mean the number in this radix
 pub record WritesNumber (radix : ℕ) (digits : List ℕ) (n : ℕ) : Type 0 where
   pub numeral : IsNumeral radix digits
   pub value : digits_value radix digits ≡ n
 
--- the digits write the number in decimal, without leading zeros
+-- the digits mean the number in decimal, without leading zeros
 pub record WritesDecimal (digits : List ℕ) (n : ℕ) : Type 0 where
   pub writes : WritesNumber 10 digits n
   pub no_leading_zero : slice_index digits 0 ≡ 48 → length digits ≡ 1
@@ -28,6 +28,6 @@ pub data IsRange : List ℕ → ℕ → ℕ → Type 0 where
   joined : {front back : List ℕ} {first last : ℕ} → WritesDecimal front first
       → WritesDecimal back last → IsRange (front ++ (codes "-" ++ back)) first last
 
--- a number that a token of a number or a range may have: below 2^32
+-- whether a token may have a number: it is below 2^32
 abbrev pub is_word_sized : ℕ → Bool
 is_word_sized n = nat_lt n (2 ^ 32)

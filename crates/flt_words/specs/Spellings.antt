@@ -10,7 +10,7 @@ use Rattle.flt_words.specs.declared.token.{Size.Size, TokenKind.TokenKind, Value
 abbrev pub Spellings : Type 0
 Spellings = List (List ℕ × TokenKind)
 
--- what a table has for a spelling, letter for letter, or none
+-- the token of a spelling in a table, letter for letter, or None
 abbrev pub look_up : Spellings → List ℕ → Option TokenKind
 look_up [] piece = None
 look_up (entry ∷ table) piece = if bytes_eq entry.0 piece then Some entry.1 else look_up table piece
@@ -83,12 +83,12 @@ symbols =
     ∷ (codes "^", TokenKind.Operator Operator.ExclusiveOr)
     ∷ []
 
--- the token of the keyword or name that a word is, or none if it is neither
+-- the token of a word that is a keyword or a name; None if it is neither
 abbrev pub keyword_of : List ℕ → Option TokenKind
 keyword_of word = look_up keywords word
 
--- the token of the symbol that these bytes are, or none if they aren't a symbol; the colon is a
--- token of its own only inside brackets
+-- the token of a symbol; None if these bytes aren't one; the colon is a token of its own only
+-- inside brackets
 abbrev pub symbol_of : Bool → List ℕ → Option TokenKind
 symbol_of inside piece =
     if inside && bytes_eq piece (codes ":") then Some TokenKind.Colon else look_up symbols piece

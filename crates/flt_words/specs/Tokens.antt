@@ -13,7 +13,7 @@ pub record IsWordPiece (inside : Bool) (piece : List ℕ) : Type 0 where
   pub within : (i : ℕ) → i < length piece → within_word inside (slice_index piece i) ≡ true
   pub ends : starts_word inside (slice_index piece (length piece - 1)) ≡ true
 
--- what a piece means at a place: a word its meaning, a symbol its token
+-- what a piece at a place means: a word its meaning, a symbol its token
 pub data PieceMeans (inside : Bool) (place : ℕ) (piece : List ℕ) : Result TokenKind ExprFault
     → Type 0 where
   word_meaning : {answer : Result TokenKind ExprFault} → IsWordPiece inside piece
@@ -32,21 +32,21 @@ pub record IsLongest (inside : Bool) (rest : List ℕ) (n : ℕ) : Type 0 where
   pub piece : IsPiece inside (take n rest)
   pub longest : (m : ℕ) → m ≤ length rest → IsPiece inside (take m rest) → m ≤ n
 
--- what is left of a text from a place on begins with a token of this kind, n bytes long
+-- the text from a place on begins with a token of this kind, n bytes long
 pub record IsToken (inside : Bool) (place : ℕ) (rest : List ℕ) (kind : TokenKind)
     (n : ℕ) : Type 0 where
   pub longest : IsLongest inside rest n
   pub means : PieceMeans inside place (take n rest) (Ok kind)
 
--- what is left of a text from a place on is refused at its beginning: no piece begins there, or the
--- longest one is a word of no kind or has too large a number
+-- the text from a place on is refused at its start: no piece begins there, or the longest one is a
+-- word of no kind or has too large a number
 pub data IsRefused (inside : Bool) (place : ℕ) (rest : List ℕ) : ExprFault → Type 0 where
   no_piece : ((n : ℕ) → n ≤ length rest → IsPiece inside (take n rest) → ⊥)
       → IsRefused inside place rest (ExprFault.UnknownCharacter place)
   bad_piece : {n : ℕ} {refusal : ExprFault} → IsLongest inside rest n
       → PieceMeans inside place (take n rest) (Err refusal) → IsRefused inside place rest refusal
 
--- a token in front of others, or the refusal in their place
+-- a token followed by others, or their refusal
 abbrev pub before : Token → Result (List Token) ExprFault → Result (List Token) ExprFault
 before token (Ok tokens) = Ok (token ∷ tokens)
 before token (Err refusal) = Err refusal

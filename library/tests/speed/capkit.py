@@ -1,8 +1,15 @@
-"""usage: capkit.py read|match|pcap|pcapng CAPTURE [EXPRESSION | OUTPUT]    see speed.py"""
+"""Reads, filters or copies a capture with the package for Python, for speed.py.
+
+usage: capkit.py read|match|pcap|pcapng CAPTURE [EXPRESSION | OUTPUT]
+
+It prints the number of packets, and 0, the time of compiling, which isn't measured.
+"""
 import sys
 
 import capkit
 
+if len(sys.argv) < 3:
+    sys.exit(__doc__)
 mode, name, *rest = sys.argv[1:]
 count = 0
 if mode in ("read", "match"):

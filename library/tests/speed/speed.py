@@ -1,13 +1,14 @@
 #!/usr/bin/env python3
-"""Measures reading, filtering and writing 1,000,000 packets in each language, and in libpcap and gopacket, and counts the
-lines of the examples.
+"""Measures reading, filtering and writing 1,000,000 packets in each language, libpcap and gopacket.
 
-usage: speed.py [ROUNDS] [LANGUAGE..]     by default 7 rounds and c rust go python libpcap gopacket
+usage: speed.py [ROUNDS] [LANGUAGE..]
 
-Each cell is the least CPU time (user and system, in s) of all rounds, in each of which all programs run one after
-another. It builds the programs in out/speed, uses the library that `make` and `make python` left in out/, and says which
-language it can't build. libpcap's times are without compiling, which is printed after them. Needs the headers of libpcap
-for libpcap, and Debian's golang-github-google-gopacket-dev (and golang-golang-x-net-dev) for gopacket.
+By default it makes 7 rounds of c rust go python libpcap gopacket. It also counts the lines of the
+examples. Each cell is the least CPU time (user and system, in s) of all rounds, in each of which all programs
+run one after another. It builds the programs in out/speed, uses the library that `make` and `make
+python` left in out/, and says which language it can't build. libpcap's times are without compiling,
+which is printed after them. Needs the headers of libpcap for libpcap, and Debian's
+golang-github-google-gopacket-dev (and golang-golang-x-net-dev) for gopacket.
 """
 import os
 import pathlib
@@ -27,17 +28,30 @@ COLUMNS = {  # what a program is called with, after its name; {out} is a file
     "read pcap, write pcapng": ("pcapng", "m.pcap", "out.pcapng"),
 }
 LACKS = {"libpcap": {"read pcap, write pcapng"}, "gopacket": {"`tcp port 80`", "`ip or` 300 hosts"}}
-NAMES = {"c": "C", "rust": "Rust", "go": "Go", "python": "Python", "libpcap": "C, libpcap", "gopacket": "Go, gopacket (pcapgo)"}
+NAMES = {
+    "c": "C",
+    "rust": "Rust",
+    "go": "Go",
+    "python": "Python",
+    "libpcap": "C, libpcap",
+    "gopacket": "Go, gopacket (pcapgo)",
+}
 # The examples, which do the same in each language.
-EXAMPLES = {"C": "examples/{}.c", "Python": "python/examples/{}.py", "Rust": "rust/examples/{}.rs", "Go": "go/examples/{}/main.go"}
+EXAMPLES = {
+    "C": "examples/{}.c",
+    "Python": "python/examples/{}.py",
+    "Rust": "rust/examples/{}.rs",
+    "Go": "go/examples/{}/main.go",
+}
 
 
 def run(*words, **env):
+    """Runs a command in out/speed."""
     subprocess.run([str(word) for word in words], check=True, cwd=OUT, env={**os.environ, **env})
 
 
 def build(language):
-    """The words that run a language's program."""
+    """Builds a language's program, and returns the words that run it."""
     program = OUT / f"{language}-speed"
     if language == "c":
         run("cc", "-O2", f"-I{LIBRARY}/include", "-o", program, HERE / "capkit.c", LIBRARY / "out/libcapkit.a")
@@ -59,26 +73,47 @@ def build(language):
             (folder / "capkit").symlink_to(LIBRARY / "go")
         source = "capkit.go" if language == "go" else "gopacket.go"
         (folder / language / "main.go").write_text((HERE / source).read_text())
-        run("go", "build", "-o", program, f"example.com/{language}", GO111MODULE="off", GOPATH=f"{OUT}/go:/usr/share/gocode", GOFLAGS="")
+        run(
+            "go",
+            "build",
+            "-o",
+            program,
+            f"example.com/{language}",
+            GO111MODULE="off",
+            GOPATH=f"{OUT}/go:/usr/share/gocode",
+            GOFLAGS="",
+        )
     else:
-        run(sys.executable, "-m", "pip", "-q", "install", "--no-index", "--target", OUT / "python", *(LIBRARY / "out/python").glob("*.whl"))
+        run(
+            sys.executable,
+            "-m",
+            "pip",
+            "-q",
+            "install",
+            "--no-index",
+            "--target",
+            OUT / "python",
+            *(LIBRARY / "out/python").glob("*.whl"),
+        )
         program.write_text((HERE / "capkit.py").read_text())  # by another name than the package's
         return [sys.executable, str(program)]
     return [str(program)]
 
 
 def prepare():
-    """The captures, and where programs that are linked to the shared library find it."""
+    """Makes the captures, and sets the variables by which programs find the shared library."""
     OUT.mkdir(parents=True, exist_ok=True)
     prefix = OUT / "prefix"
     subprocess.run(["make", "-s", "-C", LIBRARY, "install", f"PREFIX={prefix}"], check=True)
-    os.environ |= {"PKG_CONFIG_PATH": f"{prefix}/lib/pkgconfig", "LD_LIBRARY_PATH": f"{prefix}/lib", "PYTHONPATH": f"{OUT}/python"}
+    os.environ |= {
+        "PKG_CONFIG_PATH": f"{prefix}/lib/pkgconfig", "LD_LIBRARY_PATH": f"{prefix}/lib", "PYTHONPATH": f"{OUT}/python"
+    }
     if not (OUT / "m.pcap").exists():
         run(sys.executable, LIBRARY.parent / "bench/make_capture.py", "m.pcap")
 
 
 def measure(words):
-    """The CPU time of a run, without compiling, and how many packets it counted, and what compiling took."""
+    """Returns the CPU time of a run without compiling, its count of packets, and the time to compile."""
     process = subprocess.Popen(words, cwd=OUT, stdout=subprocess.PIPE, text=True)
     printed = process.stdout.read().split()
     _, status, usage = os.wait4(process.pid, 0)
@@ -113,7 +148,8 @@ def main():
                     compiling[cell] = min(compiled, compiling.get(cell, compiled))
     print("|", " | ".join(["", *COLUMNS]), "|\n|" + "---|" * (len(COLUMNS) + 1))
     for language in programs:
-        row = [f"{least[it]:.3f}" + (f" (+ {compiling[it]:.2f} to compile)" if it in compiling else "") if it in least else "-"
+        row = [f"{least[it]:.3f}" + (f" (+ {compiling[it]:.2f} to compile)" if it in compiling else "")
+               if it in least else "-"
                for it in ((language, column) for column in COLUMNS)]
         print("|", " | ".join([NAMES[language], *row]), "|")
     print("\n|", " | ".join(["lines, with heads and comments", *EXAMPLES]), "|\n|" + "---|" * (len(EXAMPLES) + 1))

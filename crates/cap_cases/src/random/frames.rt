@@ -7,8 +7,8 @@ use std::alloc::{AllocError, Global};
 /// The most bytes of a packet.
 const MOST_BYTES: usize = 128;
 
-/// The bytes of headers, in hexadecimal digits; `..` is any byte. Addresses, protocols and ports
-/// are those that expressions name too, most times. `ip_any` has other lengths of a header.
+/// The rules that make headers (`make_text`), in hexadecimal digits; `..` is any byte. Most of the
+/// addresses, protocols and ports are in random expressions too. `ip_any` has other header lengths.
 const RULES: &str = "\
 ether: {stations} {typed}
 cooked: {word} {word} {word} .. .. {typed}

@@ -2,7 +2,7 @@
 
 use std::alloc::{AllocError, Global};
 
-/// How many bytes of a packet's block stand before its data.
+/// The offset of a packet's data in its block.
 const BEFORE_DATA: usize = 28;
 
 /// A packet as it was written. Two are equal if they have the same interface, time, lengths, data

@@ -1,4 +1,4 @@
--- Helpers on the inputs of a job: what is left of them, and which is next.
+-- Helpers on the inputs of a job: what remains of them, and which is next.
 use Rattle.std.specs.{List.AllByRecursion, Option.option_map, Option.option_or}
 use Rattle.std.specs.Prelude.{◌≡◌, ◌⊎◌, ◌≤◌, ℕ, ◌+◌, ◌^◌, Bool, true, false, List, [], ◌∷◌, length, Option, None, unwrap_or}
 use Rattle.cap_io.specs.Capture.{items_from, first_link_of}
@@ -6,12 +6,12 @@ use Rattle.cap_io.specs.{Sequence.PacketOrder, Sequence.InTurn, Sequence.ByTime,
 use Rattle.cap_inputs.specs.Inputs.{InputView, InputsView, Future, IsInput, key_of, steps_left_in, steps_owed}
 use Rattle.cap_inputs.specs.declared.inputs.Next.{Next}
 
--- whether the inputs come one after another
+-- whether inputs are read in turn
 abbrev pub is_in_turn : PacketOrder → Bool
 is_in_turn InTurn = true
 is_in_turn ByTime = false
 
--- the items after a source's current packet, from the bytes that its device has left
+-- the items after a source's current packet, from its unread bytes
 abbrev pub actual_future : SourceView → Future
 actual_future s = record {
   items = items_from s.declared (s.offset + length s.block) s.unread;
@@ -27,7 +27,7 @@ abbrev pub first_declared_link : List InputView → Option ℕ
 first_declared_link [] = None
 first_declared_link (h ∷ hs) = option_or (first_link_of h.source.declared) (first_declared_link hs)
 
--- ---- what is next, part by part
+-- ---- the next action, part by part
 
 -- if a packet waits, its key is at least this
 abbrev pub KeysFrom : ℕ → List InputView → Type 0
@@ -37,7 +37,8 @@ KeysFrom k hs = AllByRecursion (λ (h : InputView). h.waiting ≡ true → k ≤
 abbrev pub NoneWaits : List InputView → Type 0
 NoneWaits hs = AllByRecursion (λ (h : InputView). h.waiting ≡ false) hs
 
--- of the packets that wait that of input i has the least key, and of equal keys the lowest index
+-- among the packets that wait, that of input i has the least key, and among equal keys the lowest
+-- index
 pub record IsLeast (cursors : List InputView) (i : ℕ) : Type 0 where
   pub cursor : InputView
   pub among : IsInput cursors i cursor
@@ -74,7 +75,7 @@ pub record IsAtTurn (cursors : List InputView) (i : ℕ) (waiting : Bool) : Type
   pub front : AllEnded among.front
   pub back : NoneEnded among.back
 
--- what is next of inputs in turn
+-- the next action on inputs in turn
 abbrev pub IsNextInTurn : List InputView → Next → Type 0
 IsNextInTurn cursors (Next.Read i) = IsAtTurn cursors i false
 IsNextInTurn cursors (Next.Decide i) = IsAtTurn cursors i true
@@ -95,18 +96,18 @@ IsNextByTime cursors (Next.Read i) = IsFirstUnready cursors i
 IsNextByTime cursors (Next.Decide i) = AllReady cursors × IsLeast cursors i
 IsNextByTime cursors Next.Finish = NoneWaits cursors × AllEnded cursors
 
--- what is next in either order
+-- the next action in either order
 abbrev pub IsNextIn : PacketOrder → List InputView → Next → Type 0
 IsNextIn InTurn cursors r = IsNextInTurn cursors r
 IsNextIn ByTime cursors r = IsNextByTime cursors r
 
--- what is next of the inputs, in the order of their packets
+-- the next action on the inputs, in the order of their packets
 abbrev pub IsNext : InputsView → Next → Type 0
 IsNext inputs r = IsNextIn inputs.order inputs.cursors r
 
 -- ---- steps
 
--- the steps that an input owes
+-- the steps that an input still needs without another byte
 abbrev pub owed_by : InputView → ℕ
 owed_by h = steps_owed h.waiting h.source.phase
 

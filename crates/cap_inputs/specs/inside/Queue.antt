@@ -1,9 +1,9 @@
--- The heap of waiting inputs: its order, and what enters it.
+-- The heap of waiting inputs: its order, and its entries.
 use Rattle.std.specs.List.{All, IsDistinct, list_any}
 use Rattle.std.specs.Prelude.{◌≡◌, ℕ, ◌<◌, ◌≤◌, ◌⊎◌, ◌==◌, ◌&&◌, Bool, IsTrue, List, map}
 use Rattle.cap_inputs.specs.declared.queue.Waiting.{Waiting}
 
--- a comes before b: its time is less, or it is the same and its input has the lower number
+-- a comes before b: its time is less, or the times are equal and its input's number is lower
 abbrev pub Precedes : Waiting → Waiting → Type 0
 Precedes a b = (a.time < b.time) ⊎ ((a.time ≡ b.time) × (a.input < b.input))
 
@@ -11,7 +11,7 @@ Precedes a b = (a.time < b.time) ⊎ ((a.time ≡ b.time) × (a.input < b.input)
 abbrev pub NotAfter : Waiting → Waiting → Type 0
 NotAfter a b = (a.time < b.time) ⊎ ((a.time ≡ b.time) × (a.input ≤ b.input))
 
--- whether this input waits with this time
+-- whether this input waits with a packet of this time
 abbrev pub is_entered : List Waiting → ℕ → ℕ → Bool
 is_entered ws time input = list_any (λ w. (w.time == time) && (w.input == input)) ws
 

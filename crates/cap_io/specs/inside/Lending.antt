@@ -1,10 +1,10 @@
--- What a device lends before it passes it.
+-- What a device lends, and skips when it is next called.
 use Rattle.std.specs.Io.{StartsWith}
 use Rattle.std.specs.Prelude.{◌≡◌, ℕ, ◌+◌, ◌^◌, ◌<◌, ◌≤◌, drop, length}
 use Rattle.cap_octet.specs.{Device.HasGiven, declared.device.Input.Ghosts}
 
--- The device had lent `lent` bytes, and passes them; then it lends the first `count` bytes that it has
--- at hand.
+-- The device had lent `lent` bytes and skips them; then it lends the first `count` bytes that it
+-- has at hand.
 pub record Lends {I : Type 0} (device : Ghosts I) (count : ℕ) (old : I) (lent : ℕ) (new : I)
     (lent' : ℕ) : Type 0 where
   pub is : lent' ≡ count

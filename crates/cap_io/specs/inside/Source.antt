@@ -31,7 +31,7 @@ pub record IsSound {I A : Type 0} (device : Ghosts I) (stage : Stage)
   pub consistent : IsConsistent r.file r.table
   pub bounded : length r.buffer.items ≤ most_in_unit
 
--- the result of reading on to the next packet, by what was returned; the caller notes a fault
+-- the result of reading on to the next packet, by the return value; the caller records a fault
 abbrev pub Continues : SourceView → Result Bool Fault → SourceView → Type 0
 Continues old (Ok true) new = FindsPacket old new
 Continues old (Ok false) new = FindsEnd old new
@@ -47,8 +47,8 @@ pub record IsBetween (s : SourceView) : Type 0 where
   pub block : s.block ≡ []
   pub packet : s.packet ≡ None
 
--- the result of reading one unit, by what was returned: a packet, a unit without one, the clean
--- end, or a fault
+-- the result of reading one unit, by the return value: a packet, a unit without one, the clean end,
+-- or a fault
 abbrev pub FindsNext : SourceView → Result NextUnit Fault → SourceView → Type 0
 FindsNext old (Ok NextUnit.Packet) new = FindsPacket old new
 FindsNext old (Ok (NextUnit.Other size)) new = SkipsUnits old new new.unread
@@ -76,8 +76,8 @@ pub record NextBounds (old : SourceView) (r : Result NextUnit Fault)
   pub passed : (size : ℕ) → r ≡ Ok (NextUnit.Other size)
       → (old.given < new.given) × (new.given < 2 ^ 63) × IsBetween new
 
--- the current unit is ended, and the next one, which the device has at hand, is taken: it has a
--- packet
+-- the current unit is left, and the next one, which the device has at hand and which has a packet,
+-- is current
 pub record TakesNext (tells : Bool) (old new : SourceView) : Type 0 where
   pub packet : IsTrue tells → FindsPacket old new
   pub bounds : NextBounds old (Ok NextUnit.Packet) new

@@ -9,8 +9,8 @@ use Rattle.cap_pcapng.specs.Effect.{is_interface, held_packet, IsBlockFault, Lie
 use Rattle.cap_pcapng.specs.{Interface.Described, Interface.most_interfaces, Unit.checks_among, Unit.packet_by}
 use Rattle.cap_pcapng.specs.declared.{effect.PacketSpans.PacketSpans, frames.Frame.Frame}
 
--- The place of the packet of a block of this size: its data begin at `start` in the block and are
--- the first bytes of what is left of the body (`rest`), in which its options lie too.
+-- The spans of the packet of a block of this size: its data begins at `start` in the block, and is
+-- the prefix of the remainder of the body (`rest`), in which its options are too.
 pub record PacketFound (order : Order) (interfaces : List Described) (parts : Parts)
     (start size : ℕ) (rest : List ℕ) (spans : PacketSpans) : Type 0 where
   pub whole : spans.size ≡ size
@@ -27,7 +27,7 @@ pub record PacketFound (order : Order) (interfaces : List Described) (parts : Pa
   pub time : spans.time < 2 ^ 63
   pub lies : LieAsSaid parts spans
 
--- a block that fails no check after those of its frame describes an interface
+-- The block fails no check after those of its frame, and describes an interface.
 pub record AddsInterface (frame : Frame) (interfaces : List Described)
     (block : List ℕ) : Type 0 where
   pub passes : first_failing (block_checks frame block) ≡ None
@@ -41,8 +41,8 @@ IsEntryFault frame interfaces block fault =
     IsBlockFault frame interfaces block fault
     ⊎ ((fault ≡ NoMemory) × AddsInterface frame interfaces block)
 
--- The fault to report of a block whose own checks gave this one, after these interfaces: if
--- there are as many as may be, that comes before a fault of options.
+-- The fault to report for a block whose own checks failed with this one, after these interfaces: if
+-- there is no room for another interface, that fault comes before one of options.
 abbrev pub fault_among : List Described → Fault → Fault
 fault_among interfaces BadOption =
     if nat_lt (length interfaces) most_interfaces then BadOption else TooManyInterfaces

@@ -1,4 +1,4 @@
--- The options found while an interface's options are read, one after another.
+-- The options found so far, while an interface's options are read one after another.
 use Rattle.std.specs.Option.{option_map, option_copied, option_or}
 use Rattle.std.specs.Prelude.{◌≡◌, ◌≤◌, ℕ, length, IfSome, ◌==◌, if◌then◌else◌, Bool, false, List, Option, Some, None, is_some}
 use Rattle.cap_octet.specs.declared.number.Order.{Order}
@@ -9,7 +9,7 @@ use Rattle.cap_pcapng.specs.{OptionList.CodedValue, declared.interface.FoundOpti
 abbrev pub value_for : ℕ → CodedValue → Option (List ℕ)
 value_for code option = if option.code == code then Some option.value else None
 
--- a name that was found is short enough
+-- if a name was found, it is short enough
 abbrev pub HasShortName : FoundOptions → Type 0
 HasShortName found = IfSome found.name (λ name. length name.now ≤ 255)
 
@@ -20,7 +20,7 @@ pub record IsFound (order : Order) (options : List CodedValue) (found : FoundOpt
   pub offset : found.offset ≡ option_map (offset_in_value order) (first_value offset_code options)
   pub short : HasShortName found
 
--- the options found once this option is read after those before it
+-- the options found once one more option is read
 pub record Adds (order : Order) (before : FoundOptions) (option : CodedValue)
     (after : FoundOptions) : Type 0 where
   pub name : option_copied after.name
@@ -31,7 +31,7 @@ pub record Adds (order : Order) (before : FoundOptions) (option : CodedValue)
       ≡ option_or before.offset (option_map (offset_in_value order) (value_for offset_code option))
   pub short : HasShortName before → HasShortName after
 
--- whether an option of this code was found; false of a code that isn't looked at
+-- whether an option of this code was found; false for a code that isn't read
 abbrev pub is_found : FoundOptions → ℕ → Bool
 is_found found code =
     if code == name_code then is_some found.name

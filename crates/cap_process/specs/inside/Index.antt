@@ -1,10 +1,10 @@
 -- The index of the window, by which an equal mark is found: a binary tree of marks for each hash.
--- The newest mark is on top. At each depth, one bit of a mark chooses between the two trees below.
--- Marks are numbered from 1. For each hash, `heads` has the number of the last mark that had it,
--- even if that mark has left the window; it is 0 if there was none, or if `renumber` set it to 0. A
--- link is the number of places from a mark back to the top of a tree below it. If it leads to a
--- place before the oldest mark, the tree is empty. The index is described by the way that a search
--- for any mark goes.
+-- The newest mark is at its top. At each depth, one bit of a mark chooses between the two trees
+-- below. Marks are numbered from 1. For each hash, `heads` has the number of the last mark that had
+-- it, even if that mark has left the window; it is 0 if there was none, or if `renumber` set it to
+-- 0. A link is the number of places from a mark back to the top of a tree below it. If it leads to
+-- a place before the oldest mark, the tree is empty. The definitions describe the index by the path
+-- that a search for any mark takes.
 use Rattle.std.specs.{Int.w32, Int.from_le_bytes, List.slice_index_or}
 use Rattle.std.specs.Prelude.{◌≡◌, ◌≢◌, ℕ, ◌+◌, ◌-◌, ◌/◌, ◌%◌, ◌^◌, ◌<◌, ◌≤◌, ◌==◌, Bool, true, false, nat_lt, if◌then◌else◌, List, [], length, slice_index, take, bit_and}
 use Rattle.cap_process.specs.declared.{links.Links.Links, mark.Mark.Mark}
@@ -35,19 +35,19 @@ mark_at marks i = slice_index_or marks i (record { length = 0; digest = [] })
 abbrev pub links_at : List Links → ℕ → Links
 links_at links i = slice_index_or links i (record { zeros = 0; ones = 0 })
 
--- the mark m has the hash of e, and its bits above this depth
+-- the mark m has the same hash as e, and the same bits at all depths above this one
 pub record Agrees (mask depth : ℕ) (e m : Mark) : Type 0 where
   pub hash : hash_of mask m ≡ hash_of mask e
   pub bits : (i : ℕ) → i < depth → mark_bit m i ≡ mark_bit e i
 
--- e is at no place from this one on
+-- e isn't at this place nor at a later one
 abbrev pub Lacks : List Mark → Mark → ℕ → Type 0
 Lacks marks e from = (j : ℕ) → from ≤ j → j < length marks → mark_at marks j ≢ e
 
--- The way of a search for e, from the mark at `limit` to the one that is `d` places before it, and
--- on by the links for the bits of e, until a link leads out of the window. Each mark on it agrees
--- with e down to its depth. No mark equal to e is passed: if e is nowhere from `limit` on, it is
--- nowhere between `limit` and the next mark of the way, nor below `limit` if there is none.
+-- The path of a search for e, from the mark at `limit` to the one `d` places before it, and further
+-- by the links for the bits of e, until a link leads out of the window. Each mark on the path
+-- agrees with e down to its depth. No mark equal to e is skipped: if e is nowhere from `limit` on,
+-- it is nowhere between `limit` and the next mark of the path, nor below `limit` if there is none.
 pub data IsWay (mask : ℕ) (marks : List Mark) (links : List Links) (e : Mark) : (depth limit d : ℕ)
     → Type 0 where
   Ends : {depth limit d : ℕ} → limit < d → (Lacks marks e limit → Lacks marks e 0)
@@ -58,13 +58,13 @@ pub data IsWay (mask : ℕ) (marks : List Mark) (links : List Links) (e : Mark) 
       (link_by_bit (links_at links (limit - d)) (mark_bit e depth))
       → IsWay mask marks links e depth limit d
 
--- there is a way from the mark at a place, to the one that is `d` places before it, for each mark
--- that agrees with the first
+-- there is a path from the mark at a place, to the one `d` places before it, for each mark that
+-- agrees with the first
 abbrev pub IsHung : (mask : ℕ) → List Mark → List Links → (depth place d : ℕ) → Type 0
 IsHung mask marks links depth place d =
     (e : Mark) → Agrees mask depth e (mark_at marks place) → IsWay mask marks links e depth place d
 
--- there is a way from the mark at a place, by its own links, for each mark that agrees with it
+-- there is a path from the mark at a place, by its own links, for each mark that agrees with it
 abbrev pub IsOnTop : (mask : ℕ) → List Mark → List Links → (depth place : ℕ) → Type 0
 IsOnTop mask marks links depth place =
     (e : Mark) → Agrees mask depth e (mark_at marks place)
@@ -78,7 +78,7 @@ IsSameOutside mask marks old new depth place =
     (j : ℕ) → (j ≤ place → Agrees mask depth (mark_at marks place) (mark_at marks j) → ⊥)
     → links_at new j ≡ links_at old j
 
--- The mark at a place is on top of the older marks of its hash. The links of marks of another hash
+-- The mark at a place is above the older marks of its hash. The links of marks of other hashes
 -- didn't change.
 pub record IsPutOnTop (mask : ℕ) (marks : List Mark) (old new : List Links)
     (place : ℕ) : Type 0 where

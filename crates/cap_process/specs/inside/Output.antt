@@ -1,4 +1,4 @@
--- What one call writes of a packet, a line or a report.
+-- What one call writes for a packet, a line or a report.
 use Rattle.std.specs.Prelude.{◌≡◌, ℕ, ◌+◌, Bool, true, false, List, Option, Result, Ok, Err, IfErr}
 use Rattle.cap_octet.specs.Device.{AppendsOrStops, failures_of}
 use Rattle.cap_octet.specs.{Packet.Captured, declared.device.DeviceFault.DeviceFault}
@@ -8,7 +8,7 @@ use Rattle.cap_io.specs.Sink as sinks
 use Rattle.cap_io.specs.Sink.{SinkView, PutWrites, FinishWrites}
 use Rattle.cap_process.specs.Output.{Target, Capture, Text, Lines}
 
--- a packet is put into a capture, or is refused, or the put fails
+-- a packet is put into a capture, or it is refused, or the put fails
 pub record PutsInto (p : Captured) (old : SinkView) (r : Result (Unit {0}) Fault)
     (new : Target) : Type 0 where
   pub sink : SinkView
@@ -16,7 +16,7 @@ pub record PutsInto (p : Captured) (old : SinkView) (r : Result (Unit {0}) Fault
   pub puts : sinks.PutsPacket old.state old p r sink
   pub writes : PutWrites old.state old p r sink
 
--- the text printed for a packet is appended to lines, or the device failed
+-- the text printed for a packet is appended to the lines, or the device failed
 pub record Prints (bytes written : List ℕ) (failures : ℕ) (r : Result (Unit {0}) Fault)
     (lines : List ℕ → ℕ → Target) (new : Target) : Type 0 where
   pub after : List ℕ
@@ -39,7 +39,7 @@ pub record AppendsText (bytes written : List ℕ) (failures room : ℕ)
   pub appends : AppendsOrStops r written bytes after
   pub is : new ≡ Text after (failures + failures_of r) room
 
--- whether what is written is text: reports or a listing
+-- whether the output is a text: reports or a listing
 abbrev pub is_text : Target → Bool
 is_text (Text written failures room) = true
 is_text target = false
@@ -57,8 +57,8 @@ pub record FinishesInto (first : Option ℕ) (old : SinkView) (r : Result (Unit 
   pub finishes : sinks.Finishes old.state old first r sink
   pub writes : FinishWrites old.state old first r sink
 
--- the output is ended: a capture without packets gets its file header or section header, any other
--- nothing; or it fails
+-- the output is completed: a capture without packets gets its file header or section header, any
+-- other output nothing; or that fails
 abbrev pub EndsOutput : Option ℕ → Target → Result (Unit {0}) DeviceFault → Target → Type 0
 EndsOutput first (Capture sink) (Ok done) new = FinishesInto first sink (Ok done) new
 EndsOutput first (Capture sink) (Err failed) new =

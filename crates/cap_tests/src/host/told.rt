@@ -20,8 +20,8 @@ const CLOSED: Option<ErrorKind> = Some(ErrorKind::BrokenPipe);
 /// What a run shows of a name with a control character.
 const TOLD: &str = "capkit: a\\x1b: truncated\n";
 
-/// The end of a run: why its writes failed and its last write did, its status, and what is
-/// reported.
+/// The end of a run: why a write failed and why the write of what was buffered did (`None` if it
+/// didn't), its status, and what is reported.
 type Ending = (
     (Option<ErrorKind>, Option<ErrorKind>),
     Option<u8>,
@@ -37,8 +37,8 @@ const ENDINGS: [Ending; 6] = [
     ((None, FULL), None, TOLD),
 ];
 
-/// The message of a run is reported by one call, but if its reader went away, with the numbers of
-/// its control characters. No failed write is a success.
+/// The message of a run is written by one call, unless its reader went away, with control
+/// characters shown as numbers. A failed write is never a success.
 #[test]
 fn messages_of_runs_are_told(rt: HostRuntime) {
     for (causes, status, told) in ENDINGS {
@@ -117,7 +117,7 @@ fn refusal_of(alloc: Global, words: &str) -> Result<String, Fail> {
     Ok(text)
 }
 
-/// Advice that can be followed stays.
+/// Only advice that can be followed is shown.
 #[test]
 fn advice_that_fails_is_left_out(rt: HostRuntime) -> Result<(), Fail> {
     for (words, has_tip) in [
@@ -141,12 +141,13 @@ edit in out -t3600 | -t | see --later, --earlier
 edit -C 14 in out | -C | see --chop-start, --chop-end
 edit --chop 3 in out | --chop | see --chop-start, --chop-end
 edit -c 100 in out | -c | split by -r and ranges: 1-100, 101-200
-edit -d in out | -d | see -D
+edit -d in out | -d | see -D 5
+edit --novlan -D 5 in out | --novlan | -D compares whole packets, with their VLAN tags
 edit --later -5 in out | -5 | for --later -5 write --earlier 5; a range is 1-5
 print -r in | -r | the file is named without -r
 print -nr in | -n | names are never looked up
 print in -len = 1 | -l | lines need no -l; quote an expression that has a dash: ' -len = 1'
-print -X in | -X | see -x
+print -X in | -X | see -x, which prints bytes without characters
 print -w out -F pcap in | -F | see --format; for words in a file \"$(cat FILE)\"
 edit --format pcap in out | --format | see -F
 merge --format pcap -w out in | --format | see -F
@@ -160,7 +161,7 @@ const NO_COMMAND: &str = "error: 'capkit' requires a subcommand but one was not 
 Commands:
   edit     Select and change packets, and remove duplicates
   merge    Merge captures into one, by time
-  infos    Write a report on each capture
+  infos    Report packet counts, sizes, times and order
   print    Print or write the packets that match an expression or a listing
   compile  Compile an expression, and write the listing of its program
 
@@ -198,8 +199,8 @@ const ANSWERS: [(Option<ErrorKind>, u8, &str); 3] = [
 ];
 
 /// What a user asks for goes to standard output, and all else to standard error, each message by
-/// one call. An answer that can't be written is a fault, which is reported but if its reader went
-/// away.
+/// one call. An answer that can't be written is a fault, which is reported unless its reader
+/// went away.
 #[test]
 fn faults_and_answers_are_told(rt: HostRuntime) -> Result<(), Fail> {
     for (failure, status, errors) in ANSWERS {

@@ -1,4 +1,4 @@
--- The invariant of a job, also before its first step, and the result of its steps.
+-- The invariant of a job, including before its first step, and the results of its steps.
 use Rattle.std.specs.Prelude.{ℕ, ◌+◌, ◌≤◌, Option, None, Some, ◌≡◌, Bool, true, false, IsTrue, ◌⊎◌, ◌<◌, List, []}
 use Rattle.std.specs.Option.{is_none}
 use Rattle.cap_inputs.specs.{Inputs.next_of, declared.inputs.Next.Next}
@@ -21,13 +21,13 @@ pub record IsFresh (j : JobView) : Type 0 where
   pub left : steps_left j.state.inputs < most_steps
   pub upper_bound : steps_owed_in_all j.state.inputs < most_turns j.state.inputs
 
--- the step that writes a listing ends the job: all is written, or the output's device failed
+-- the step that writes a listing ends the job: all of it is written, or the output's device failed
 abbrev pub EndsList : List Insn → Bool → JobView → Turn → JobView → Type 0
 EndsList insns tells old Turn.More new = ⊥
 EndsList insns tells old (Turn.Done status) new =
     WritesListing insns old status new ⊎ StopsListing insns tells old status new
 
--- a job that still prepares made no step; what is compiled is written as text
+-- a job that still prepares has made no step; a compilation writes a text
 abbrev pub HasMadeNoStep : Preparing → JobView → Type 0
 HasMadeNoStep (ReadsFilter asked) j = IsFresh j
 HasMadeNoStep (Compiles words link) j = IsFresh j × (is_text j.state.output ≡ true)
@@ -41,11 +41,11 @@ IsReadyIf (Some preparing) j = HasMadeNoStep preparing j
 abbrev pub with_preparing : Option Preparing → JobView → JobView
 with_preparing p j = record j { preparing = p }
 
--- The result of the first step of a job that reads a filter or compiles, whichever it prepares.
+-- The result of the first step of a job that reads a filter or compiles an expression.
 abbrev pub KeepsFirst : JobView → Turn → JobView → Type 0
 KeepsFirst old r new = (p : Preparing) → StepKeeps (with_preparing (Some p) old) r new
 
--- The result of a step, as `Job::step` has it: each of its clauses.
+-- The result of a step, as each clause of `Job::step` states it.
 pub record MakesStep (inputs_tell output_tells tells : Bool) (old : JobView) (r : Turn)
     (new : JobView) : Type 0 where
   pub after : (s : ℕ) → old.done ≡ Some s → (r ≡ Turn.Done s) × (new ≡ old)
@@ -55,7 +55,7 @@ pub record MakesStep (inputs_tell output_tells tells : Bool) (old : JobView) (r 
   pub keeps : StepKeeps old r new
   pub reads : StepReadsBy old.preparing inputs_tell (turn_goes_on r) old new
 
--- one step; or two, of which the first goes on, and the second begins with the job after it
+-- one step; or two, if the first goes on
 pub data MakesSteps (inputs_tell output_tells tells : Bool) (old : JobView) (r : Turn)
     (new : JobView) : Type 0 where
   one_step : MakesStep inputs_tell output_tells tells old r new
@@ -77,13 +77,13 @@ pub data MakesStepUnless (reads inputs_tell output_tells tells : Bool) (old : Jo
   rests : is_read (next_of old.state.inputs) ≡ reads → r ≡ Turn.More → new ≡ old
       → MakesStepUnless reads inputs_tell output_tells tells old r new
 
--- the steps that were made and those that are left are `most_steps` at most; those of a job that
--- ended one more at most, and its status is at most 2
+-- the steps that were made and those that remain are at most `most_steps`; after the end there may
+-- be one more, and the status is at most 2
 abbrev pub IsCounted : Option ℕ → ℕ → ℕ → Type 0
 IsCounted None turns left = turns + left ≤ most_steps
 IsCounted (Some status) turns left = (turns ≤ most_steps + 1) × (status ≤ 2)
 
--- what holds of a job between its steps
+-- the invariant of a job between its steps
 abbrev pub IsSound : JobView → Type 0
 IsSound j =
     (j.state.decided + steps_left j.state.inputs ≤ most_steps)
@@ -94,8 +94,8 @@ IsSound j =
     × HasFewTurns j.done j.turns j.state.inputs
     × IsReadyIf j.preparing j
 
--- The result of a step. `exact` holds if contracts know the bytes of the inputs and of the output;
--- the other clauses hold for all devices. Messages and the count of steps don't change.
+-- The result of a step. `exact` applies if contracts know the bytes of the inputs and of the
+-- output; the other clauses apply to all devices. Messages and the count of steps don't change.
 pub record IsStep (inputs_tell output_tells : Bool) (old : JobView) (r : Option JobEnd)
     (new : JobView) : Type 0 where
   pub exact : IsTrue inputs_tell → IsTrue output_tells → StepGives old.state r new.state
@@ -112,12 +112,12 @@ pub record IsStep (inputs_tell output_tells : Bool) (old : JobView) (r : Option 
   pub turns : new.turns ≡ old.turns
   pub done : r ≡ None → new.done ≡ old.done
 
--- the job after this end: these messages, one step more, and the status of the end
+-- the job after this end: with these messages, one more step, and the end's status
 abbrev pub ending : JobEnd → OutputView → JobView → JobView
 ending end err j = record j { err = err; turns = j.turns + 1; done = Some (end_status end) }
 
--- A step was made that isn't counted or reported yet, by a job that was under way and had nothing to
--- prepare.
+-- A job that hadn't ended and had nothing to prepare made a step, which isn't counted or reported
+-- yet.
 pub record IsUncounted (inputs_tell output_tells : Bool) (old : JobView) (r : Option JobEnd)
     (now : JobView) : Type 0 where
   pub step : IsStep inputs_tell output_tells old r now

@@ -24,12 +24,12 @@ report_at input h tally =
       tally = tally;
     }
 
--- a packet is written into the output, unless its verdict is that it is skipped: then nothing is
+-- a packet is written into the output, or skipped if that is the verdict
 abbrev pub Offers : code.Verdict → Captured → Target → Result (Unit {0}) Fault → Target → Type 0
 Offers Verdict.Skip p old r new = (r ≡ Ok tt) × (new ≡ old)
 Offers verdict p old r new = PutsIntoOutput p old r new
 
--- a selector, and the output that what passes is written into
+-- a selector, and the output that kept packets are written into
 pub record Sieve : Type 0 where
   pub selector : PolicyState
   pub output : Target
@@ -38,22 +38,22 @@ pub record Sieve : Type 0 where
 abbrev pub sieve : PolicyState → Target → Sieve
 sieve selector output = record { selector = selector; output = output }
 
--- the verdict on a packet, and the result of writing it if it passes
+-- the verdict on a packet, and the result of writing it if it is kept
 pub record Judges (p : Captured) (number : ℕ) (old : Sieve) (verdict : code.Verdict)
     (put : Result (Unit {0}) Fault) (new : Sieve) : Type 0 where
-  -- as it passes
+  -- the packet as it is kept
   pub packet : Captured
   pub exact : selecting_inside.IsVerdict (judge old.selector.policy old.selector.state number p)
       (Ok verdict) packet new.selector.state
   pub offers : Offers verdict packet old.output put new.output
 
--- how a job ends whose current packet passes and wasn't written: the output failed, or the packet
--- has this fault (its format refuses it, or there was no memory for it)
+-- the end of a job whose current packet is kept but wasn't written: the output failed, or the
+-- packet has this fault (its format refuses it, or memory ran out)
 abbrev pub end_of_failed_write : ℕ → Fault → JobEnd
 end_of_failed_write input WriteFailed = JobEnd.OutputFailed
 end_of_failed_write input fault = JobEnd.FaultIn input fault
 
--- a packet passes, and writing it fails
+-- a packet is kept, and writing it fails
 pub record FailsToWrite (p : Captured) (input number : ℕ) (old : Sieve) (e : JobEnd)
     (new : Sieve) : Type 0 where
   pub verdict : code.Verdict
@@ -70,8 +70,8 @@ pub record Rejects (p : Captured) (input number : ℕ) (old : Sieve) (e : JobEnd
   pub same : new.output ≡ old.output
   pub is : e ≡ JobEnd.FaultIn input fault
 
--- A packet is judged, and written if it passes; or the write fails, or it is refused. There is a
--- current packet.
+-- The current packet, which there is, is judged, and written if it is kept; or the write fails, or
+-- the packet is refused.
 abbrev pub DecidesPacket : Option Captured → (input number : ℕ) → Sieve
     → Result code.Verdict JobEnd → Sieve → Type 0
 DecidesPacket None input number old r new = ⊥
@@ -79,19 +79,19 @@ DecidesPacket (Some p) input number old (Ok verdict) new = Judges p number old v
 DecidesPacket (Some p) input number old (Err e) new =
     FailsToWrite p input number old e new ⊎ Rejects p input number old e new
 
--- how the job ends after a packet with this verdict: the last that passes ends it
+-- how the job ends after a packet with this verdict: at the last one that may be kept
 abbrev pub end_after : code.Verdict → Option JobEnd
 end_after Verdict.PassLast = Some JobEnd.Complete
 end_after verdict = None
 
--- the runs of programs that deciding the current packet cost, and their bound
+-- the number of program runs to decide the current packet, and the bound of their instructions
 abbrev pub Spends : Option Captured → SelectorView → ℕ → SelectorView → Type 0
 Spends None old number new = ⊥
 Spends (Some p) old number new =
     (new.programs ≡ spent_by_verdict old.policy number p old.programs)
     × (spent_in new.programs ≤ spent_in old.programs + most_spent old.policy)
 
--- the job ends if its output failed, and else goes on
+-- the job ends if its output failed; otherwise it goes on
 abbrev pub unless_failed : Result (Unit {0}) DeviceFault → Option JobEnd
 unless_failed (Ok done) = None
 unless_failed (Err fault) = Some JobEnd.OutputFailed
@@ -101,7 +101,7 @@ abbrev pub end_of_write : Result (Unit {0}) DeviceFault → JobEnd
 end_of_write (Ok done) = JobEnd.Complete
 end_of_write (Err fault) = JobEnd.OutputFailed
 
--- an input is reported, and the count begins again
+-- an input is reported, and the tally starts again
 pub record ReportsOn (names : List (List ℕ)) (input : ℕ) (cursor : InputView) (old : Sieve)
     (r : Option JobEnd) (new : Sieve) : Type 0 where
   pub answer : Result (Unit {0}) DeviceFault
@@ -125,6 +125,6 @@ pub record Closes (names : List (List ℕ)) (inputs : InputsView) (input : ℕ) 
   pub among : slice_get inputs.cursors input ≡ Some cursor
   pub by : ClosesBy (asks_report inputs.order old.selector.policy) names input cursor old r new
 
--- the texts of some inputs
+-- the bytes of some inputs
 abbrev pub texts : List InputPast → List (List ℕ)
 texts ss = map (λ (s : InputPast). s.text) ss

@@ -12,7 +12,7 @@ with_name Name.Place rule = rule
 with_name (Name.Letter letter) rule = record rule { short = Some letter }
 with_name (Name.Long long) rule = record rule { long = Some long.now }
 
--- an argument that takes what a row says
+-- an argument that takes the value in a row
 abbrev pub with_value : Choices → Value → Rule → Rule
 with_value choices Value.Flag rule = flag rule
 with_value choices (Value.Text shown) rule = with_one_value rule
@@ -38,7 +38,7 @@ app_by choices row = with_rules (new_app row.name.now) (map (rule_by choices) ro
 abbrev pub shape_by : Choices → CommandRow → Shape
 shape_by choices row = (app_by choices row).top
 
--- the subcommand of a name; what isn't one of the first four is `compile`
+-- the subcommand with this name; any name but the first four is `compile`
 abbrev pub subcommand_of_name : Text → Subcommand
 subcommand_of_name name =
     if bytes_eq name (name_of Subcommand.Edit) then Subcommand.Edit

@@ -19,11 +19,12 @@ abbrev pub is_standard_input : Opened → Bool
 is_standard_input (Opened.File file) = false
 is_standard_input (Opened.Stream stream) = true
 
--- an input that is a file hasn't the number of a standard stream
+-- an input file doesn't have the descriptor of a standard stream
 abbrev pub is_input_beside_streams : Opened → Bool
 is_input_beside_streams (Opened.File file) = is_beside_streams (file_raw_fd file)
 is_input_beside_streams (Opened.Stream stream) = true
 
--- an output's file was missing before the run, which wrote nothing to it: it is removed when it is closed
+-- an output's file didn't exist before the run, which wrote nothing to it: it is removed when it is
+-- closed
 abbrev pub is_new_and_unwritten : OutputFile → Bool
 is_new_and_unwritten output = is_some output.created_as && not output.is_emptied

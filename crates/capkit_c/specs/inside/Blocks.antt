@@ -11,7 +11,7 @@ use Rattle.capkit_c.specs.Layout.{first_interfaces}
 use Rattle.capkit_c.specs.declared.memory.block.{BlockEffect.BlockEffect, BlockRead.BlockRead, Refusal.Refusal}
 use Rattle.capkit_c.specs.declared.memory.{block.UnitPacket.UnitPacket, layout.Interface.Interface}
 
--- the place where the parts of a packet lie in a unit of `size` bytes
+-- the spans of a packet's parts in a unit of `size` bytes
 abbrev pub spans_of : ℕ → UnitPacket → PacketSpans
 spans_of size p = record {
   size = size;
@@ -22,24 +22,24 @@ spans_of size p = record {
   orig = p.orig;
 }
 
--- the link type and the snap length of a packet are those of its interface
+-- link type and snap length of a packet are its interface's
 pub record IsOf (interfaces : List Described) (p : UnitPacket) : Type 0 where
   pub link : option_map (λ (i : Described). i.link) (slice_get interfaces p.interface)
       ≡ Some p.link_type
   pub snap : option_map (λ (i : Described). i.snap) (slice_get interfaces p.interface) ≡ Some p.snap
 
--- the same of a packet, if there is one
+-- the same, if there is a packet
 abbrev pub IsOfIfAny : List Described → Option UnitPacket → Type 0
 IsOfIfAny interfaces None = Unit {0}
 IsOfIfAny interfaces (Some p) = IsOf interfaces p
 
--- if a block of these parts has a packet, it lies in it as the block says
+-- if a block with these parts has a packet, its spans are those that the block states
 abbrev pub LiesIfAny : Parts → Option PacketSpans → Type 0
 LiesIfAny parts None = Unit {0}
 LiesIfAny parts (Some spans) = LieAsSaid parts spans
 
--- the first check that a block fails; or that it declares an interface, and a table with this room
--- is full
+-- the first check that a block fails; or that the table has no room for the interface that it
+-- declares
 abbrev pub IsRefusal : Frame → List Described → List ℕ → ℕ → Refusal → Type 0
 IsRefusal frame interfaces block room (Refusal.Fault fault) =
     IsBlockFault frame interfaces block fault
@@ -47,7 +47,7 @@ IsRefusal frame interfaces block room Refusal.NoRoom =
     (room ≤ length interfaces)
     × ((i : Described) × Enters frame interfaces block None (interfaces ++ i ∷ []))
 
--- a block passes all of its checks; after it these are the interfaces, and this is its packet
+-- a block fails no check, and these are its packet and the interfaces after it
 pub record EntersTable (frame : Frame) (interfaces : List Described) (block : List ℕ)
     (table' : List Interface) (effect : BlockEffect) : Type 0 where
   pub enters : Enters frame interfaces block (option_map (spans_of frame.length) effect.packet)
@@ -57,9 +57,9 @@ pub record EntersTable (frame : Frame) (interfaces : List Described) (block : Li
   pub of : IsOfIfAny interfaces effect.packet
   pub lies : LiesIfAny (parts_in frame block) (option_map (spans_of frame.length) effect.packet)
 
--- ---- a block that a text begins with
+-- ---- a block at the start of some bytes
 
--- this is the frame of the block that a text begins with: it passes its checks
+-- the frame of the block at the start of these bytes, which fails no check
 pub record IsFramed (before : Option Section) (text : List ℕ) (frame : Frame) : Type 0 where
   pub passes : first_failing (frame_checks (order_before before) text) ≡ None
   pub says : frame_after before text ≡ frame
@@ -71,7 +71,7 @@ Following section interfaces P =
     (before : Option Section) → order_before before ≡ section
     → interfaces_before before ≡ interfaces → P before
 
--- a block has one packet, whose parts lie in the block as `held` says
+-- a block has one packet, whose parts are at `held` in it
 pub record BlockPacket (order : Order) (before : Option Section) (block : List ℕ)
     (held : PacketSpans) : Type 0 where
   pub packet : Captured
@@ -79,13 +79,13 @@ pub record BlockPacket (order : Order) (before : Option Section) (block : List �
   pub lies : held_packet order (interfaces_before before) held (span_bytes held.bytes block)
       (span_bytes held.options block) ≡ Some packet
 
--- a block has one packet, whose parts lie in it at these places; without places it has none
+-- a block has one packet, whose parts are at these spans in it; without spans it has none
 abbrev pub BlockPacketIfAny : Order → Option Section → List ℕ → Option PacketSpans → Type 0
 BlockPacketIfAny order before block None = packets_in before block ≡ []
 BlockPacketIfAny order before block (Some held) = BlockPacket order before block held
 
--- a text begins with a block of `size` bytes that passes all of its checks; after it these are the
--- interfaces, and this is its packet
+-- these bytes begin with a block of `size` bytes, which fails no check; these are its packet and
+-- the interfaces after it
 pub record BlockStands (before : Option Section) (text : List ℕ) (order : Order) (size : ℕ)
     (interfaces' : List Described) (packet : Option UnitPacket) : Type 0 where
   pub is_block : IsBlock before (take size text)
@@ -96,7 +96,7 @@ pub record BlockStands (before : Option Section) (text : List ℕ) (order : Orde
   pub some : 0 < size
   pub lies : LiesIfAny (parts_after before text) (option_map (spans_of size) packet)
 
--- the text begins with a block, read after a section of this byte order or after none
+-- these bytes begin with a block, in a section of this byte order or before any section
 pub record BlockIs (section : Option Order) (interfaces : List Described) (text : List ℕ)
     (table' : List Interface) (read : BlockRead) : Type 0 where
   pub stands : Following section interfaces
@@ -106,7 +106,7 @@ pub record BlockIs (section : Option Order) (interfaces : List Described) (text 
   pub upper_bound : read.effect.interfaces ≤ 256
   pub of : IsOfIfAny interfaces read.effect.packet
 
--- the text begins with a block that passes all checks and declares an interface
+-- these bytes begin with a block that fails no check and declares an interface
 pub record Declares (before : Option Section) (text : List ℕ)
     (interfaces : List Described) : Type 0 where
   pub order : Order
@@ -114,8 +114,8 @@ pub record Declares (before : Option Section) (text : List ℕ)
   pub interface : Described
   pub stands : BlockStands before text order size (interfaces ++ interface ∷ []) None
 
--- the text begins with no block that is read: the first check that fails; or the table with this
--- room is full, and the block declares an interface
+-- these bytes begin with no block that can be read: a check fails, the first one being this; or the
+-- table has no room for the interface that it declares
 abbrev pub IsNoBlock : Option Order → List Described → List ℕ → ℕ → Refusal → Type 0
 IsNoBlock section interfaces text room (Refusal.Fault fault) =
     Following section interfaces (λ before. unit_fault before text ≡ Some fault)

@@ -1,4 +1,4 @@
--- The steps of going past a refused unit.
+-- The steps of skipping a refused unit.
 use Rattle.std.specs.Prelude.{◌≡◌, ℕ, ◌+◌, ◌<◌, ◌≤◌, ◌⊎◌, List, [], length, drop, Option, Some, None}
 use Rattle.cap_octet.specs.declared.{fault.Fault.Fault, number.Order.Order}
 use Rattle.cap_io.specs.Capture.{first_link_of}
@@ -21,7 +21,7 @@ pub record HasMoved (capture : List ℕ) (size : ℕ) (form : FileState) (count 
   pub interfaces : r'.interfaces ≡ count
   pub link : HasLink (first_link_of (declared_by form [])) r'
 
--- the same, or the unit is cut, and the reader stays
+-- the same; or the unit is incomplete, and the reader is unchanged
 abbrev pub Moves : List ℕ → (size : ℕ) → FileState → (count : ℕ) → (r r' : Reader) → Skip → Type 0
 Moves capture size form count r r' Skip.Past = HasMoved capture size form count r r'
 Moves capture size form count r r' (Skip.Not found) =
@@ -32,8 +32,8 @@ abbrev pub RefusesForm : Option Section → List ℕ → Type 0
 RefusesForm before text =
     (fault : Fault) → unit_fault before text ≡ Some fault → refused_part fault ≡ RefusedPart.Form
 
--- the frame of the whole block that a text begins with, in a section of this byte order; None if the
--- form is refused
+-- the frame of the complete block at the start of these bytes, in a section of this byte order;
+-- None if its form is refused
 abbrev pub IsWholeFrame : Order → List ℕ → Option Frame → Type 0
 IsWholeFrame order text None =
     (before : Option Section) → order_before before ≡ Some order → RefusesForm before text
@@ -41,15 +41,15 @@ IsWholeFrame order text (Some frame) =
     (12 ≤ frame.length) × (frame.length ≤ length text)
     × ((before : Option Section) → order_before before ≡ Some order → IsFramed before text frame)
 
--- the description block of this frame that a text begins with describes this interface, except what
--- its options say, which aren't read
+-- the description block with this frame at the start of these bytes describes this interface,
+-- except for its options, which aren't read
 pub record Describes (frame : Frame) (text : List ℕ) (i : Interface) : Type 0 where
   pub described : description_of i ≡ unread_interface i.link i.snap
   pub order : Order
   pub options : List ℕ
   pub parts : parts_in frame text ≡ InterfaceParts i.link i.snap order options
 
--- the interface of the block of this frame that a text begins with; None if the block isn't a
+-- the interface of the block with this frame at the start of these bytes; None if the block isn't a
 -- description, or its form is refused
 abbrev pub IsUnread : Frame → List ℕ → Option Interface → Type 0
 IsUnread frame text None =

@@ -1,4 +1,4 @@
--- The place where a unit's parts lie in a buffer.
+-- The places of a unit's parts in a buffer.
 use Rattle.std.specs.Prelude.{◌≡◌, ℕ, ◌+◌, ◌<◌, ◌≤◌, List, [], ◌∷◌, length, take, drop, Option, Some, None, true}
 use Rattle.cap_octet.specs.{Packet.Captured, declared.number.Order.Order}
 use Rattle.cap_pcapng.specs.Interface.{Described}
@@ -10,7 +10,8 @@ use Rattle.capkit_c.specs.declared.memory.block.{Refusal.Refusal, UnitPacket.Uni
 use Rattle.capkit_c.specs.declared.memory.layout.{Interface.Interface, Packet.Packet, Reader.Reader}
 use Rattle.capkit_c.specs.{declared.memory.reader.ReadUnit.ReadUnit, inside.Blocks.spans_of}
 
--- a packet of a unit of this size, which begins a text, and the places of its parts in the unit
+-- a packet of the unit of this size at the start of these bytes, and the spans of its parts in the
+-- unit
 pub record IsPlaced (declared : Declared) (text : List ℕ) (size : ℕ) (p : UnitPacket)
     (q : Captured) : Type 0 where
   pub link : q.link ≡ p.link_type
@@ -24,13 +25,13 @@ pub record IsPlaced (declared : Declared) (text : List ℕ) (size : ℕ) (p : Un
   pub options : p.options_start + p.options_length ≤ size
   pub lies : UnitHas declared text (spans_of size p)
 
--- these are the packets of a unit: one, as its parts lie in it, or none
+-- the packets of a unit: one whose parts lie there, or none
 abbrev pub ArePlaced : Declared → List ℕ → ℕ → Option UnitPacket → List Captured → Type 0
 ArePlaced declared text size None packets = packets ≡ []
 ArePlaced declared text size (Some p) packets =
     (q : Captured) × (packets ≡ q ∷ []) × IsPlaced declared text size p q
 
--- a text begins with a unit: what it declares, and its packet
+-- these bytes begin with a unit: what it declares, and its packet
 pub record BeginsWithUnit (form : FileState) (interfaces : List Described) (text : List ℕ)
     (table' : List Interface) (step : ReadUnit) : Type 0 where
   pub packets : List Captured
@@ -45,8 +46,8 @@ pub record BeginsWithUnit (form : FileState) (interfaces : List Described) (text
   pub known : step.interfaces ≤ length table'
   pub upper_bound : step.interfaces ≤ 256
 
--- a text begins with no unit that is read, but with a fault; or with an interface that a full table
--- has no room for
+-- these bytes begin with no unit that can be read: there is a fault, or the table has no room for
+-- its interface
 abbrev pub IsNoUnit : FileState → List Described → List ℕ → ℕ → Refusal → Type 0
 IsNoUnit form interfaces text room (Refusal.Fault fault) =
     front_of (declared_by form interfaces) text ≡ NoUnit (Some fault)
@@ -62,7 +63,7 @@ Begins (FileState.Pcap head) section first interfaces text = ⊥
 Begins (FileState.Pcapng order link) section first interfaces text =
     (section ≡ Some order) × (first ≡ link) × (0 < length text)
 
--- if a unit was read before, something is left
+-- if a unit was read before, some bytes remain
 abbrev pub IsSomeFor : FileState → List ℕ → Type 0
 IsSomeFor FileState.Unknown text = Unit {0}
 IsSomeFor (FileState.Pcap head) text = 0 < length text
@@ -74,7 +75,7 @@ IsBare FileState.Unknown count = count ≡ 0
 IsBare (FileState.Pcap head) count = Unit {0}
 IsBare (FileState.Pcapng order link) count = Unit {0}
 
--- a packet of the unit at a place of the capture, with its places from the capture's start
+-- a packet of the unit at an offset of the capture, with offsets from the capture's start
 abbrev pub placed_packet : ℕ → UnitPacket → Packet
 placed_packet at p = record {
   time = p.time;

@@ -2,18 +2,18 @@
 use Rattle.std.specs.Prelude.{Bool, false, ◌&&◌, ◌||◌, ◌==◌, List, [], ◌∷◌}
 use Rattle.flt_ast.specs.{Checks.is_division, declared.node.Node.Node}
 
--- the node is the number 0, as it is written
+-- whether the node is literally the number 0
 abbrev pub is_zero_node : Node → Bool
 is_zero_node (Node.Literal n) = n == 0
 is_zero_node _ = false
 
--- the node divides, or takes a remainder
+-- whether the node is a division or a remainder
 abbrev pub is_division_node : Node → Bool
 is_division_node (Node.Apply o) = is_division o
 is_division_node _ = false
 
--- some division is right after the number 0, its divisor; `before` says whether the node before
--- these is that number
+-- whether some division comes right after its divisor 0; `before` states whether the node before
+-- these is 0
 abbrev pub some_zero_divisor : Bool → List Node → Bool
 some_zero_divisor before [] = false
 some_zero_divisor before (n ∷ rest) =

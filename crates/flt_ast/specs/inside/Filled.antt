@@ -2,12 +2,12 @@
 use Rattle.std.specs.Prelude.{List, [], ◌∷◌}
 use Rattle.flt_ast.specs.declared.{node.Node.Node, qualifiers.Qualifiers.Qualifiers}
 
--- the latest qualifiers that are written, after one more node; q were the latest before it
+-- the latest given qualifiers after one more node; q before it
 abbrev pub next_latest : Qualifiers → Node → Qualifiers
 next_latest q (Node.Valued p v) = p
 next_latest q _ = q
 
--- a node, which takes these qualifiers if it is a bare value
+-- a node; if it is a bare value, with these qualifiers
 abbrev pub inherited_node : Qualifiers → Node → Node
 inherited_node q (Node.Bare v) = Node.Valued q v
 inherited_node q n = n

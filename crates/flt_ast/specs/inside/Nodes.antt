@@ -1,11 +1,11 @@
--- A tree's nodes, latest first.
+-- A tree's nodes, latest first, and that they lead back to the tree.
 use Rattle.std.specs.Prelude.{◌≡◌, List, [], ◌∷◌, fold, refl}
 use Rattle.std.proofs.Common.{ap, ◌∙◌}
 use Rattle.flt_ast.specs.Nodes.{number_nodes, truth_nodes, expr_nodes, Trees, with_number, with_truth, with_node, first_truth, tree_of}
 use Rattle.flt_ast.specs.Tree.{NumberTree, literal, len, named, load, negated, applied, TruthTree, check, cast, sized, bare, valued, qualified, compared, denied, joined, Expression, empty, truth}
 use Rattle.flt_ast.specs.declared.node.Node.{Node}
 
--- the nodes of a number, latest first, before those that were written earlier
+-- the nodes of a number, latest first, before earlier ones
 abbrev pub number_onto : NumberTree → List Node → List Node
 number_onto (literal n) d = Node.Literal n ∷ d
 number_onto len d = Node.Len ∷ d
@@ -14,7 +14,7 @@ number_onto (load p s a) d = Node.Load p s ∷ number_onto a d
 number_onto (negated a) d = Node.Negate ∷ number_onto a d
 number_onto (applied o a b) d = Node.Apply o ∷ number_onto b (number_onto a d)
 
--- the nodes of a truth, latest first, before those that were written earlier
+-- the nodes of a truth, latest first, before earlier ones
 abbrev pub truth_onto : TruthTree → List Node → List Node
 truth_onto (check p) d = Node.Check p ∷ d
 truth_onto (cast p c) d = Node.Cast p c ∷ d

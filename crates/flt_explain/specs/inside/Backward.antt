@@ -11,30 +11,30 @@ use Rattle.flt_explain.specs.declared.backward.Pending.{Pending}
 use Rattle.flt_explain.specs.declared.backward.Pending.TheVariants.{Front, Between}
 use Rattle.flt_explain.specs.Explained.{close_operand, truth_tokens}
 
--- what waits, latest first, and the tokens so far
+-- what is pending, latest first, and the tokens so far
 pub record WriterState : Type 0 where
   pub pending : List Pending
   pub tokens : List TokenKind
 
--- an operand is written: now also what waits in front of it, up to and with what stands between it
--- and the operand on its left
+-- after an operand is written, what is pending before it is written too, up to what comes between
+-- it and the operand on its left
 abbrev pub write_pending : List Pending → List TokenKind → WriterState
 write_pending [] ts = record { pending = []; tokens = ts }
 write_pending (Front t ∷ ps) ts = write_pending ps (t ∷ ts)
 write_pending (Between t ∷ ps) ts = record { pending = ps; tokens = t ∷ ts }
 
--- what waits, and the `(` before it if a node is an operand
+-- what is pending, and the `(` before it if a node is an operand
 abbrev pub parenthesis_before : Bool → List Pending → List Pending
 parenthesis_before true ps = Front token.Open ∷ ps
 parenthesis_before false ps = ps
 
--- a node with operands, which are written next: what stands before or between them waits. If the
--- node is an operand, the `)` after them is written, and the `(` before them waits, too
+-- A node whose operands are written next: what comes before or between them is pending. If the node
+-- is an operand, the `)` after them is written, and the `(` before them is pending too.
 abbrev pub around : Bool → Pending → WriterState → WriterState
 around operand p s =
     record { pending = p ∷ parenthesis_before operand s.pending; tokens = close_operand operand s.tokens }
 
--- a primitive is written, and what waits for it
+-- a primitive is written, and then what is pending before it
 abbrev pub with_primitive : Bool → TruthTree → WriterState → WriterState
 with_primitive operand a s = write_pending s.pending (truth_tokens operand a s.tokens)
 
@@ -60,13 +60,13 @@ write_node operand (node.Load p z) s =
 write_node operand node.Negate s = around true (Front (token.Operator Subtract)) s
 write_node operand (node.Apply o) s = around true (Between (token.Operator o)) s
 
--- some node is left
+-- whether nodes remain
 abbrev pub is_more : List Node → Bool
 is_more [] = false
 is_more (n ∷ rest) = true
 
--- what waits and the tokens, once the nodes from a place on are written; the last one isn't an
--- operand
+-- what is pending and the tokens, once the nodes from an index on are written; the last one isn't
+-- an operand
 abbrev pub write_nodes : List Node → WriterState
 write_nodes [] = record { pending = []; tokens = [] }
 write_nodes (n ∷ rest) = write_node (is_more rest) n (write_nodes rest)

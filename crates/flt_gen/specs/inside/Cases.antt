@@ -140,7 +140,7 @@ abbrev pub middle : (Case → List Elementary) → ℕ → List Case → ℕ
 middle tests word cs =
     let n = lowest (test_at tests word cs (length cs / 2)) in
     let at = count_by (λ c. nat_lt (lowest (word_test tests word c)) n) cs in
-    if at == 0 then count_by (λ c. nat_le (lowest (word_test tests word c)) n) cs else at
+    if at == 0 then count_by (λ c. nat_lt (lowest (word_test tests word c)) (n + 1)) cs else at
 
 -- cases from a place on are parted from those before by their words
 abbrev pub is_parted : (Case → List Elementary) → ℕ → List Case → ℕ → Bool

@@ -9,11 +9,11 @@ use Rattle.flt_ast.specs.declared.qualifiers.CompleteQualifiers.{CompleteQualifi
 use Rattle.flt_ast.specs.declared.{qualifiers.Direction.Direction, value.Value.Value}
 use Rattle.cap_octet.specs.{Link.network_offset, declared.link.Link.Link}
 use Rattle.flt_gen.specs.Elementary.{kind_test}
-use Rattle.flt_gen.specs.Formula.{Formula, Compare, checked_formula, sides}
-use Rattle.flt_gen.specs.Primitives.{after, ip6_tests, value_formula}
+use Rattle.flt_gen.specs.Formula.{Formula, Compare, Sought, Numbers, checked_formula, sides}
+use Rattle.flt_gen.specs.Primitives.{after, ip6_tests, value_formula, in_net, is_port, in_range}
 use Rattle.flt_gen.specs.declared.elementary.Elementary.{Elementary}
 use Rattle.flt_gen.specs.declared.elementary.Elementary.TheVariants.{Outcome, Field}
-use Rattle.flt_gen.specs.declared.elementary.FrameKind.{FrameKind}
+use Rattle.flt_gen.specs.declared.{elementary.FrameKind.FrameKind, elementary.Sides.Sides, wanted.Wanted.Wanted}
 
 -- ---- the tests of a protocol's accessors stand once in front of a comparison
 
@@ -107,3 +107,12 @@ value_needed link value_type protocol direction v =
 -- a value with all its qualifiers, without the tests that decide nothing
 abbrev pub qualified_needed : Link → CompleteQualifiers → Value → Formula
 qualified_needed link q v = value_needed link q.value_type q.protocol q.direction v
+
+-- ---- one value, or several numbers
+
+-- what is looked for at the places of addresses or ports
+abbrev pub wanted_formula : Wanted → Numbers → Sides → Formula
+wanted_formula (Wanted.Net direction mask address) numbers = in_net direction mask address
+wanted_formula (Wanted.Port direction n) numbers = is_port direction n
+wanted_formula (Wanted.Ports direction a b) numbers = in_range direction a b
+wanted_formula (Wanted.Several direction) numbers = λ at. Sought direction at numbers

@@ -3,7 +3,6 @@
 use Rattle.std.specs.Prelude.{ℕ, ◌+◌, ◌-◌, ◌^◌, ◌==◌, nat_lt, nat_le, min, max, bit_and, not, Bool, true, false, ◌&&◌, if◌then◌else◌, List, [], ◌∷◌, length, is_none, Option, Some, None}
 use Rattle.flt_words.specs.declared.token.Join.TheVariants.{And, Or}
 use Rattle.flt_words.specs.declared.token.Protocol.{Protocol}
-use Rattle.flt_words.specs.declared.token.Protocol.TheVariants.{Ip, Arp, Rarp, Tcp, Udp}
 use Rattle.flt_words.specs.declared.token.Side.TheVariants.{Source, Destination}
 use Rattle.flt_words.specs.declared.token.ValueType.{ValueType}
 use Rattle.flt_words.specs.declared.token.ValueType.TheVariants.{Host, Net, Port, PortRange}
@@ -15,14 +14,14 @@ use Rattle.flt_ast.specs.declared.qualifiers.Direction.{Direction}
 use Rattle.flt_ast.specs.declared.value.{Ip4Net.Ip4Net, Value.Value}
 use Rattle.cap_octet.specs.declared.link.Link.{Link}
 use Rattle.flt_gen.specs.Elementary.{with}
-use Rattle.flt_gen.specs.Formula.{Formula, Single, Both, Either, Except, Numbers, no_interval, guarded_formula}
-use Rattle.flt_gen.specs.Primitives.{hosts_formula, port_test, port_formula}
-use Rattle.flt_gen.specs.{Numbers.accessor_tests, Reading.formula, declared.address.Hosts.Hosts, declared.cases.Case.Case}
+use Rattle.flt_gen.specs.Formula.{Formula, Single, Both, Either, Except, Sought, Numbers, guarded_formula}
+use Rattle.flt_gen.specs.Primitives.{hosts_formula, port_formula}
+use Rattle.flt_gen.specs.{Numbers.accessor_tests, Reading.formula, declared.cases.Case.Case}
 use Rattle.flt_gen.specs.declared.elementary.{Elementary.TheVariants.Outcome, Interval.Interval}
-use Rattle.flt_gen.specs.declared.{group.Entry.Entry, port.Ports.TheVariants.Several}
+use Rattle.flt_gen.specs.declared.group.Entry.{Entry}
 use Rattle.flt_gen.specs.inside.Cases.{case_of, same_words, insert_case, are_either, cases_formula}
-use Rattle.flt_gen.specs.inside.Emitted.{relation_formula, qualified_needed}
-use Rattle.flt_gen.specs.inside.Intervals.{insert_ascending, sought}
+use Rattle.flt_gen.specs.inside.Emitted.{equals, relation_formula, qualified_needed}
+use Rattle.flt_gen.specs.inside.Intervals.{no_interval, insert_ascending, sought}
 use Rattle.flt_gen.specs.inside.Relations.{relation_of, relation_test}
 
 -- the qualifiers of the member that stands first, whether each member is one number, the numbers of
@@ -93,14 +92,10 @@ same_type PortRange Port = true
 same_type PortRange PortRange = true
 same_type _ _ = false
 
--- both have no protocol, or the same of ip, arp, rarp, tcp and udp
+-- both have no protocol, or the same
 abbrev pub same_protocol : Option Protocol → Option Protocol → Bool
 same_protocol None None = true
-same_protocol (Some Ip) (Some Ip) = true
-same_protocol (Some Arp) (Some Arp) = true
-same_protocol (Some Rarp) (Some Rarp) = true
-same_protocol (Some Tcp) (Some Tcp) = true
-same_protocol (Some Udp) (Some Udp) = true
+same_protocol (Some p) (Some q) = equals p q
 same_protocol _ _ = false
 
 -- both have the same direction; `src and dst` counts as never the same
@@ -219,14 +214,14 @@ is_searched group =
     nat_le (fewest group.case group.qualifiers.direction group.is_plain) (length group.entries)
 
 -- addresses of IPv4 are looked for
-abbrev pub is_address : ValueType → Bool
-is_address Host = true
-is_address Net = true
-is_address _ = false
+abbrev pub has_addresses : ValueType → Bool
+has_addresses Host = true
+has_addresses Net = true
+has_addresses _ = false
 
 -- networks are looked for, not only hosts or ports
 abbrev pub has_networks : Group → Bool
-has_networks group = is_address group.qualifiers.value_type && not group.is_plain
+has_networks group = has_addresses group.qualifiers.value_type && not group.is_plain
 
 -- the numbers that the members look for
 abbrev pub numbers_of : Group → Numbers
@@ -235,13 +230,13 @@ numbers_of group = sought (has_networks group) group.first group.all
 -- one of several members with these numbers
 abbrev pub several_formula : Link → CompleteQualifiers → ValueType → Numbers → Formula
 several_formula link q Host numbers =
-    hosts_formula link q.protocol (Hosts.Several q.direction) numbers
+    hosts_formula link q.protocol (λ at. Sought q.direction at numbers)
 several_formula link q Net numbers =
-    hosts_formula link q.protocol (Hosts.Several q.direction) numbers
+    hosts_formula link q.protocol (λ at. Sought q.direction at numbers)
 several_formula link q Port numbers =
-    port_formula link (port_test q.protocol q.direction Several) numbers
+    port_formula link q.protocol (λ at. Sought q.direction at numbers)
 several_formula link q PortRange numbers =
-    port_formula link (port_test q.protocol q.direction Several) numbers
+    port_formula link q.protocol (λ at. Sought q.direction at numbers)
 several_formula link q _ numbers = Single (Outcome false)
 
 -- a member by itself

@@ -3,6 +3,10 @@ use Rattle.std.specs.List.{list_all}
 use Rattle.std.specs.Prelude.{ℕ, zero, suc, ◌-◌, ◌^◌, ◌==◌, ◌&&◌, nat_lt, max, bit_and, Bool, if◌then◌else◌, List, [], ◌∷◌, map, count_by, Option, Some, None}
 use Rattle.flt_gen.specs.{Formula.Numbers, declared.elementary.Interval.Interval}
 
+-- an interval that nothing looks for
+abbrev pub no_interval : Interval
+no_interval = record { low = 0; high = 0 }
+
 -- an interval is put among others that ascend
 abbrev pub insert_ascending : Interval → List Interval → List Interval
 insert_ascending i [] = i ∷ []

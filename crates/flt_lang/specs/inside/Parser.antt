@@ -12,7 +12,7 @@ use Rattle.flt_lang.specs.declared.frame.{Frame.Frame, Operand.Operand, Sort.Sor
 use Rattle.flt_lang.specs.declared.primitive.ProtocolRole.{ProtocolRole}
 use Rattle.flt_lang.specs.inside.Values.{qualifiers_of, value_of}
 
--- what the parser keeps: the frames that wait and the nodes that are written
+-- the parser's state: the frames that wait, and the nodes written
 pub record ReaderState : Type 0 where
   pub frames : List Frame
   pub nodes : List Node
@@ -31,8 +31,8 @@ precedence Frame.Not = 6
 precedence (Frame.Join j) = 7
 precedence _ = 9
 
--- the precedence of the loosest operand that the latest frame takes; without a frame, of the
--- loosest one that a whole expression is
+-- the precedence of the loosest operand that the latest frame takes; without a frame, that of a
+-- whole expression
 abbrev pub operand_precedence : List Frame → ℕ
 operand_precedence [] = 7
 operand_precedence (Frame.Negate ∷ fs) = 0
@@ -43,8 +43,8 @@ operand_precedence (Frame.Join j ∷ fs) = 6
 operand_precedence (Frame.Open ∷ fs) = 7
 operand_precedence (Frame.Load p ∷ fs) = 4
 
--- how loosely the next token binds the operand before it; 1 for a token that no operand may have
--- after it
+-- how loosely the next token binds the operand before it; 1 for a token that can't follow an
+-- operand
 abbrev pub token_precedence : TokenKind → ℕ
 token_precedence (TokenKind.Operator o) = level o + 1
 token_precedence (TokenKind.Comparison c) = 5
@@ -54,7 +54,7 @@ token_precedence TokenKind.CloseBracket = 8
 token_precedence TokenKind.Colon = 8
 token_precedence _ = 1
 
--- how loosely the next token binds the operand before it; the end is as a closing one
+-- how loosely the next token binds the operand before it; at the end as for a closing one
 abbrev pub next_precedence : List TokenKind → ℕ
 next_precedence [] = 8
 next_precedence (t ∷ ts) = token_precedence t
@@ -64,7 +64,7 @@ abbrev pub prefix_mask : Option ℕ → NetMask
 prefix_mask None = NetMask.Unwritten
 prefix_mask (Some m) = NetMask.Prefix m
 
--- the nodes once the operand is taken for a number, or none if it can't be one
+-- the nodes after an operand is used as a number; None if it can't be one
 abbrev pub as_number : Operand → List Node → Option (List Node)
 as_number Operand.Truth d = None
 as_number Operand.Number d = Some d
@@ -73,35 +73,35 @@ as_number (Operand.Either n None) d = Some (Node.Literal n ∷ d)
 as_number (Operand.Either n (Some m)) d =
     Some (Node.Apply Divide ∷ Node.Literal m ∷ Node.Literal n ∷ d)
 
--- the nodes once the operand is taken for a truth, or none if it can't be one
+-- the nodes after an operand is used as a truth; None if it can't be one
 abbrev pub as_truth : Operand → List Node → Option (List Node)
 as_truth Operand.Truth d = Some d
 as_truth Operand.Number d = None
 as_truth (Operand.Plain n) d = Some (Node.Bare (Value.Number n NetMask.Unwritten) ∷ d)
 as_truth (Operand.Either n m) d = Some (Node.Bare (Value.Number n (prefix_mask m)) ∷ d)
 
--- the nodes once the operand is taken for one of this sort, or none if it can't be
+-- the nodes after an operand is used as one of this sort; None if it can't be
 abbrev pub as_sort : Sort → Operand → List Node → Option (List Node)
 as_sort Sort.Truth x d = as_truth x d
 as_sort Sort.Number x d = as_number x d
 
--- an operand that is read, and the nodes so far
+-- an operand that was read, and the nodes so far
 abbrev pub Read : Type 0
 Read = Operand × List Node
 
--- a node after those of its operands, which with it are the operand `y`; none if an operand was
--- of the other sort
+-- a node after those of its operands, with which it is the operand `y`; None if an operand was of
+-- the other sort
 abbrev pub after_node : Operand → Node → Option (List Node) → Option Read
 after_node y n o = o >>= λ e. Some (y, n ∷ e)
 
--- of which sort the operands of a frame are; `(` has either sort in it, and isn't asked
+-- the sort of a frame's operands; arbitrary for `(`, which takes either
 abbrev pub sort_of : Frame → Sort
 sort_of Frame.Not = Sort.Truth
 sort_of (Frame.Join j) = Sort.Truth
 sort_of Frame.Open = Sort.Truth
 sort_of _ = Sort.Number
 
--- the node of a frame and the operand that it makes, or none if a token closes the frame
+-- the node of a frame, and the operand that it makes; None if a token closes the frame
 abbrev pub node_of : Frame → Option (Node × Operand)
 node_of Frame.Negate = Some (Node.Negate, Operand.Number)
 node_of (Frame.Apply o) = Some (Node.Apply o, Operand.Number)
@@ -110,17 +110,16 @@ node_of Frame.Not = Some (Node.Not, Operand.Truth)
 node_of (Frame.Join j) = Some (Node.Join j, Operand.Truth)
 node_of _ = None
 
--- a frame is completed with its last operand: the operand that the two are together, and the nodes;
--- none if a token closes the frame, or the operand is of the other sort
+-- a frame is completed with its last operand: the operand that they make together, and the nodes;
+-- None if a token closes the frame, or the operand is of the other sort
 abbrev pub fill_frame : Frame → Operand → List Node → Option Read
 fill_frame f x d = node_of f >>= λ w. after_node w.1 w.0 (as_sort (sort_of f) x d)
 
--- the frames that are left, the operand that the others made, and the nodes
+-- the remaining frames, the operand that the others made, and the nodes
 abbrev pub Reduced : Type 0
 Reduced = List Frame × Operand × List Node
 
--- the frames are completed, the latest first, as long as they bind at least as tightly as m; none
--- if one of these can't be
+-- the frames that bind at least as tightly as m are completed, latest first; None if one can't be
 abbrev pub reduce : ℕ → List Frame → Operand → List Node → Option Reduced
 reduce m [] x d = Some ([], x, d)
 reduce m (f ∷ fs) x d =
@@ -132,11 +131,11 @@ abbrev pub IsLoose : ℕ → List Frame → Type 0
 IsLoose m [] = Unit {0}
 IsLoose m (f ∷ fs) = m < precedence f
 
--- the frames, the operand that was read, or none if one must begin, and the nodes
+-- the frames, the operand that was read (None if one must begin), and the nodes
 abbrev pub State : Type 0
 State = List Frame × Option Operand × List Node
 
--- how many more tokens than one are used up, and the state after them
+-- how many tokens after the first are used, and the state after them
 abbrev pub Begun : Type 0
 Begun = ℕ × State
 
@@ -145,32 +144,32 @@ abbrev pub enclosed_operand : Operand → Operand
 enclosed_operand (Operand.Plain n) = Operand.Either n None
 enclosed_operand x = x
 
--- a frame that waits for its right operand, after its left one of the same sort; none if the
--- left one is of the other sort, or the latest frame takes no operand that binds this loosely
+-- a frame that waits for its right operand, after its left one of the same sort; None if the left
+-- one is of the other sort, or the latest frame takes no operand that binds this loosely
 abbrev pub after_operator : Frame → List Frame → Operand → List Node → Option Begun
 after_operator f fs x d =
     if nat_le (precedence f) (operand_precedence fs) then
     (as_sort (sort_of f) x d >>= λ e. Some (0, (f ∷ fs, None, e))) else None
 
--- the load that is the latest frame takes its index and reads `size` bytes; `more` tokens more than
--- one are used up. None if that is another frame, or the index isn't a number
+-- the latest frame, a load, takes its index and reads `size` bytes; `more` tokens after the first
+-- are used. None if the latest frame isn't a load, or the index isn't a number.
 abbrev pub after_load : ℕ → ℕ → List Frame → Operand → List Node → Option Begun
 after_load more size (Frame.Load p ∷ fs) x d =
     as_number x d >>= λ e. Some (more, (fs, Some Operand.Number, Node.Load p size ∷ e))
 after_load more size _ x d = None
 
--- the size of an accessor after its colon, or none if no number with `]` after it follows
+-- the size of an accessor after its colon; None unless a number and then `]` follow
 abbrev pub accessor_size : List TokenKind → Option ℕ
 accessor_size (TokenKind.Number n ∷ TokenKind.CloseBracket ∷ ts) = Some n
 accessor_size _ = None
 
--- the parenthesis that is the latest frame is closed; none if that is another frame
+-- the latest frame, a parenthesis, is closed; None if it isn't one
 abbrev pub after_close : List Frame → Operand → List Node → Option Begun
 after_close (Frame.Open ∷ fs) x d = Some (0, (fs, Some (enclosed_operand x), d))
 after_close _ x d = None
 
--- the state after a token that follows an operand, by the tokens after that token too; none if
--- no such token may stand there
+-- the state after a token that follows an operand, and sometimes tokens after it; None if no such
+-- token may follow
 abbrev pub after_token_at : TokenKind → List TokenKind → List Frame → Operand → List Node
     → Option Begun
 after_token_at (TokenKind.Operator o) ts fs x d = after_operator (Frame.Apply o) fs x d
@@ -186,54 +185,54 @@ abbrev pub after_token : List TokenKind → List Frame → Operand → List Node
 after_token [] fs x d = None
 after_token (t ∷ ts) fs x d = after_token_at t ts fs x d
 
--- how many tokens more than one a primitive takes, its operand, and the nodes
+-- how many tokens after the first a primitive takes, its operand, and the nodes
 abbrev pub Primitive : Type 0
 Primitive = ℕ × Option Operand × List Node
 
--- a value with its qualifiers, and how many tokens more than one they are; none if no value
--- comes after the qualifiers
+-- a value with its qualifiers, and how many tokens after the first they are; None if no value
+-- follows the qualifiers
 abbrev pub valued_of : List TokenKind → Option (Qualifiers × Value × ℕ)
 valued_of ts =
     let q = qualifiers_of ts in
     value_of q.1 >>= λ r. Some (q.0, r.0, length ts - length r.1 - 1)
 
--- only a protocol, or none if it may not stand alone or there is none
+-- a protocol by itself; None if there is none, or it may not be by itself
 abbrev pub check_of : List TokenKind → List Node → Option Primitive
 check_of (TokenKind.Protocol p ∷ ts) d =
     if stands_alone p then Some (0, Some Operand.Truth, Node.Check p ∷ d) else None
 check_of _ d = None
 
--- this value with its qualifiers, or else only a protocol
+-- this value with its qualifiers, or else a protocol by itself
 abbrev pub valued_or : Option (Qualifiers × Value × ℕ) → List TokenKind → List Node
     → Option Primitive
 valued_or (Some r) ts d = Some (r.2, Some Operand.Truth, Node.Valued r.0 r.1 ∷ d)
 valued_or None ts d = check_of ts d
 
--- a value with its qualifiers, or else only a protocol
+-- a value with its qualifiers, or else a protocol by itself
 abbrev pub primitive : List TokenKind → List Node → Option Primitive
 primitive ts d = valued_or (valued_of ts) ts d
 
--- a value without qualifiers, or none if the tokens begin with none
+-- a value without qualifiers; None if the tokens begin with none
 abbrev pub bare_of : List TokenKind → List Node → Option Primitive
 bare_of ts d =
     value_of ts >>= λ r. Some (length ts - length r.1 - 1, Some Operand.Truth, Node.Bare r.0 ∷ d)
 
--- a truth that is one node, and how many tokens more than one it takes
+-- a truth of one node, and how many tokens after the first it takes
 abbrev pub one_node : List Node → Option (Node × ℕ) → Option Primitive
 one_node d None = None
 one_node d (Some r) = Some (r.1, Some Operand.Truth, r.0 ∷ d)
 
--- a primitive that was read, where these frames wait
+-- a primitive that was read, while these frames wait
 abbrev pub with_frames : List Frame → Option Primitive → Option Begun
 with_frames fs o = o >>= λ r. Some (r.0, (fs, r.1, r.2))
 
--- what a protocol is there for, by the token after it
+-- the role of a protocol, by the token after it
 abbrev pub protocol_role : List TokenKind → ProtocolRole
 protocol_role (t ∷ TokenKind.OpenBracket ∷ ts) = ProtocolRole.Bracket
 protocol_role (t ∷ TokenKind.Cast c ∷ ts) = ProtocolRole.Cast c
 protocol_role _ = ProtocolRole.Other
 
--- a protocol begins an operand: an accessor, a cast, or another primitive; none if it may not
+-- a protocol begins an operand: an accessor, a cast, or another primitive; None if it can't
 abbrev pub protocol_begins : Protocol → ProtocolRole → List TokenKind → List Frame → List Node
     → Option Begun
 protocol_begins p ProtocolRole.Bracket ts fs d =
@@ -242,7 +241,7 @@ protocol_begins p (ProtocolRole.Cast c) ts fs d =
     if has_casts p then Some (1, (fs, Some Operand.Truth, Node.Cast (Some p) c ∷ d)) else None
 protocol_begins p ProtocolRole.Other ts fs d = with_frames fs (primitive ts d)
 
--- a number begins an operand: a network's with `mask D`, or one that may become either sort
+-- a number begins an operand: a network with `mask D`, or a number that may become either sort
 abbrev pub number_primitive : List TokenKind → List Node → Option Primitive
 number_primitive (TokenKind.Number n ∷ TokenKind.Mask ∷ TokenKind.Dotted a p ∷ ts) d =
     bare_of (TokenKind.Number n ∷ TokenKind.Mask ∷ TokenKind.Dotted a p ∷ ts) d
@@ -255,8 +254,8 @@ sized_of (TokenKind.Size s ∷ TokenKind.Number n ∷ ts) d =
     Some (1, Some Operand.Truth, Node.Sized s n ∷ d)
 sized_of _ d = None
 
--- the state after the tokens at the beginning of an operand, of which this one is the first; none
--- if none begins like this
+-- the state after the first tokens of an operand, of which this one is the first; None if no
+-- operand begins with it
 abbrev pub begin_at : TokenKind → List TokenKind → List Frame → List Node → Option Begun
 begin_at (TokenKind.Protocol p) ts fs d = protocol_begins p (protocol_role ts) ts fs d
 begin_at (TokenKind.Side s) ts fs d = with_frames fs (primitive ts d)
@@ -276,24 +275,24 @@ begin_at (TokenKind.Operator Subtract) ts fs d = Some (0, (Frame.Negate ∷ fs, 
 begin_at TokenKind.Open ts fs d = Some (0, (Frame.Open ∷ fs, None, d))
 begin_at _ ts fs d = None
 
--- the state after the tokens at the beginning of an operand, or none if none begins
+-- the state after the first tokens of an operand; None if none begins here
 abbrev pub begin : List TokenKind → List Frame → List Node → Option Begun
 begin [] fs d = None
 begin (t ∷ ts) fs d = begin_at t (t ∷ ts) fs d
 
--- a plain number, and the length of a prefix that is written after it, or none if one is missing
+-- a plain number, and the length of a prefix that follows it; None if one is missing
 abbrev pub number_with_prefix : Operand → List TokenKind → Option (ℕ × ℕ)
 number_with_prefix (Operand.Plain n) (TokenKind.Operator Divide ∷ TokenKind.Number m ∷ ts) =
     Some (n, m)
 number_with_prefix _ _ = None
 
--- the state after the token that follows an operand, and of a colon after the size and the bracket
--- too, once the frames that bind at least as tightly as that token have taken the operand
+-- the state after the token that follows an operand (after a colon, after the size and the bracket
+-- too), once the frames that bind at least as tightly as that token have taken the operand
 abbrev pub next_of : List TokenKind → List Frame → Operand → List Node → Option Begun
 next_of ts fs x d = reduce (next_precedence ts) fs x d >>= λ r. after_token ts r.0 r.1 r.2
 
--- a number takes the length of a prefix, if the latest frame takes a quotient; else the state is as
--- after any operand
+-- a number takes the length of a prefix, if the latest frame takes a quotient; otherwise the state
+-- is as after any operand
 abbrev pub with_prefix : Option (ℕ × ℕ) → List TokenKind → List Frame → Operand → List Node
     → Option Begun
 with_prefix (Some p) ts fs x d =
@@ -306,19 +305,20 @@ with_prefix None ts fs x d = next_of ts fs x d
 abbrev pub after_operand : List TokenKind → List Frame → Operand → List Node → Option Begun
 after_operand ts fs x d = with_prefix (number_with_prefix x ts) ts fs x d
 
--- the nodes of the operand, if it can be taken for a truth and no frame waits for it, or none
+-- the nodes of an operand that is the whole expression; None if it can't be a truth, or a frame
+-- still waits for it
 abbrev pub whole : List Frame → Operand → List Node → Option (List Node)
 whole [] x d = as_truth x d
 whole (f ∷ fs) x d = None
 
--- the nodes of the whole after the last token, or none if the tokens end too early or aren't a
--- truth
+-- the nodes of the whole expression after the last token; None if the tokens end too early or
+-- aren't a truth
 abbrev pub finish : Option Operand → List Frame → List Node → Option (List Node)
 finish None fs d = None
 finish (Some x) fs d = reduce 8 fs x d >>= λ r. whole r.0 r.1 r.2
 
--- the nodes of the whole, if the tokens that are left can be read from this state, or none; the
--- first k of them are used up already
+-- the nodes of the whole expression, if the remaining tokens can be read from this state, or None;
+-- the first k of them are already used
 abbrev pub run : List TokenKind → ℕ → List Frame → Option Operand → List Node → Option (List Node)
 run [] k fs x d = finish x fs d
 run (t ∷ ts) (suc k) fs x d = run ts k fs x d
@@ -326,24 +326,24 @@ run (t ∷ ts) zero fs None d = begin (t ∷ ts) fs d >>= λ r. run ts r.0 r.1.0
 run (t ∷ ts) zero fs (Some x) d =
     after_operand (t ∷ ts) fs x d >>= λ r. run ts r.0 r.1.0 r.1.1 r.1.2
 
--- the nodes of the tree that tokens have, latest first, or none if they have no tree; no tokens
--- have no nodes
+-- the nodes of the tree that tokens have, latest first; None if they have no tree; empty for no
+-- tokens
 abbrev pub nodes_of_tokens : List TokenKind → Option (List Node)
 nodes_of_tokens [] = Some []
 nodes_of_tokens (t ∷ ts) = run (t ∷ ts) 0 [] None []
 
--- why the readers stop: the tokens have no tree, or an allocation failed
+-- why a reader fails: the tokens have no tree, or an allocation failed
 abbrev pub IsReadFault : ExprFault → Type 0
 IsReadFault fault = (fault ≡ ExprFault.NotAnExpression) ⊎ (fault ≡ ExprFault.Memory)
 
--- what the readers return if the definition gives `given`: that, made of what they return, or why
--- they stop, which is that there is no tree only if nothing is given
+-- what a reader returns if the definition gives `given`: the same, made of what it returns; or why
+-- it fails; that there is no tree only if nothing is given
 pub record Reads {A B : Type 0} (given : Option B) (made : A → B)
     (result : Result A ExprFault) : Type 0 where
   pub ok : IfOk result (λ a. given ≡ Some (made a))
   pub none : result ≡ Err ExprFault.NotAnExpression → given ≡ None
   pub err : IfErr result IsReadFault
 
--- the same of a step, after which the reader is as it is here
+-- the same for a step, after which the reader's state is this
 abbrev pub ReadsStep : Option Begun → ReaderState → Result (ℕ × Option Operand) ExprFault → Type 0
 ReadsStep given reader result = Reads given (λ r. (r.0, (reader.frames, r.1, reader.nodes))) result

@@ -9,7 +9,7 @@ use Rattle.flt_ast.specs.declared.qualifiers.{Direction.Direction, Qualifiers.Qu
 use Rattle.flt_ast.specs.declared.value.{NetMask.NetMask, Value.Value}
 use Rattle.flt_lang.specs.Grammar.{kinds_of}
 
--- the protocol with which tokens begin, if they do, and the tokens after it
+-- the protocol that tokens begin with, if any, and the tokens after it
 abbrev pub protocol_of : List TokenKind → Option Protocol × List TokenKind
 protocol_of (TokenKind.Protocol p ∷ ts) = (Some p, ts)
 protocol_of ts = (None, ts)
@@ -20,29 +20,29 @@ is_opposite Source Destination = true
 is_opposite Destination Source = true
 is_opposite _ _ = false
 
--- the join of `src or dst` or `src and dst`, in either order of the sides, if tokens begin so
+-- the join of `src or dst` or `src and dst`, in either order of the sides, if tokens begin with it
 abbrev pub both_of : List TokenKind → Option Join
 both_of (TokenKind.Side s ∷ TokenKind.Join j ∷ TokenKind.Side t ∷ ts) =
     if is_opposite s t then Some j else None
 both_of _ = None
 
--- the direction with which tokens begin, if they do, and the tokens after it, by the join of both
+-- the direction that tokens begin with, if any, and the tokens after it; the join is that of both
 -- sides, if they begin with both
 abbrev pub direction_by : Option Join → List TokenKind → Option Direction × List TokenKind
 direction_by (Some j) ts = (Some (Direction.Both j), drop 3 ts)
 direction_by None (TokenKind.Side s ∷ ts) = (Some (Direction.One s), ts)
 direction_by None ts = (None, ts)
 
--- the direction with which tokens begin, if they do, and the tokens after it
+-- the direction that tokens begin with, if any, and the tokens after it
 abbrev pub direction_of : List TokenKind → Option Direction × List TokenKind
 direction_of ts = direction_by (both_of ts) ts
 
--- the type with which tokens begin, if they do, and the tokens after it
+-- the type that tokens begin with, if any, and the tokens after it
 abbrev pub type_of : List TokenKind → Option ValueType × List TokenKind
 type_of (TokenKind.ValueType k ∷ ts) = (Some k, ts)
 type_of ts = (None, ts)
 
--- the qualifiers with which tokens begin, each written or not, and the tokens after them
+-- the qualifiers that tokens begin with, each given or not, and the tokens after them
 abbrev pub qualifiers_of : List TokenKind → Qualifiers × List TokenKind
 qualifiers_of ts =
     let p = protocol_of ts in
@@ -62,7 +62,7 @@ abbrev pub prefix_of : List TokenKind → Option ℕ × List TokenKind
 prefix_of (TokenKind.Operator Divide ∷ TokenKind.Number m ∷ ts) = (Some m, ts)
 prefix_of ts = (None, ts)
 
--- the value with which tokens begin, with its mask, and the tokens after it; or none
+-- the value that tokens begin with, with its mask, and the tokens after it; or None
 abbrev pub value_of : List TokenKind → Option (Value × List TokenKind)
 value_of (TokenKind.Number n ∷ ts) = Some (Value.Number n (mask_of ts).0, (mask_of ts).1)
 value_of (TokenKind.Dotted a p ∷ ts) =
@@ -81,8 +81,8 @@ starts_value (TokenKind.Mac a ∷ ts) = true
 starts_value (TokenKind.Range a b ∷ ts) = true
 starts_value _ = false
 
--- a reader takes from tokens what the definition gives: its value, and as many of them that the
--- rest is the same
+-- a reader takes from tokens what the definition gives: the same value, and as many tokens, so that
+-- the same ones follow
 pub record Takes {A : Type 0} (given : A × List TokenKind) (tokens : List Token)
     (taken : A × ℕ) : Type 0 where
   pub value : taken.0 ≡ given.0

@@ -1,6 +1,6 @@
--- The characters at which words are cut.
+-- The characters that separate words.
 use Rattle.std.specs.{List.list_any, Prelude.ℕ, Prelude.List, Prelude.Bool, Prelude.◌==◌}
 
--- the text has the byte
+-- whether a text has a byte
 abbrev pub has : ℕ → List ℕ → Bool
 has c text = list_any (λ b. b == c) text

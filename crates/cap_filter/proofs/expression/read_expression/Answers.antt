@@ -1,5 +1,5 @@
--- A text is an expression if it has a tree and the tree passes the checks; otherwise one of the two
--- refuses it.
+-- A text is an expression if it has a tree in which the checks find no fault; otherwise it is
+-- refused, by the parser or by the checks.
 use Rattle.cap_filter.proofs.Expressions.{expression-ok, expression-refused}
 use Rattle.cap_filter.proofs.expression.read_expression.Goals as goal
 

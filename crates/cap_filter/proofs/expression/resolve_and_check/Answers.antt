@@ -1,5 +1,5 @@
--- A tree passes if its qualifiers can be completed and the checks accept it; otherwise one of the
--- two refuses it.
+-- A tree is accepted if its qualifiers can be completed and the checks find no fault; otherwise one
+-- of the two refuses it.
 use Rattle.cap_filter.proofs.{Common.inl, Expressions.settled-ok, Expressions.settled-refused}
 use Rattle.cap_filter.proofs.expression.resolve_and_check.Goals as goal
 

@@ -1,4 +1,4 @@
--- After the last input each input has its fresh cursor.
+-- After the last input, each one has its fresh cursor.
 use Rattle.std.proofs.{Common.arith, lemmas.Grind.common_steps}
 use Rattle.std.specs.Vec.Iter.{into_iter_items}
 use Rattle.cap_inputs.proofs.Common.{◌≡◌, ◌++◌, ◌∙◌, [], List, map, sym, ap, append-nil, fresh_view, fresh_input}

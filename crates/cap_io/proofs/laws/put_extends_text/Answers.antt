@@ -1,4 +1,4 @@
--- The law is a lemma on written texts.
+-- The law is a lemma on the bytes that are written.
 use Rattle.cap_io.proofs.Texts.{by-packets, HasPackets-put}
 use Rattle.cap_io.proofs.laws.put_extends_text.Goals as goal
 

@@ -1,4 +1,4 @@
--- A record that is whole in the device's buffer is lent; nothing else is taken.
+-- A record that is complete in the device's buffer is lent, and no bytes are read.
 use Rattle.cap_io.proofs.Common.{◌≡◌, refl, ◌+◌, ◌≤◌, ◌++◌, ℕ, Ok, List, length, take, drop, sym, ap, ap₂, ◌∙◌, subst, arith, rules, checked, first_failing}
 use Rattle.cap_io.proofs.Common.{field_checks, record_header_in}
 use Rattle.cap_io.proofs.Hands.{begins-long, begins-same, lent-first, record-taken}

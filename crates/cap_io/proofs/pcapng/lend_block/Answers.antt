@@ -1,4 +1,4 @@
--- A block that is whole in the device's buffer is lent; nothing else is taken.
+-- A block that is complete in the device's buffer is lent, and no bytes are read.
 use Rattle.cap_io.proofs.BlocksCame.{FrontSays, block_came, front_says, whole_came}
 use Rattle.cap_io.proofs.CapturesCame.{packet-block}
 use Rattle.cap_io.proofs.Common.{rules, IsTrue, [], ◌≡◌, ◌≤◌, ◌++◌, ℕ, List, Some, length, take, drop, refl, sym, ap, ap₂, ◌∙◌, subst, arith, take-take}

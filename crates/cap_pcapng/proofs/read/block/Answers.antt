@@ -1,4 +1,4 @@
--- A block passes, or fails the first check of its body.
+-- A block is accepted, or fails the first of its body's checks.
 use Rattle.cap_pcapng.proofs.Common.{◌≡◌, ◌++◌, ◌-◌, ℕ, List, ap, arith, drop, IfErr, IfOk, take, Option, None, Some, subst, body_checks, body_in}
 use Rattle.cap_pcapng.proofs.Common.{option_checks, parts_in_body, Fault}
 use Rattle.cap_pcapng.proofs.{Judged.judged-fault, Judged.judged-passes, WholeBlocks.block_fault-body}

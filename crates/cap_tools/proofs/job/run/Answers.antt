@@ -1,4 +1,4 @@
--- The run goes on turn by turn to the job's end, and writes what the command defines.
+-- The run makes turns until the job ends, and writes what the command defines.
 use Rattle.cap_tools.proofs.CommandStarts.{first-decided}
 use Rattle.cap_tools.proofs.Common.{◌≡◌, [], map, refl, sym, ◌∙◌, ap, subst, string_bytes, arith, append-nil, IsTold, no_memory_message, OutputView}
 use Rattle.cap_tools.proofs.Common.{fresh_input, fresh_output, output_view, Assignment, Call, call_of, JobView, room_by, ends, fault_outcome, of_nothing}

@@ -1,4 +1,4 @@
--- The job is in a state that steps from its start lead to.
+-- The job is in a state that its steps reach from its start.
 use Rattle.cap_tools.proofs.Common.{◌≡◌, IsTrue, None, Assignment, Call, first_job, job_left, room_by}
 use Rattle.cap_tools.proofs.Runs.{Begun, Under}
 use Rattle.cap_tools.proofs.job.run.Given as goal

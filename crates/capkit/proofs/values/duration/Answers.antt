@@ -1,4 +1,4 @@
--- A duration fits the times.
+-- A duration is in the range of times.
 use Rattle.capkit.proofs.Common.{◌∙◌, ap, true, option_map_or, is_time}
 use Rattle.capkit.proofs.OptionValues.{proper_span}
 use Rattle.capkit.proofs.values.duration.Goals as goal

@@ -1,4 +1,4 @@
--- A time fits the times.
+-- A time that is read is in range.
 use Rattle.capkit.proofs.Common.{◌∙◌, ap, true, option_map_or, is_time}
 use Rattle.capkit.proofs.OptionValues.{proper_time}
 use Rattle.capkit.proofs.values.time.Goals as goal

@@ -1,4 +1,4 @@
--- The bound is that of every program.
+-- The bound that is returned is that of every program for the text.
 use Rattle.capkit_c.proofs.OneBound.{is_bound}
 use Rattle.capkit_c.proofs.bounding.bound_of_text.Goals as goal
 

@@ -1,4 +1,4 @@
--- The bound is reported, or the failure.
+-- The call reports the bound, or the failure.
 use Rattle.capkit_c.proofs.Telling.{told}
 use Rattle.capkit_c.proofs.bounding.tell_bound.Goals as goal
 

@@ -1,4 +1,4 @@
--- A known link type has its link, and a text of blanks that of Ethernet.
+-- A known link type has its link, and a text of blanks is compiled for Ethernet.
 use Rattle.std.proofs.Common.{ap, sym, ◌∙◌}
 use Rattle.cap_octet.specs.Link.{link_of}
 use Rattle.capkit_c.specs.Compiling.{of_link_type, of_any}

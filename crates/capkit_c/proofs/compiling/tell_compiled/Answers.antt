@@ -1,4 +1,4 @@
--- What was written is reported, or the failure.
+-- The call reports the program that was written, or the failure.
 use Rattle.capkit_c.proofs.Telling.{told_kept}
 use Rattle.capkit_c.proofs.compiling.tell_compiled.Goals as goal
 

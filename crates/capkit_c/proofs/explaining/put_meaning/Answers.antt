@@ -1,4 +1,4 @@
--- The buffer has the meaning, as far as there is room.
+-- The buffer has as much of the meaning as there is room for.
 use Rattle.std.proofs.Common.{ℕ, List, length, ap, ◌∙◌}
 use Rattle.std.specs.Prelude.{string_bytes}
 use Rattle.capkit_c.specs.Texts.{put_text}

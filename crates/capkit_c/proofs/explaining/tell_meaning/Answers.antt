@@ -1,4 +1,4 @@
--- What was put is reported, or the failure.
+-- The call reports the meaning that was put, or the failure.
 use Rattle.capkit_c.proofs.Telling.{told_kept}
 use Rattle.capkit_c.proofs.explaining.tell_meaning.Goals as goal
 

@@ -1,4 +1,4 @@
--- What was read is reported, or the failure.
+-- The call reports the instructions that were read, or the failure.
 use Rattle.capkit_c.proofs.Telling.{told_kept}
 use Rattle.capkit_c.proofs.listings.tell_read.Goals as goal
 

@@ -1,4 +1,4 @@
--- Another step is made, or the search ends.
+-- The search makes another step, or ends.
 use Rattle.capkit_c.specs.Matching.{at_first, one_more}
 use Rattle.capkit_c.proofs.Searches.{step_smaller, went_on}
 use Rattle.capkit_c.proofs.matching.capkit_next_match.Goals as goal

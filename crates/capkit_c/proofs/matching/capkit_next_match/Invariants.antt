@@ -1,4 +1,4 @@
--- Units and rejected packets are passed, and less is left.
+-- Units and rejected packets are skipped, and fewer bytes remain.
 use Rattle.std.proofs.Common.{◌-◌, length}
 use Rattle.capkit_c.specs.{Matching.GoesPast, inside.Matching.IsKnown}
 use Rattle.capkit_c.proofs.matching.capkit_next_match.Given as goal

@@ -1,4 +1,4 @@
--- Any other answer than 0 accepts.
+-- A program accepts a packet if it returns any number but 0.
 use Rattle.std.proofs.Common.{arith, refl}
 use Rattle.capkit_c.specs.Matching.{accepted}
 use Rattle.capkit_c.proofs.matching.judge.Goals as goal

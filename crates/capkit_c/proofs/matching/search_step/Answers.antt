@@ -1,4 +1,4 @@
--- A unit is passed, a packet is judged, or the search ends.
+-- A unit is skipped, a packet is judged, or the search ends.
 use Rattle.capkit_c.specs.Matching.{at_stop}
 use Rattle.capkit_c.proofs.Searches.{packet_step, stop, unit_step}
 use Rattle.capkit_c.proofs.matching.search_step.Goals as goal

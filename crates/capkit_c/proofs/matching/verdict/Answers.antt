@@ -1,4 +1,4 @@
--- The bytes are those of the packet, and a valid program runs by the rules as it runs.
+-- The program runs on the bytes of the packet; if it is valid, its run breaks no rule.
 use Rattle.std.proofs.Common.{◌≡◌, ◌∙◌, List, ℕ, ap, drop, length, subst, sym, take}
 use Rattle.flt_bpf.specs.Machine.{Answered, machine}
 use Rattle.flt_trace.proofs.ByRules.{same_run, valid_meets_none}

@@ -1,4 +1,5 @@
--- A program that passes is valid, and of another the first broken rule is told by its number.
+-- A program without a fault is valid; for another one the call reports the number of the first
+-- broken rule.
 use Rattle.std.proofs.Common.{refl}
 use Rattle.capkit_c.specs.Running.{passes, breaks}
 use Rattle.capkit_c.proofs.running.capkit_check.Goals as goal

@@ -1,4 +1,4 @@
--- A packet that is refused before it is put: nothing is written.
+-- If the packet is refused before it is put, nothing is written.
 use Rattle.capkit_c.proofs.Common.{refl, false, Captured}
 use Rattle.capkit_c.specs.{Writer.packet_put, declared.memory.writing.Written.Written}
 use Rattle.capkit_c.proofs.writing.capkit_writer_put.Goals as goal

@@ -1,4 +1,4 @@
--- What is written of instructions is their listing, so it is read as them.
+-- The listing that is written for instructions reads back as these instructions.
 use Rattle.flt_bpf.specs.Listing.{listing}
 use Rattle.flt_bpf.proofs.{Written.listing_written, Wrong.listing_not_refused}
 use Rattle.flt_bpf.proofs.laws.listing_back.Goals as goal

@@ -1,4 +1,4 @@
--- What is read of a text can be written, by the lemma on trees.
+-- A tree that is read from a text can be written, by the lemma on trees.
 use Rattle.flt_explain.proofs.WritableTrees as proved
 use Rattle.flt_explain.proofs.laws.writable.Goals as goal
 

@@ -1,6 +1,6 @@
 -- The intervals so far begin before.
 use Rattle.std.proofs.Common.{ℕ, ◌-◌, ◌<◌, ◌≤◌, length, get_or}
-use Rattle.flt_gen.specs.Formula.{no_interval}
+use Rattle.flt_gen.specs.inside.Intervals.{no_interval}
 use Rattle.flt_gen.proofs.group.place_among.Given as goal
 
 abbrev pub invariant-lower : goal.invariant-lower

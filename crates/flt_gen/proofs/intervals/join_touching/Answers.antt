@@ -3,5 +3,5 @@ use Rattle.std.proofs.lemmas.Grind.{common_steps}
 use Rattle.std.proofs.Common.{arith}
 use Rattle.flt_gen.proofs.intervals.join_touching.Goals as goal
 
-pub touching-preserved : goal.touching-preserved
-touching-preserved g c = grind (arith, common_steps)
+pub loop-next-preserved : goal.loop-next-preserved
+loop-next-preserved g c = grind (arith, common_steps)

@@ -3,5 +3,5 @@ use Rattle.std.proofs.lemmas.Grind.{common_steps}
 use Rattle.std.proofs.Common.{arith}
 use Rattle.flt_gen.proofs.intervals.put_cut.Goals as goal
 
-pub cut-preserved : goal.cut-preserved
-cut-preserved g c = grind (arith, common_steps)
+pub loop-item-preserved : goal.loop-item-preserved
+loop-item-preserved g c = grind (arith, common_steps)

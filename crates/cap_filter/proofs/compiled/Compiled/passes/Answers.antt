@@ -1,4 +1,4 @@
--- A packet passes if the program of its link type accepts it, and only that program's count of
+-- A packet is kept if the program of its link type accepts it, and only that program's count of
 -- instructions grows.
 use Rattle.cap_filter.proofs.Common.{None, Some, sym, ◌∙◌, captured}
 use Rattle.cap_filter.proofs.Filters.{bounded-ran, answers-at, answers-none, place-within, put-back, reading-spends, sound-ran}

@@ -1,4 +1,4 @@
--- An input that takes its next packet at hand is read on.
+-- Taking the next packet of an input at hand is reading that input on.
 use Rattle.std.proofs.{Common.rules, lemmas.List.set-get_or}
 use Rattle.cap_inputs.proofs.Common.{◌≡◌, true, Ok, ap, ◌∙◌, slice_set, ordering_of, InputView}
 use Rattle.cap_inputs.proofs.Cursors.{taken-of, get-among, fetches-by, read_input-steps-by, schedule-order}

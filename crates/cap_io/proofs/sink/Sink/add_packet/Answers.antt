@@ -1,4 +1,4 @@
--- What is written is the packet's text after that of the packets before it.
+-- The bytes of the packet are written after those of the packets before it.
 use Rattle.cap_io.proofs.Common.{◌≡◌, Ok, checked, AppendsOrStops, captured, added_in, refusal_in}
 use Rattle.cap_io.proofs.Parts.{adds-failed, record-adds, block-adds}
 use Rattle.cap_io.proofs.sink.Sink.add_packet.Goals.{in-Pcap, in-Pcapng+in_ok-interface-in-Pcapng}

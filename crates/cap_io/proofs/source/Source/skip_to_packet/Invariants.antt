@@ -1,4 +1,4 @@
--- The packets that are left are those of the start, since only units without packets were read.
+-- The remaining packets are those at the start, since only units without packets were skipped.
 use Rattle.cap_io.proofs.Common.{◌≡◌, ◌+◌, ◌-◌, ◌^◌, ◌≤◌, IsTrue, SkipsUnits, end_offset, IsBetween}
 use Rattle.cap_io.proofs.source.Source.skip_to_packet.Given as goal
 

@@ -1,4 +1,4 @@
--- What is taken at hand follows a packet that is lent.
+-- The packet at hand is taken only after one that is lent.
 use Rattle.cap_io.proofs.{Common.◌≡◌, Common.rules, Common.Reading, Hands.if-at-hand}
 use Rattle.cap_io.proofs.source.Source.take_at_hand.Goals as goal
 

@@ -1,4 +1,4 @@
--- The bytes that are passed are the first ones of the reader's buffer.
+-- The skipped bytes are the first ones of the reader's buffer.
 use Rattle.std.proofs.Common.{◌==◌, ◌≤◌, ℕ, length, arith, ap}
 use Rattle.std.specs.Io.Buffered.{reader_buffer, reader_capacity, reader_inner}
 use Rattle.cap_octet.proofs.Reading.{held-consumed}

@@ -1,4 +1,4 @@
--- The resolution that is found lets times move.
+-- The times of an interface follow from the resolution among its options.
 use Rattle.cap_pcapng.specs.InterfaceOptions.{first_value, fitting_options, resolution_code}
 use Rattle.cap_pcapng.specs.OptionList.{options_left}
 use Rattle.cap_pcapng.proofs.InterfaceLists.{units-some}

@@ -1,4 +1,4 @@
--- The filter replaces the policy, and the rest of the job stays light.
+-- The filter becomes the policy, and the job's memory remains bounded.
 use Rattle.cap_tools.proofs.Common.{arith, subst, sym, common_steps, SelectorView, HasFewMarks}
 use Rattle.cap_tools.proofs.Weights.{is-light}
 use Rattle.cap_tools.proofs.job.Job.install_filter.Goals as goal

@@ -1,4 +1,4 @@
--- If the next packet is at hand, the step is made.
+-- If the next packet is at hand, it is taken in this step.
 use Rattle.std.proofs.Common.{rules}
 use Rattle.cap_tools.proofs.Common.{◌≡◌, true, Ok, refl, None, arith}
 use Rattle.cap_tools.proofs.Steps.{moves-sound, read-step, reads-move, same-kept}

@@ -1,4 +1,4 @@
--- What the text begins with is what its first bytes and its block say.
+-- The first bytes, and then the whole block, determine what the bytes begin with.
 use Rattle.std.proofs.Common.{length, arith}
 use Rattle.capkit_c.specs.Layout.{first_interfaces}
 use Rattle.capkit_c.proofs.Stands.{block_cut, frame_fails, framed, no_block, stands}

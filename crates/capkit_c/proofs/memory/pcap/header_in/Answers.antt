@@ -1,4 +1,4 @@
--- The first 24 bytes say what the text says.
+-- The first 24 bytes determine the file header.
 use Rattle.capkit_c.proofs.{Common.◌∙◌, Common.ap, Common.checked, Common.header_fault, Common.header_in, Savefiles.head_taken}
 use Rattle.capkit_c.proofs.memory.pcap.header_in.Goals as goal
 

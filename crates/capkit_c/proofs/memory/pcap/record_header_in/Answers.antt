@@ -1,4 +1,4 @@
--- The first 16 bytes say what the record says, and its data follow or not.
+-- The first 16 bytes determine the record's header, and its data is complete or not.
 use Rattle.std.proofs.{Common.arith, lemmas.Result.err_from_is_err_and}
 use Rattle.capkit_c.proofs.Savefiles.{record_refused, record_short, record_whole}
 use Rattle.capkit_c.proofs.memory.pcap.record_header_in.Goals as goal

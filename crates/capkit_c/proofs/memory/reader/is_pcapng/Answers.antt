@@ -1,4 +1,4 @@
--- The first four bytes say it.
+-- The first four bytes decide whether a capture is pcapng.
 use Rattle.std.proofs.Common.{◌∙◌}
 use Rattle.capkit_c.proofs.Fronts.{pcapng_by}
 use Rattle.capkit_c.proofs.memory.reader.is_pcapng.Goals as goal

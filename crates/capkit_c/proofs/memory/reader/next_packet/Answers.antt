@@ -1,4 +1,4 @@
--- Another unit is passed, or the search ends.
+-- Another unit without a packet is skipped, or the search ends.
 use Rattle.std.proofs.Common.{refl}
 use Rattle.capkit_c.specs.Units.{none_passed}
 use Rattle.capkit_c.proofs.Searches.{found_next, one_more_unit, unit_passed}

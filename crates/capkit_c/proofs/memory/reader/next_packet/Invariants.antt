@@ -1,4 +1,4 @@
--- Units without a packet are passed, and less is left.
+-- Units without a packet are skipped, and fewer bytes remain.
 use Rattle.std.proofs.Common.{◌≡◌, ◌-◌, length}
 use Rattle.capkit_c.specs.Units.{PassesUnits}
 use Rattle.capkit_c.proofs.memory.reader.next_packet.Given as goal

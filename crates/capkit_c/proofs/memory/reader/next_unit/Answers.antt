@@ -1,4 +1,4 @@
--- What is left is what reading the unit leaves.
+-- The effect of the call is that of reading the unit.
 use Rattle.capkit_c.proofs.Common.{length, refl, subst, first_interfaces, IsNoUnit}
 use Rattle.capkit_c.proofs.Leaves.{all_known, ended, found_packet, full, passed, refused}
 use Rattle.capkit_c.proofs.memory.reader.next_unit.Goals as goal

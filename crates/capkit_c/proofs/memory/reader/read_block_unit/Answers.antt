@@ -1,4 +1,4 @@
--- The block is the unit that the text begins with.
+-- The block is the unit that the bytes begin with.
 use Rattle.capkit_c.proofs.Common.{Option, ℕ, length, sym, subst, first_interfaces, BeginsWithUnit}
 use Rattle.capkit_c.proofs.Fronts.{block_unit, no_unit}
 use Rattle.cap_io.specs.declared.file_state.FileState.{FileState}

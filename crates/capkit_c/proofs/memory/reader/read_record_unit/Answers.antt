@@ -1,4 +1,4 @@
--- The record is the unit that the text begins with.
+-- The record is the unit that the bytes begin with.
 use Rattle.capkit_c.proofs.Fronts.{record_stands}
 use Rattle.capkit_c.proofs.memory.reader.read_record_unit.Goals as goal
 

@@ -1,4 +1,4 @@
--- A block whose time or options are refused is gone past, and no other.
+-- A block is skipped if only its time or its options are refused.
 use Rattle.std.proofs.Common.{◌∙◌, Some, arith, length, refl, subst, sym}
 use Rattle.cap_io.specs.Capture.{PcapngFile}
 use Rattle.cap_io.specs.declared.file_state.FileState.TheVariants as form

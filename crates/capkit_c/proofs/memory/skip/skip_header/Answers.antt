@@ -1,4 +1,4 @@
--- A refused link type is gone past, and nothing else.
+-- A file header is skipped if only its link type is refused.
 use Rattle.std.proofs.Common.{◌∙◌, ap, arith, drop, refl, sym}
 use Rattle.cap_io.specs.Capture.{PcapFile}
 use Rattle.cap_io.specs.declared.file_state.FileState.TheVariants as form

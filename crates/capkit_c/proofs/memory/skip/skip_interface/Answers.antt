@@ -1,4 +1,4 @@
--- The interface is added, or finds no room.
+-- The interface is added to the table, or there is no room for it.
 use Rattle.std.proofs.Common.{◌≡◌, ◌≤◌, ◌∙◌, ◌+◌, ◌++◌, ◌∷◌, [], List, ap, arith, length, refl, sym}
 use Rattle.cap_io.specs.Capture.{PcapngFile, first_link_after}
 use Rattle.cap_io.specs.declared.file_state.FileState.TheVariants as form

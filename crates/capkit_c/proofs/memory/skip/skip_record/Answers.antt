@@ -1,4 +1,4 @@
--- A record with a refused time is gone past, and nothing else.
+-- A record is skipped if only its time is refused.
 use Rattle.std.proofs.Common.{◌≡◌, ◌∙◌, ap, arith, drop, refl, subst, sym}
 use Rattle.cap_io.specs.Capture.{PcapFile}
 use Rattle.cap_io.specs.declared.file_state.FileState.TheVariants as form

@@ -1,4 +1,4 @@
--- The body says link type and snap length.
+-- Link type and snap length are those in the block's body.
 use Rattle.std.proofs.Common.{◌≡◌, ◌∙◌, ◌-◌, ap, ap₂, arith, drop, refl, sym, take}
 use Rattle.cap_octet.specs.Number.{u16_in, u32_in}
 use Rattle.cap_pcapng.specs.Block.{InterfaceParts, body_in, parts_in_body}

@@ -1,4 +1,4 @@
--- The first 12 bytes say the frame, or refuse the form.
+-- The first 12 bytes determine the frame, or the form is refused.
 use Rattle.std.proofs.Common.{Some, arith, refl}
 use Rattle.cap_octet.specs.declared.fault.Fault.TheVariants.{Truncated}
 use Rattle.capkit_c.proofs.Skips.{frame_refused, refuses}

@@ -1,4 +1,4 @@
--- The interface is at none of the places so far.
+-- The interface isn't among those that were compared so far.
 use Rattle.std.proofs.Common.{length, ◌-◌, ◌≡◌, ◌≤◌, ◌+◌, map, drop}
 use Rattle.cap_octet.specs.Packet.{captured}
 use Rattle.cap_io.specs.Text.{interface_of, number_among}

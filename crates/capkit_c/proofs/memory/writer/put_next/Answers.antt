@@ -1,4 +1,4 @@
--- The unit that is written next, and what is kept of it.
+-- The next unit is written, and the writer records it.
 use Rattle.capkit_c.proofs.Common.{refl, sym, ◌∙◌, captured, Captured}
 use Rattle.capkit_c.proofs.Putting.{not_zero, is_less, is_not_less, is_packet, refusal, block_is, face_is, same_kept, more_kept}
 use Rattle.capkit_c.proofs.Writes.{unrefused}

@@ -1,4 +1,4 @@
--- The parts lie within what they are in all.
+-- The parts fit within the length of all parts together.
 use Rattle.std.proofs.{Common.[], Common.ℕ, Common.List, Common.arith, lemmas.List.Folds.length-flat_map-take}
 use Rattle.std.specs.Borrow.{Bor}
 use Rattle.capkit_c.proofs.memory.writing.put_parts.Goals as goal

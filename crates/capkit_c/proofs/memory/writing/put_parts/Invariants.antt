@@ -1,4 +1,4 @@
--- The parts so far are at the buffer's start, and what is after them is as it was.
+-- The parts so far are at the start of the buffer, and what is after them is unchanged.
 use Rattle.std.proofs.Common.{◌≡◌, ◌++◌, length, take, drop}
 use Rattle.std.specs.List.{flat_map}
 use Rattle.capkit_c.proofs.memory.writing.put_parts.Given as goal

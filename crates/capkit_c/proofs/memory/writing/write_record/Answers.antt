@@ -1,4 +1,4 @@
--- Every check passes, and the parts are the record.
+-- No check fails, and the parts are the record.
 use Rattle.capkit_c.proofs.Common.{◌≡◌, ◌++◌, [], ◌∷◌, ◌^◌, List, ℕ, true, refl, ap, ap₂, sym, ◌∙◌, rules, nat_lt, append-nil, first_failing, TimeOutOfRange}
 use Rattle.capkit_c.proofs.Common.{checked_ok, met_front, written_packet}
 use Rattle.capkit_c.proofs.Writes.{unrefused}
