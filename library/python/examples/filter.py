@@ -23,7 +23,7 @@ def count(expression: capkit.Expression, name: str) -> int:
     except capkit.CaptureError as fault:
         report(f"{name}: {fault}")
         status = 1
-    print(f"{matching} of {seen} packets match", flush=True)
+    print(f"{matching} of {seen} packets match")
     return status
 
 
@@ -37,7 +37,8 @@ def main() -> int:
         report(error)
         return 2
     try:
-        return count(expression, sys.argv[2])
+        with sys.stdout:  # closed: what can't be printed is an error
+            return count(expression, sys.argv[2])
     except (capkit.CompileError, OSError) as error:
         report(error)
         return 1
