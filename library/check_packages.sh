@@ -105,8 +105,6 @@ check_rust() {
         ln -s "rust/target/release/$example" "$packages/rust-$example"
     done
     {
-        echo 'use capkit::{Format, Packets, Writer};'
-        echo 'use std::{fs::File, io::BufWriter};'
         echo 'fn main() -> Result<(), Box<dyn std::error::Error>> {'
         page_code rust 1
         echo 'Ok(()) }'
