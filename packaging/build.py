@@ -53,7 +53,7 @@ MEMORY = 2_000_000_000
 # A byte of code costs as much to check as this many bytes of definitions and proofs.
 CODE = 13
 # A crate has at most one more job for this many bytes of definitions and proofs.
-LARGE = 100_000
+LARGE = 120_000
 # The most jobs of a crate: each loads all crates below it.
 MOST_JOBS = 3
 
