@@ -1,7 +1,7 @@
 //! The command line: the command that its words ask for, or why they are refused; and the files and
 //! standard streams that its names mean.
 //!
-//! `capkit_host` calls it for the program, `cap_cases` for its tables. [`command_of`] returns a
+//! `cap_tools` calls it for the program, `cap_cases` for its tables. [`command_of`] returns a
 //! [`Line`], which is a command with the names that it is run over, or a [`Usage`], which is the
 //! reason for a refusal.
 //!

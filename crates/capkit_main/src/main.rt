@@ -1,10 +1,10 @@
 //! capkit edits, merges, filters and prints saved packet captures.
 //!
 //! This is the program that users run; `main` is all it has. It calls `run_program` of
-//! `capkit_host`, which parses the words, runs the command and reports errors.
+//! `cap_tools`, which parses the words, runs the command and reports errors.
 #![tactic(auto)]
 
-use capkit_host::run_program;
+use cap_tools::run_program;
 use std::process::ExitCode;
 
 /// Does what the words ask for, and exits with its status: 0 success, 1 error, 2 refused.

@@ -3,8 +3,8 @@
 use super::folder::{CAPTURE, enter, leave};
 use crate::captures::capture_of;
 use crate::words::{field, line_of};
+use cap_tools::run_line;
 use capkit::opening::create_output;
-use capkit_host::run;
 use std::os::unix::fs::symlink;
 use std::test::Fail;
 use std::{fs, io};
@@ -91,7 +91,7 @@ fn found_at(rt: &HostRuntime, path: &str) -> Found {
 fn keeps(rt: &HostRuntime, words: &str, status: u8, before: Before) -> Result<bool, Fail> {
     make(rt, before)?;
     let (out, kept) = (found_at(rt, "out"), found_at(rt, "kept"));
-    let ended = run(rt, line_of(rt.alloc(), words)?);
+    let ended = run_line(rt, line_of(rt.alloc(), words)?);
     Ok(ended == status && found_at(rt, "out") == out && found_at(rt, "kept") == kept)
 }
 
@@ -112,7 +112,7 @@ fn mistakes_keep_outputs(rt: HostRuntime) -> Result<(), Fail> {
     }
     for before in OUTPUTS {
         make(&rt, before)?;
-        assert!(rt; run(&rt, line_of(rt.alloc(), "edit -F pcap in out 2")?) == 0);
+        assert!(rt; run_line(&rt, line_of(rt.alloc(), "edit -F pcap in out 2")?) == 0);
         let written = fs::read(&rt, "out")?;
         assert!(rt; CAPTURE.get(..54) == Some(written.as_slice()), "{before:?}");
     }

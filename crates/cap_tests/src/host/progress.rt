@@ -3,9 +3,9 @@
 use super::folder::{CAPTURE, LISTING, enter, leave};
 use super::streams::Streams;
 use crate::words::{line_of, words_of};
+use cap_tools::run_command;
 use capkit::Line;
 use capkit::progress::{Progress, can_write_over, is_in_foreground, progress_start, total_size};
-use capkit_host::run_command;
 use std::fs;
 use std::io::IsTerminal;
 use std::test::Fail;

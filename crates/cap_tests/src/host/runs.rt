@@ -3,9 +3,9 @@
 use super::folder::{CAPTURE, enter, leave};
 use crate::captures::{HEADER, push_record};
 use crate::words::{line_of, words_of};
+use cap_tools::run_line;
 use capkit::opening::{create_output, open_inputs, read_listing};
 use capkit::progress::Progress;
-use capkit_host::run;
 use std::fs;
 use std::test::Fail;
 
@@ -53,7 +53,7 @@ fn is_run(rt: &HostRuntime, (words, is_there, status, written): Run) -> Result<b
     } else {
         let _ = fs::remove_file(rt, "out");
     }
-    let ended = run(rt, line_of(rt.alloc(), words)?);
+    let ended = run_line(rt, line_of(rt.alloc(), words)?);
     let Some(count) = written else {
         return Ok(ended == status && !fs::exists(rt, "out")?);
     };
@@ -99,7 +99,7 @@ fn runs_of_256_files_write_their_output(rt: HostRuntime) -> Result<(), Fail> {
     for _ in 0..255 {
         words.push_str(" code")?;
     }
-    assert!(rt; run(&rt, line_of(rt.alloc(), &words)?) == 1);
+    assert!(rt; run_line(&rt, line_of(rt.alloc(), &words)?) == 1);
     assert!(rt; fs::read(&rt, "out")?.as_slice() == CAPTURE.as_slice());
     Ok(leave(&rt)?)
 }

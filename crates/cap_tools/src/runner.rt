@@ -5,6 +5,7 @@ ghost use Rattle.cap_command.specs.{Call.call_of, Call.run_result, Command.is_pr
 ghost use Rattle.cap_tools.specs.{Run.CommandRuns, Start.assignment};
 ghost use Rattle.capkit.specs.Line.{is_ready};
 
+use crate::job::run;
 use cap_command::Command;
 use cap_octet::{Input, Output};
 use capkit::ending::finish;
@@ -39,7 +40,7 @@ fn run_over_devices<I: Input + Drop, O: Output, E: Output>(
         output,
         messages,
     } = devices;
-    let ended = cap_tools::run(rt.alloc(), command, names, inputs, output, messages);
+    let ended = run(rt.alloc(), command, names, inputs, output, messages);
     progress.end();
     ended
 }
@@ -79,7 +80,7 @@ pub fn run_command<'a>(
 /// The listing is read, if one is named, then the inputs are opened in order, then the output is
 /// created, then the command runs. The first step before the command's that can't be done is
 /// reported; then the command doesn't run, and the status is 1.
-pub fn run(rt: &HostRuntime, line: Line) -> u8
+pub fn run_line(rt: &HostRuntime, line: Line) -> u8
     requires { is_ready line ≡ true }
     ensures { result ≤ 2 }
 {
@@ -122,6 +123,6 @@ pub fn run_program(rt: &HostRuntime) -> u8
         |line: Line| -> u8
             requires { is_ready line ≡ true }
             ensures { result ≤ 2 }
-        { run(rt, line) },
+        { run_line(rt, line) },
     )
 }
