@@ -7,6 +7,7 @@ use Rattle.capkit.proofs.Common.{Usage, OptionsExclude, ◌++◌, ℕ, map}
 use Rattle.std.proofs.{Common.flat_map, Math.Bool.or-true, lemmas.Bool.or_parts}
 use Rattle.cap_octet.specs.declared.format.Format.{Format}
 use Rattle.capkit.specs.declared.ids.TheConstants as ids
+use Rattle.capkit.specs.declared.print_line.TheConstants as print_ids
 
 no_exclusion : (exclude : Bool) (next : Option Usage) → or_else (if exclude then Some OptionsExclude else None) next ≡ None → exclude ≡ false
 no_exclusion true next none = cc
@@ -40,10 +41,10 @@ ready matches line is none one count =
     let output : has_at_most_one_output print.link print.bytes print.write ≡ true =
     one_output (first_of ids.OUT.now matches) (format_in ids.FORMAT.now matches) print.write print.link print.bytes is.write
     (ap (λ link. is_some (first_of ids.OUT.now matches) && (link || print.bytes)) is.link
-    ∙ ap (λ bytes. is_some (first_of ids.OUT.now matches) && (flag_in ids.LINK_HEADER.now matches || bytes)) is.bytes ∙ outputs.0) in
+    ∙ ap (λ bytes. is_some (first_of ids.OUT.now matches) && (flag_in print_ids.LINK_HEADER.now matches || bytes)) is.bytes ∙ outputs.0) in
     ap (λ command. is_proper command (vec_len line.inputs) && (is_none line.code || not (has_expression command))) is.command
     ∙ and_from _ _ (and_from _ _ (eq-eqb _ 1 one) (and_from _ _ unread (and_from _ _ output count)))
-    (one_filter (first_of ids.LISTING.now matches) line.code (texts_in ids.WORD.now matches) (string_bytes print.expr) is.code is.expr filters.0)
+    (one_filter (first_of print_ids.LISTING.now matches) line.code (texts_in ids.WORD.now matches) (string_bytes print.expr) is.code is.expr filters.0)
 
 -- ---- joining texts is joining what they read as
 

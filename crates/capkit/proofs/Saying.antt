@@ -5,6 +5,7 @@ use Rattle.capkit.proofs.Common.{fault_in, files_in, has_bad_time, has_exclusion
 use Rattle.capkit.proofs.Common.{range_of, Subcommand, Line, Usage, BadRange, BadTime, Memory, NameUsedTwice, OptionsExclude, Refused, TooManyValues}
 use Rattle.clap.specs.declared.error.Error.{Error}
 use Rattle.capkit.specs.declared.ids.TheConstants as ids
+use Rattle.capkit.specs.declared.edit_line.TheConstants as edit_ids
 use Rattle.capkit.specs.declared.arguments.Subcommand.TheVariants as sub
 
 pub says_line : (words : List Text) (asked : Subcommand) (matches : List Row) (r : Result Line Usage) → Asks words asked matches
@@ -28,9 +29,9 @@ other_or_name other true twice e differs same = differs (cc)
 
 not_refused : (asked : Subcommand) (matches : List Row) (e : Error) → fault_in asked matches ≡ Some (Refused e) → ⊥
 not_refused sub.Edit matches e same =
-    let words = texts_in ids.RANGE.now matches in
+    let words = texts_in edit_ids.RANGE.now matches in
     edit_or_name (nat_lt most_ranges (length words)) (list_any (λ word. is_none (range_of word)) words) (has_bad_time matches) (has_two_shifts matches)
-    (uses_name_twice (text_in ids.IN.now matches ∷ []) (Some (text_in ids.OUT.now matches))) e same
+    (uses_name_twice (text_in edit_ids.IN.now matches ∷ []) (Some (text_in ids.OUT.now matches))) e same
 not_refused sub.Merge matches e same =
     other_or_name TooManyValues (nat_lt most_inputs (length (files_in matches)))
     (uses_name_twice (files_in matches) (Some (text_in ids.OUT.now matches))) e (λ is. cc) same

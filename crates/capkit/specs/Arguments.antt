@@ -6,6 +6,9 @@ use Rattle.clap.specs.declared.error.{Error.Error, kind.ErrorKind.TheVariants.Ou
 use Rattle.cap_octet.specs.{Format.all_formats, Format.format_name, Link.all_links, Link.link_name}
 use Rattle.cap_command.specs.Command.{least_window, most_window}
 use Rattle.capkit.specs.declared.ids.TheConstants as ids
+use Rattle.capkit.specs.declared.edit_line.TheConstants as edit_ids
+use Rattle.capkit.specs.declared.merge_line.TheConstants as merge_ids
+use Rattle.capkit.specs.declared.print_line.TheConstants as print_ids
 use Rattle.capkit.specs.declared.arguments.Subcommand.{Subcommand}
 
 -- the greatest 32-bit number
@@ -71,25 +74,25 @@ name_of Subcommand.Compile = codes "compile"
 -- its help lists them
 abbrev pub edit_rules : (formats : ValueParser) → List Rule
 edit_rules formats =
-    flag (by_letter (codes "r") ids.KEEP.now)
-    ∷ with_one_value (by_letter (codes "A") ids.START.now)
-    ∷ with_one_value (by_letter (codes "B") ids.STOP.now)
-    ∷ with_bounds 0 most_32 (by_name (codes "chop-start") ids.CHOP_START.now)
-    ∷ with_bounds 0 most_32 (by_name (codes "chop-end") ids.CHOP_END.now)
-    ∷ with_bounds 1 most_32 (by_letter (codes "s") ids.SNAP.now)
-    ∷ with_one_value (by_name (codes "later") ids.LATER.now)
-    ∷ with_one_value (by_name (codes "earlier") ids.EARLIER.now)
-    ∷ with_bounds least_window most_window (by_letter (codes "D") ids.WINDOW.now)
+    flag (by_letter (codes "r") edit_ids.KEEP.now)
+    ∷ with_one_value (by_letter (codes "A") edit_ids.START.now)
+    ∷ with_one_value (by_letter (codes "B") edit_ids.STOP.now)
+    ∷ with_bounds 0 most_32 (by_name (codes "chop-start") edit_ids.CHOP_START.now)
+    ∷ with_bounds 0 most_32 (by_name (codes "chop-end") edit_ids.CHOP_END.now)
+    ∷ with_bounds 1 most_32 (by_letter (codes "s") edit_ids.SNAP.now)
+    ∷ with_one_value (by_name (codes "later") edit_ids.LATER.now)
+    ∷ with_one_value (by_name (codes "earlier") edit_ids.EARLIER.now)
+    ∷ with_bounds least_window most_window (by_letter (codes "D") edit_ids.WINDOW.now)
     ∷ with_choices formats (by_letter (codes "F") ids.FORMAT.now)
-    ∷ as_required (by_place ids.IN.now)
+    ∷ as_required (by_place edit_ids.IN.now)
     ∷ as_required (by_place ids.OUT.now)
-    ∷ many (by_place ids.RANGE.now)
+    ∷ many (by_place edit_ids.RANGE.now)
     ∷ []
 
 -- the arguments of `merge`, in that order
 abbrev pub merge_rules : (formats : ValueParser) → List Rule
 merge_rules formats =
-    flag (by_letter (codes "a") ids.APPEND.now)
+    flag (by_letter (codes "a") merge_ids.APPEND.now)
     ∷ with_choices formats (by_letter (codes "F") ids.FORMAT.now)
     ∷ as_required (by_letter (codes "w") ids.OUT.now)
     ∷ as_required (by_place ids.FILE.now)
@@ -103,12 +106,12 @@ infos_rules = as_required (by_place ids.FILE.now) ∷ many (by_place ids.MORE.no
 -- the arguments of `print`, in that order
 abbrev pub print_rules : (formats : ValueParser) → List Rule
 print_rules formats =
-    with_wide_bounds 1 most_64 (by_letter (codes "c") ids.COUNT.now)
-    ∷ flag (by_letter (codes "e") ids.LINK_HEADER.now)
-    ∷ flag (by_letter (codes "x") ids.BYTES.now)
+    with_wide_bounds 1 most_64 (by_letter (codes "c") print_ids.COUNT.now)
+    ∷ flag (by_letter (codes "e") print_ids.LINK_HEADER.now)
+    ∷ flag (by_letter (codes "x") print_ids.BYTES.now)
     ∷ by_letter (codes "w") ids.OUT.now
     ∷ with_choices formats (by_name (codes "format") ids.FORMAT.now)
-    ∷ by_name (codes "code") ids.LISTING.now
+    ∷ by_name (codes "code") print_ids.LISTING.now
     ∷ as_required (by_place ids.FILE.now)
     ∷ many (by_place ids.WORD.now)
     ∷ []
@@ -116,7 +119,9 @@ print_rules formats =
 -- the arguments of `compile`, in that order
 abbrev pub compile_rules : (links : ValueParser) → List Rule
 compile_rules links =
-    with_choices links (by_name (codes "link") ids.LINK.now) ∷ many (by_place ids.WORD.now) ∷ []
+    with_choices links (by_name (codes "link") print_ids.LINK.now)
+    ∷ many (by_place ids.WORD.now)
+    ∷ []
 
 -- a command with these arguments after its own
 abbrev pub with_rules : App → List Rule → App
@@ -143,15 +148,31 @@ line_without_commands =
       };
     }
 
+-- the subcommand `edit`
+abbrev pub edit_shape : (formats : ValueParser) → Shape
+edit_shape formats = shape_of (name_of Subcommand.Edit) (edit_rules formats)
+
+-- the subcommand `merge`
+abbrev pub merge_shape : (formats : ValueParser) → Shape
+merge_shape formats = shape_of (name_of Subcommand.Merge) (merge_rules formats)
+
+-- the subcommand `infos`
+abbrev pub infos_shape : Shape
+infos_shape = shape_of (name_of Subcommand.Infos) infos_rules
+
+-- the subcommand `print`
+abbrev pub print_shape : (formats : ValueParser) → Shape
+print_shape formats = shape_of (name_of Subcommand.Print) (print_rules formats)
+
+-- the subcommand `compile`
+abbrev pub compile_shape : (links : ValueParser) → Shape
+compile_shape links = shape_of (name_of Subcommand.Compile) (compile_rules links)
+
 -- the subcommands, in the order in which help lists them
 abbrev pub line_shapes : (formats links : ValueParser) → List Shape
 line_shapes formats links =
-    shape_of (name_of Subcommand.Edit) (edit_rules formats)
-    ∷ shape_of (name_of Subcommand.Merge) (merge_rules formats)
-    ∷ shape_of (name_of Subcommand.Infos) infos_rules
-    ∷ shape_of (name_of Subcommand.Print) (print_rules formats)
-    ∷ shape_of (name_of Subcommand.Compile) (compile_rules links)
-    ∷ []
+    edit_shape formats ∷ merge_shape formats ∷ infos_shape ∷ print_shape formats
+    ∷ compile_shape links ∷ []
 
 -- the whole line after the program's name, with `--version` and no subcommand `help`
 abbrev pub line_app : (formats links : ValueParser) → App

@@ -15,6 +15,9 @@ use Rattle.capkit.specs.{Names.uses_name_twice, Range.range_of}
 use Rattle.capkit.specs.declared.{arguments.Subcommand.Subcommand, line.Line.Line, usage.Usage.Usage}
 use Rattle.capkit.specs.declared.usage.Usage.TheVariants.{BadRange, BadTime, Memory, NameUsedTwice, OptionsExclude, Refused, TooManyValues}
 use Rattle.capkit.specs.declared.ids.TheConstants as ids
+use Rattle.capkit.specs.declared.edit_line.TheConstants as edit_ids
+use Rattle.capkit.specs.declared.merge_line.TheConstants as merge_ids
+use Rattle.capkit.specs.declared.print_line.TheConstants as print_ids
 
 -- ---- clap's matches
 
@@ -67,7 +70,8 @@ shift_by None None = Shift.None
 
 -- how times are shifted: by `--later` or `--earlier`, or not
 abbrev pub shift_in : List Row → Shift
-shift_in matches = shift_by (duration_in ids.LATER.now matches) (duration_in ids.EARLIER.now matches)
+shift_in matches =
+    shift_by (duration_in edit_ids.LATER.now matches) (duration_in edit_ids.EARLIER.now matches)
 
 -- the format of the packets if `-w` names a capture; else None, and lines are printed
 abbrev pub write_in : List Row → Option Format
@@ -107,8 +111,8 @@ is_bad_duration id matches = is_some (first_of id matches) && is_none (duration_
 -- whether the text of an argument for a time or a number of seconds isn't one
 abbrev pub has_bad_time : List Row → Bool
 has_bad_time matches =
-    is_bad_time ids.START.now matches || (is_bad_time ids.STOP.now matches
-    || (is_bad_duration ids.LATER.now matches || is_bad_duration ids.EARLIER.now matches))
+    is_bad_time edit_ids.START.now matches || (is_bad_time edit_ids.STOP.now matches
+    || (is_bad_duration edit_ids.LATER.now matches || is_bad_duration edit_ids.EARLIER.now matches))
 
 -- the fault of such a text
 abbrev pub time_fault : List Row → Option Usage
@@ -117,7 +121,7 @@ time_fault matches = if has_bad_time matches then Some BadTime else None
 -- whether times should be shifted both later and earlier
 abbrev pub has_two_shifts : List Row → Bool
 has_two_shifts matches =
-    is_some (first_of ids.LATER.now matches) && is_some (first_of ids.EARLIER.now matches)
+    is_some (first_of edit_ids.LATER.now matches) && is_some (first_of edit_ids.EARLIER.now matches)
 
 -- the fault of times that are shifted both ways
 abbrev pub shift_fault : List Row → Option Usage
@@ -127,11 +131,12 @@ shift_fault matches = if has_two_shifts matches then Some OptionsExclude else No
 -- then a name used twice
 abbrev pub option_fault : List Row → Option Usage
 option_fault matches = or_else (time_fault matches) (or_else (shift_fault matches)
-    (name_fault (text_in ids.IN.now matches ∷ []) (Some (text_in ids.OUT.now matches))))
+    (name_fault (text_in edit_ids.IN.now matches ∷ []) (Some (text_in ids.OUT.now matches))))
 
 -- the first fault of an edit: too many ranges, then a bad one, then a fault of the options
 abbrev pub edit_fault : List Row → Option Usage
-edit_fault matches = or_else (range_fault (texts_in ids.RANGE.now matches)) (option_fault matches)
+edit_fault matches =
+    or_else (range_fault (texts_in edit_ids.RANGE.now matches)) (option_fault matches)
 
 -- the names of the inputs of a command that has several: there is one at least
 abbrev pub files_in : List Row → List Text
@@ -156,19 +161,19 @@ infos_fault matches = files_fault (files_in matches) None
 -- the names of the inputs: the capture's, and the listing's if there is one
 abbrev pub read_names : List Row → List Text
 read_names matches =
-    text_in ids.FILE.now matches ∷ option_to_list (first_of ids.LISTING.now matches)
+    text_in ids.FILE.now matches ∷ option_to_list (first_of print_ids.LISTING.now matches)
 
 -- whether both a listing and an expression are given; a print takes only one
 abbrev pub has_two_filters : List Row → Bool
 has_two_filters matches =
-    is_some (first_of ids.LISTING.now matches)
+    is_some (first_of print_ids.LISTING.now matches)
     && nat_lt 0 (length (texts_in ids.WORD.now matches))
 
 -- whether a capture is written, but link headers or bytes of lines are asked for
 abbrev pub has_two_outputs : List Row → Bool
 has_two_outputs matches =
     is_some (first_of ids.OUT.now matches)
-    && (flag_in ids.LINK_HEADER.now matches || flag_in ids.BYTES.now matches)
+    && (flag_in print_ids.LINK_HEADER.now matches || flag_in print_ids.BYTES.now matches)
 
 -- whether a format is given though no capture is written
 abbrev pub has_idle_format : List Row → Bool
@@ -194,24 +199,25 @@ print_fault matches =
 
 -- the edit has everything that the options ask for, except its ranges
 pub record HasOptions (matches : List Row) (edit : Edit Global) : Type 0 where
-  pub keep : edit.keep ≡ flag_in ids.KEEP.now matches
-  pub start : edit.start ≡ time_in ids.START.now matches
-  pub stop : edit.stop ≡ time_in ids.STOP.now matches
+  pub keep : edit.keep ≡ flag_in edit_ids.KEEP.now matches
+  pub start : edit.start ≡ time_in edit_ids.START.now matches
+  pub stop : edit.stop ≡ time_in edit_ids.STOP.now matches
   pub chop_start : edit.chop_start ≡
-      unwrap_or (argument_number 0 most_32 ids.CHOP_START.now matches) 0
-  pub chop_end : edit.chop_end ≡ unwrap_or (argument_number 0 most_32 ids.CHOP_END.now matches) 0
-  pub snap : edit.snap ≡ argument_number 1 most_32 ids.SNAP.now matches
+      unwrap_or (argument_number 0 most_32 edit_ids.CHOP_START.now matches) 0
+  pub chop_end : edit.chop_end ≡
+      unwrap_or (argument_number 0 most_32 edit_ids.CHOP_END.now matches) 0
+  pub snap : edit.snap ≡ argument_number 1 most_32 edit_ids.SNAP.now matches
   pub shift : edit.shift ≡ shift_in matches
-  pub window : edit.window ≡ argument_number least_window most_window ids.WINDOW.now matches
+  pub window : edit.window ≡ argument_number least_window most_window edit_ids.WINDOW.now matches
   pub format : edit.format ≡ format_in ids.FORMAT.now matches
 
 -- the line is the edit that the matches ask for
 pub record IsEditOf (matches : List Row) (line : Line) : Type 0 where
   pub edit : Edit Global
   pub command : line.command ≡ Command.Edit edit
-  pub ranges : map Some edit.ranges.items ≡ map range_of (texts_in ids.RANGE.now matches)
+  pub ranges : map Some edit.ranges.items ≡ map range_of (texts_in edit_ids.RANGE.now matches)
   pub options : HasOptions matches edit
-  pub inputs : map string_bytes line.inputs.items ≡ text_in ids.IN.now matches ∷ []
+  pub inputs : map string_bytes line.inputs.items ≡ text_in edit_ids.IN.now matches ∷ []
   pub output : option_map string_bytes line.output ≡ Some (text_in ids.OUT.now matches)
   pub code : line.code ≡ None
 
@@ -219,7 +225,7 @@ pub record IsEditOf (matches : List Row) (line : Line) : Type 0 where
 pub record IsMergeOf (matches : List Row) (line : Line) : Type 0 where
   pub merge : Merge
   pub command : line.command ≡ Command.Merge merge
-  pub append : merge.append ≡ flag_in ids.APPEND.now matches
+  pub append : merge.append ≡ flag_in merge_ids.APPEND.now matches
   pub format : merge.format ≡ format_in ids.FORMAT.now matches
   pub inputs : map string_bytes line.inputs.items ≡ files_in matches
   pub output : option_map string_bytes line.output ≡ Some (text_in ids.OUT.now matches)
@@ -238,20 +244,20 @@ pub record IsPrintOf (matches : List Row) (line : Line) : Type 0 where
   pub command : line.command ≡ Command.Print print
   pub expr : string_bytes print.expr ≡ expression_in matches
   pub unread : print.code ≡ None
-  pub count : print.count ≡ argument_number 1 most_64 ids.COUNT.now matches
-  pub link : print.link ≡ flag_in ids.LINK_HEADER.now matches
-  pub bytes : print.bytes ≡ flag_in ids.BYTES.now matches
+  pub count : print.count ≡ argument_number 1 most_64 print_ids.COUNT.now matches
+  pub link : print.link ≡ flag_in print_ids.LINK_HEADER.now matches
+  pub bytes : print.bytes ≡ flag_in print_ids.BYTES.now matches
   pub write : print.write ≡ write_in matches
   pub inputs : map string_bytes line.inputs.items ≡ text_in ids.FILE.now matches ∷ []
   pub output : option_map string_bytes line.output ≡ first_of ids.OUT.now matches
-  pub code : option_map string_bytes line.code ≡ first_of ids.LISTING.now matches
+  pub code : option_map string_bytes line.code ≡ first_of print_ids.LISTING.now matches
 
 -- the line is the compilation that the matches ask for
 pub record IsCompileOf (matches : List Row) (line : Line) : Type 0 where
   pub compile : Compile Global
   pub command : line.command ≡ Command.Compile compile
   pub expr : string_bytes compile.expr ≡ expression_in matches
-  pub link : compile.link ≡ link_in ids.LINK.now matches
+  pub link : compile.link ≡ link_in print_ids.LINK.now matches
   pub inputs : line.inputs.items ≡ []
   pub output : line.output ≡ None
   pub code : line.code ≡ None

@@ -1,5 +1,5 @@
-//! The command line as clap parses it: clap's commands and arguments, made of the tables in
-//! `options.rt`.
+//! The command line as clap parses it: clap's commands and arguments, made of the tables of the
+//! subcommands.
 ghost use Rattle.std.specs.Prelude.{◌≡◌, IfOk, IfErr, map, false, string_bytes};
 ghost use Rattle.clap.specs.Words.{app_of, new_rule, rule_of, subcommand_rows_of};
 ghost use Rattle.clap.specs.declared.builder.command.Command.TheViews.{out-Command as fields_of};
@@ -132,11 +132,11 @@ fn line_without_commands<'a>(alloc: Global) -> Result<Command<'a>, AllocError>
 /// that memory ran out.
 fn line_with_commands<'a>(
     alloc: Global,
-    rows: &[CommandRow],
+    rows: &[&CommandRow],
     choices: Choices<'a>,
 ) -> Result<Command<'a>, AllocError>
     ensures { IfOk result (λ command. app_of command ≡ with_shapes line_without_commands
-        (map (shape_by choices.entry) rows.now)) }
+        (map (λ row. shape_by choices.entry row.now) rows.now)) }
 {
     let mut command = line_without_commands(alloc)?;
     for row in rows {
@@ -156,7 +156,7 @@ fn whole_line<'a>(alloc: Global) -> Result<Command<'a>, AllocError>
         formats: FORMATS.as_slice(),
         links: LINKS.as_slice(),
     };
-    line_with_commands(alloc, commands(), choices)
+    line_with_commands(alloc, &commands(), choices)
 }
 
 /// Parses the words after the program's name, and returns clap's matches of them. An error is

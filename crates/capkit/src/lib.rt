@@ -5,9 +5,10 @@
 //! [`Line`], which is a command with the names that it is run over, or a [`Usage`], which is the
 //! reason for a refusal.
 //!
-//! - `options::commands` returns the subcommands with their options and help, an
-//!   `options::Argument` each; `ids` has the names by which their values are read.
-//! - `arguments::matches_of` parses words by these tables, and returns clap's matches.
+//! - `edit_line`, `merge_line` and `print_line` have the tables of the subcommands: their options
+//!   and help, an `options::Argument` each, and the ids by which their values are read.
+//! - `options::commands` returns these tables. `arguments::matches_of` parses words by them, and
+//!   returns clap's matches.
 //! - `line` has a command's words as a [`Line`], by the module of its subcommand, as `edit_line`.
 //! - `opening` has what a command is run over, `ending` how its run ends, and `refusal` what is
 //!   reported of other words.

@@ -1,5 +1,5 @@
 //! The command lines of `print`, with its expression or its listing, its options and its names, or
-//! the first fault of them, and of `compile`.
+//! the first fault of them, and of `compile`; and the tables of their options.
 ghost use Rattle.std.specs.Prelude.{◌≡◌, ◌||◌, ◌∷◌, ◌≤◌, IfOk, IfErr, IfSome, OnOk, Some, None};
 ghost use Rattle.std.specs.Option.{option_map_or, option_to_list};
 ghost use Rattle.std.specs.Prelude.{option_map, string_bytes, true};
@@ -9,19 +9,118 @@ ghost use Rattle.capkit.specs.Line.{argument_number, expression_in, flag_in, has
 ghost use Rattle.capkit.specs.Line.{has_two_filters, has_two_outputs, is_ready};
 ghost use Rattle.capkit.specs.{Arguments.most_64, Names.uses_name_twice};
 ghost use Rattle.capkit.specs.declared.usage.Usage.TheVariants.{Memory};
-ghost use Rattle.capkit.specs.declared.ids.TheConstants.{BYTES, COUNT, LINK_HEADER};
+ghost use Rattle.capkit.specs.declared.print_line.TheConstants.{BYTES, COUNT, LINK_HEADER};
 ghost use Rattle.capkit.specs.Line.{print_fault, write_in, IsUsageOf, IsPrintOf, IsCompileOf};
+ghost use Rattle.clap.specs.declared.builder.value_parser.ValueParser.TheVariants.{Names};
+ghost use Rattle.capkit.specs.declared.arguments.Choices.{Choices};
+ghost use Rattle.capkit.specs.Arguments.{compile_shape, print_shape};
+ghost use Rattle.capkit.specs.inside.Arguments.{shape_by};
 
+use crate::examples::{COMPILE_HELP, PRINT_HELP};
 use crate::files::copies_of_texts;
 use crate::ids;
 use crate::line::Line;
 use crate::names::uses_name_twice;
+use crate::options::{Argument, CommandRow, FILE, Name, Value, WORD};
 use crate::usage::Usage;
 use crate::values::{flag, format, is_given, link, number, optional_text, text, texts};
 use cap_command::{Command, Compile, Print};
 use cap_octet::Format;
 use clap::ArgMatches;
 use std::alloc::{AllocError, Global};
+
+/// The number of matching packets after which a print ends.
+pub const COUNT: &str = "count";
+
+/// Whether lines have the link header.
+pub const LINK_HEADER: &str = "link";
+
+/// Whether lines have the bytes after the link header.
+pub const BYTES: &str = "bytes";
+
+/// The file with the listing that selects packets.
+pub const LISTING: &str = "LISTING";
+
+/// The link that an expression is compiled for.
+pub const LINK: &str = "LINK";
+
+/// Without `-w` a print writes lines.
+static PRINT: CommandRow = CommandRow {
+    name: "print",
+    about: "Print or write the packets that match an expression or a listing",
+    examples: PRINT_HELP,
+    arguments: &[
+        Argument {
+            id: COUNT,
+            name: Name::Letter('c'),
+            value: Value::Wide("N", 1, u64::MAX),
+            help: "Stop after N matching packets, 1 or more",
+        },
+        Argument {
+            id: LINK_HEADER,
+            name: Name::Letter('e'),
+            value: Value::Flag,
+            help: "Also print the link header of each packet",
+        },
+        Argument {
+            id: BYTES,
+            name: Name::Letter('x'),
+            value: Value::Flag,
+            help: "Also print the bytes that follow the link header",
+        },
+        Argument {
+            id: ids::OUT,
+            name: Name::Letter('w'),
+            value: Value::File,
+            help: "Write the packets to OUT (- is standard output) instead",
+        },
+        Argument {
+            id: ids::FORMAT,
+            name: Name::Long("format"),
+            value: Value::Format,
+            help: "Format to write, with -w (default: pcapng){n}",
+        },
+        Argument {
+            id: LISTING,
+            name: Name::Long("code"),
+            value: Value::File,
+            help: "Match with this listing instead of an expression",
+        },
+        FILE,
+        WORD,
+    ],
+};
+
+/// The row of `print`. Only this function names it: its texts stand at each step of such a proof.
+pub fn print_row() -> &'static CommandRow
+    ensures { (choices : Choices) → shape_by choices result.now
+        ≡ print_shape (Names choices.formats) }
+{
+    &PRINT
+}
+
+static COMPILE: CommandRow = CommandRow {
+    name: "compile",
+    about: "Compile an expression, and write the listing of its program",
+    examples: COMPILE_HELP,
+    arguments: &[
+        Argument {
+            id: LINK,
+            name: Name::Long("link"),
+            value: Value::Link,
+            help: "Compile for this link type (default: ether){n}",
+        },
+        WORD,
+    ],
+};
+
+/// The row of `compile`. Only this function names it: its texts stand at each step of such a proof.
+pub fn compile_row() -> &'static CommandRow
+    ensures { (choices : Choices) → shape_by choices result.now
+        ≡ compile_shape (Names choices.links) }
+{
+    &COMPILE
+}
 
 /// The text of an expression: its words, with a blank between each two; empty without words. An
 /// error means that memory ran out.
@@ -60,7 +159,7 @@ fn print_uses_name_twice(input: &str, listing: Option<&str>, output: Option<&str
 fn has_two_filters(matches: &ArgMatches<'_>) -> bool
     ensures { result ≡ has_two_filters (rows_of (found_of matches.now)) }
 {
-    is_given(matches, ids::LISTING) && !texts(matches, ids::WORD).is_empty()
+    is_given(matches, LISTING) && !texts(matches, ids::WORD).is_empty()
 }
 
 /// Whether options are given that the output can't have: link headers or bytes, though packets are
@@ -70,7 +169,7 @@ fn has_idle_option(matches: &ArgMatches<'_>) -> bool
         || has_idle_format (rows_of (found_of matches.now))) }
 {
     if is_given(matches, ids::OUT) {
-        flag(matches, ids::LINK_HEADER) || flag(matches, ids::BYTES)
+        flag(matches, LINK_HEADER) || flag(matches, BYTES)
     } else {
         is_given(matches, ids::FORMAT)
     }
@@ -86,7 +185,7 @@ fn check_print(matches: &ArgMatches<'_>) -> Result<(), Usage>
     if has_two_filters(matches) || has_idle_option(matches) {
         return Err(Usage::OptionsExclude);
     }
-    let listing = optional_text(matches, ids::LISTING);
+    let listing = optional_text(matches, LISTING);
     if print_uses_name_twice(
         text(matches, ids::FILE),
         listing,
@@ -122,9 +221,9 @@ fn print_of(matches: &ArgMatches<'_>, expr: String) -> Print
     Print {
         expr,
         code: None,
-        count: number(matches, ids::COUNT, 1, u64::MAX),
-        link: flag(matches, ids::LINK_HEADER),
-        bytes: flag(matches, ids::BYTES),
+        count: number(matches, COUNT, 1, u64::MAX),
+        link: flag(matches, LINK_HEADER),
+        bytes: flag(matches, BYTES),
         write: output_format(matches),
     }
 }
@@ -140,7 +239,7 @@ pub fn print_line(alloc: Global, matches: &ArgMatches<'_>) -> Result<Line, Usage
     check_print(matches)?;
     let expr = expression_text(alloc, matches)?;
     let output = copy_of_text(alloc, optional_text(matches, ids::OUT))?;
-    let code = copy_of_text(alloc, optional_text(matches, ids::LISTING))?;
+    let code = copy_of_text(alloc, optional_text(matches, LISTING))?;
     let inputs = copies_of_texts(alloc, text(matches, ids::FILE), &[])?;
     Ok(Line {
         command: Command::Print(print_of(matches, expr)),
@@ -159,7 +258,7 @@ pub fn compile_line(alloc: Global, matches: &ArgMatches<'_>) -> Result<Line, Usa
 {
     let compile = Compile {
         expr: expression_text(alloc, matches)?,
-        link: link(matches, ids::LINK),
+        link: link(matches, LINK),
     };
     Ok(Line {
         command: Command::Compile(compile),

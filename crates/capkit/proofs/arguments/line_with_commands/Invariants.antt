@@ -4,5 +4,5 @@ use Rattle.capkit.proofs.arguments.line_with_commands.Given as goal
 
 abbrev pub invariant-loop-row : goal.invariant-loop-row
 invariant-loop-row l =
-    with_shapes (app_of l.command) (map (shape_by l.choices) (drop l.row-index l.rows))
-    ≡ with_shapes line_without_commands (map (shape_by l.choices) l.rows)
+    with_shapes (app_of l.command) (map (λ row. shape_by l.choices row.now) (drop l.row-index l.rows))
+    ≡ with_shapes line_without_commands (map (λ row. shape_by l.choices row.now) l.rows)
