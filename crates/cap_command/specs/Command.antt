@@ -1,6 +1,6 @@
 -- Which commands may be run, the listing of a print, and which packets an edit keeps.
 use Rattle.std.specs.{List.list_all, List.list_any, Option.is_none, Option.option_map, Option.option_map_or}
-use Rattle.std.specs.Prelude.{ℕ, ◌^◌, ◌&&◌, ◌||◌, Bool, true, not, List, length, nat_eq, nat_lt, nat_le, string_bytes, Option, if◌then◌else◌}
+use Rattle.std.specs.Prelude.{ℕ, ◌≡◌, ◌^◌, ◌&&◌, ◌||◌, Bool, true, not, List, length, nat_eq, nat_lt, nat_le, string_bytes, Option, if◌then◌else◌}
 use Rattle.cap_octet.specs.Date.{TIME_END}
 use Rattle.cap_command.specs.declared.command.{Command.Command, Edit.Edit, Print.Print, Shift.Shift}
 
@@ -62,6 +62,18 @@ is_proper_edit edit =
     && (option_map_or is_time edit.start true && (option_map_or is_time edit.stop true
     && (option_map_or is_at_least_one edit.snap true
     && (is_proper_shift edit.shift && option_map_or is_window edit.window true))))
+
+-- the edits are equal, except for their ranges
+pub record HasSameOptions {Y Z : Type 0} (one : Edit Y) (other : Edit Z) : Type 0 where
+  pub keep : other.keep ≡ one.keep
+  pub start : other.start ≡ one.start
+  pub stop : other.stop ≡ one.stop
+  pub chop_start : other.chop_start ≡ one.chop_start
+  pub chop_end : other.chop_end ≡ one.chop_end
+  pub snap : other.snap ≡ one.snap
+  pub shift : other.shift ≡ one.shift
+  pub window : other.window ≡ one.window
+  pub format : other.format ≡ one.format
 
 -- an expression and a listing aren't both given
 abbrev pub has_at_most_one_filter : {X : Type 0} → List ℕ → Option X → Bool

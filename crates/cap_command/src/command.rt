@@ -6,6 +6,7 @@ ghost use Rattle.cap_command.specs.Command.{is_at_least_one, is_window, is_prope
 ghost use Rattle.cap_command.specs.Command.{is_proper_edit, is_proper_print};
 ghost use Rattle.cap_command.specs.Command.{has_at_most_one_filter, has_at_most_one_output};
 ghost use Rattle.cap_command.specs.Command.{has_proper_ranges, is_in_some_range, is_kept};
+ghost use Rattle.cap_command.specs.Command.{HasSameOptions};
 
 use cap_octet::date::TIME_END;
 use cap_octet::{Format, Link};
@@ -206,6 +207,25 @@ fn allows_window(window: Option<u32>) -> bool
 }
 
 impl<A: Allocator> Edit<A> {
+    /// The edit with these ranges in place of its own; they may be in other memory.
+    pub fn with_ranges<B: Allocator>(&self, ranges: Vec<(u64, u64), B>) -> Edit<B>
+        ensures ranges { result.ranges ≡ ranges }
+        ensures others { HasSameOptions self.now result }
+    {
+        Edit {
+            ranges,
+            keep: self.keep,
+            start: self.start,
+            stop: self.stop,
+            chop_start: self.chop_start,
+            chop_end: self.chop_end,
+            snap: self.snap,
+            shift: self.shift,
+            window: self.window,
+            format: self.format,
+        }
+    }
+
     /// Whether ranges, times, `snap`, shift and window keep their bounds, as `Command::is_proper`
     /// has them.
     fn is_proper(&self) -> bool

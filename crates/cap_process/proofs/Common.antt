@@ -32,9 +32,9 @@ pub use Rattle.cap_process.specs.Selector.{is_count, state_of, spent_by, spent_b
 pub use Rattle.cap_process.specs.Selector.{window_of}
 pub use Rattle.cap_process.specs.Verdict.{Policy, Edit, EditRule, Filter, filters, is_last, KeepAll, Count, Judgement, SelectorState, initial_state, Verdict}
 pub use Rattle.cap_process.specs.Verdict.{Pass, PassLast, Skip, Refuse, is_selected, is_too_many, judge, passes, unique, skip_judgement, edited_packet_with}
-pub use Rattle.cap_process.specs.Verdict.{shifted_time, refuses, selects, with_mark, judge_by}
+pub use Rattle.cap_process.specs.Verdict.{shifted_time, refuses, selects, with_mark, judge_by, no_options}
 pub use Rattle.cap_process.specs.Whole.{CopyEnds, EditEnds, EndsAs, EndsUnlessRefused, HasCarried, InfosEnds, MergeEnds, PrintEnds, end_by_decision, is_reached}
-pub use Rattle.cap_process.specs.Whole.{print_work, rule_end, edit_work, event_packets, file_packets, first_refusal, infos_work, merge_work, no_options}
+pub use Rattle.cap_process.specs.Whole.{print_work, rule_end, edit_work, event_packets, file_packets, first_refusal, infos_work, merge_work}
 pub use Rattle.cap_process.specs.Whole.{packets_in_order, AreRead, NegationParts, is_rejected_on, is_rejection, packets_rejected, CutsGivePrefixes, EditKeeps}
 pub use Rattle.cap_process.specs.Whole.{EditWrites, EditsAlike, MergesOne, copy_of, InfosReports, MergeWrites, PrintLines, PrintWrites, closing_if, reports_by}
 pub use Rattle.cap_process.specs.Whole.{reports_of, packets_written, written_text, written_unless, EndsByRefusal, IsFirstRefused, file_events, packets_edited}

@@ -3,7 +3,6 @@ use Rattle.std.specs.Prelude.{◌≡◌, ℕ, ◌-◌, ◌^◌, ◌≤◌, Bool,
 use Rattle.cap_octet.specs.{Link.all_links, Packet.Captured}
 use Rattle.cap_process.specs.{Window.WindowView, declared.mark.Mark.Mark}
 use Rattle.flt_bpf.specs.Content.{Content}
-use Rattle.cap_command.specs.declared.command.Edit as command_edit
 use Rattle.flt_ast.specs.Tree.{empty, truth}
 use Rattle.cap_filter.specs.FilterRules as rules
 use Rattle.cap_filter.specs.FilterRules.{by_reading, by_answer}
@@ -12,7 +11,7 @@ use Rattle.cap_filter.specs.Programs.{AreMade}
 use Rattle.cap_process.specs.declared.selector.Policy as code_policy
 use Rattle.cap_process.specs.declared.selector.Policy.TheVariants as policy
 use Rattle.cap_process.specs.Reports.{Tally}
-use Rattle.cap_process.specs.Verdict.{Policy, Edit, Filter, KeepAll, Count, EditRule, SelectorState, is_too_many}
+use Rattle.cap_process.specs.Verdict.{Policy, Edit, Filter, KeepAll, Count, SelectorState, edit_rule_of, is_too_many}
 use Rattle.cap_io.specs.Reading.{most_in_unit}
 
 -- a selector: its policy, its state, and the programs of its filter
@@ -25,20 +24,6 @@ pub record SelectorView : Type 0 where
 -- the state of a selector with these marks in its window
 abbrev pub state_of : ℕ → List Mark → Tally → SelectorState
 state_of passed marks tally = record { passed = passed; window = marks; tally = tally }
-
--- the rule of an edit command
-abbrev pub edit_rule_of : {Z : Type 0} → command_edit.Edit Z → EditRule
-edit_rule_of edit = record {
-  ranges = edit.ranges.items;
-  keep = edit.keep;
-  start = edit.start;
-  stop = edit.stop;
-  chop_start = edit.chop_start;
-  chop_end = edit.chop_end;
-  snap = edit.snap;
-  shift = edit.shift;
-  window = edit.window;
-}
 
 -- the view of a `Policy` of the code
 abbrev pub policy_of : {Z : Type 0} → code_policy.Policy Z → Policy

@@ -4,6 +4,7 @@ use Rattle.std.specs.Prelude.{◌≡◌, ℕ, ◌+◌, ◌-◌, ◌==◌, ◌&&�
 use Rattle.cap_octet.specs.{Date.TIME_END, Packet.Captured}
 use Rattle.cap_octet.specs.declared.fault.Fault.{Fault, TheVariants.TimeOutOfRange, TheVariants.TooManyPackets}
 use Rattle.cap_command.specs.{Command.PACKET_NUMBER_END, Command.is_kept, declared.command.Shift.Shift}
+use Rattle.cap_command.specs.declared.command.Edit as command_edit
 use Rattle.cap_filter.specs.FilterRules as chosen
 use Rattle.cap_filter.specs.FilterRules.{Decision, Rule, rule_decides}
 use Rattle.cap_process.specs.Reports.{Tally, nothing_counted, tally_with}
@@ -24,6 +25,34 @@ pub record EditRule : Type 0 where
   pub snap : Option ℕ
   pub shift : Shift
   pub window : Option ℕ
+
+-- the rule of an edit command
+abbrev pub edit_rule_of : {Z : Type 0} → command_edit.Edit Z → EditRule
+edit_rule_of edit = record {
+  ranges = edit.ranges.items;
+  keep = edit.keep;
+  start = edit.start;
+  stop = edit.stop;
+  chop_start = edit.chop_start;
+  chop_end = edit.chop_end;
+  snap = edit.snap;
+  shift = edit.shift;
+  window = edit.window;
+}
+
+-- an edit without options: all packets, as they are
+abbrev pub no_options : EditRule
+no_options = record {
+  ranges = [];
+  keep = false;
+  start = None;
+  stop = None;
+  chop_start = 0;
+  chop_end = 0;
+  snap = None;
+  shift = Shift.None;
+  window = None;
+}
 
 -- the policy that judges a job's packets
 pub data Policy : Type 0 where

@@ -7,7 +7,6 @@ use Rattle.cap_octet.specs.declared.{fault.Fault.Fault, format.Format.Format, li
 use Rattle.cap_io.specs.Capture.{Ending, End, FaultAt, Items, Placed, items, kind_of}
 use Rattle.cap_io.specs.RoundTrip.{Carries}
 use Rattle.cap_io.specs.Sequence.{Event, Packet, InputEnd, SequenceEnd, Complete, FaultIn, PacketOrder, InTurn, InputItems, end_of, whole_input, sequence_of}
-use Rattle.cap_command.specs.declared.command.Shift.{Shift}
 use Rattle.cap_print.specs.declared.print.Options.{Options}
 use Rattle.flt_ast.specs.Tree.{TruthTree, denied, truth}
 use Rattle.flt_gen.specs.{Elementary.MatchResult, Elementary.Rejected, Reading.holds}
@@ -16,7 +15,7 @@ use Rattle.cap_process.specs.Lists.{at_most, end_at_time, first_without_time, pa
 use Rattle.cap_process.specs.Messages.{fault_message}
 use Rattle.cap_process.specs.Outcome.{Form, AsCapture, AsReports, AsLines, Outcome, Work, form_refuses, output_text, closing_text, first_link, lines_text, outcome}
 use Rattle.cap_process.specs.Reports.{Report, name_at, reports_text}
-use Rattle.cap_process.specs.Verdict.{Edit, EditRule, Filter, KeepAll, Count}
+use Rattle.cap_process.specs.Verdict.{Edit, EditRule, Filter, KeepAll, Count, no_options}
 
 -- ---- what is written of kept packets
 
@@ -289,20 +288,6 @@ InfosEnds =
     → EndsAs names (sequence_of InTurn rs).end (outcome (infos_work names) names rs)
 
 -- ---- edits without options
-
--- an edit without options: all packets, as they are
-abbrev pub no_options : EditRule
-no_options = record {
-  ranges = [];
-  keep = false;
-  start = None;
-  stop = None;
-  chop_start = 0;
-  chop_end = 0;
-  snap = None;
-  shift = Shift.None;
-  window = None;
-}
 
 -- A merge of one file has the same outcome as its edit without options.
 abbrev pub MergesOne : Type 0

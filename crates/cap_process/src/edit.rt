@@ -2,10 +2,11 @@
 ghost use Rattle.std.specs.Prelude.{ℕ, ◌≡◌, ◌^◌, ◌<◌, ◌≤◌, IfSome, None, Ok, Option, drop, length};
 ghost use Rattle.cap_octet.specs.Packet.{captured};
 ghost use Rattle.cap_io.specs.Reading.{most_in_unit};
-ghost use Rattle.cap_process.specs.Verdict.{edited_packet_with, is_before_stop, is_from_start};
-ghost use Rattle.cap_process.specs.Verdict.{is_selected, shifted_time, selects, bytes_within_snap};
-ghost use Rattle.cap_process.specs.{Reports.Tally, Verdict.unique, Verdict.without_last};
-ghost use Rattle.cap_process.specs.Selector.{marks_in, edit_rule_of, state_of};
+ghost use Rattle.cap_process.specs.Verdict.{edit_rule_of, edited_packet_with, is_before_stop};
+ghost use Rattle.cap_process.specs.Verdict.{is_from_start, is_selected, shifted_time, selects};
+ghost use Rattle.cap_process.specs.Verdict.{bytes_within_snap, unique, without_last};
+ghost use Rattle.cap_process.specs.Reports.{Tally};
+ghost use Rattle.cap_process.specs.Selector.{marks_in, state_of};
 ghost use Rattle.cap_process.specs.inside.Selector.{IsWindowFor, ReturnsVerdict};
 
 use crate::window::Window;

@@ -4,7 +4,7 @@ use Rattle.cap_octet.specs.declared.{format.Format.Format, link.Link.Link}
 use Rattle.cap_print.specs.declared.print.Options.{Options}
 use Rattle.cap_command.specs.{Command.listing_of, declared.command.Command.Command, declared.command.Print.Print}
 use Rattle.cap_tools.specs.declared.start.Preparation.{Preparation}
-use Rattle.cap_process.specs.{Selector.edit_rule_of, Verdict.Policy, Verdict.Edit, Verdict.KeepAll, Verdict.Count}
+use Rattle.cap_process.specs.{Verdict.edit_rule_of, Verdict.Policy, Verdict.Edit, Verdict.KeepAll, Verdict.Count}
 use Rattle.cap_process.specs.declared.output.Writing.{Writing}
 use Rattle.cap_io.specs.Sequence.{PacketOrder, InTurn, order_of}
 

@@ -1,6 +1,6 @@
 //! The command of a line and its names over other memory, such as an allocator that fails.
 
-use cap_command::{Command, Compile, Edit, Print};
+use cap_command::{Command, Compile, Print};
 use capkit::Line;
 use std::alloc::{AllocError, Allocator};
 
@@ -13,18 +13,7 @@ pub fn command_over<A: Allocator + Copy + Drop>(
     match &line.command {
         Command::Edit(edit) => {
             let ranges = Vec::from_slice(memory, &edit.ranges)?;
-            Ok(Command::Edit(Edit {
-                ranges,
-                keep: edit.keep,
-                start: edit.start,
-                stop: edit.stop,
-                chop_start: edit.chop_start,
-                chop_end: edit.chop_end,
-                snap: edit.snap,
-                shift: edit.shift,
-                window: edit.window,
-                format: edit.format,
-            }))
+            Ok(Command::Edit(edit.with_ranges(ranges)))
         }
         Command::Merge(merge) => Ok(Command::Merge(*merge)),
         Command::Infos => Ok(Command::Infos),
