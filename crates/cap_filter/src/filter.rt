@@ -52,7 +52,7 @@ impl<A: Allocator> Filter<A> {
 }
 
 /// Why an expression or a listing is refused, before any input is read.
-#[derive(Clone, Copy, Debug, PartialEq, Eq)]
+#[derive(Clone, Copy)]
 pub enum Refusal {
     /// The words aren't an expression, or there was no memory for it.
     Expression(ExprFault),
