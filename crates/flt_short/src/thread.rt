@@ -195,6 +195,14 @@ fn is_reached(seen: &[Known], place: usize) -> bool {
     }
 }
 
+/// Whether the instruction at a place is a return. No walk goes past it, so none need be tried.
+fn is_return_at(code: &[Wide], place: usize) -> bool {
+    match code.get(place) {
+        Some(insn) => is_return(insn.code),
+        None => false,
+    }
+}
+
 /// The end of the last of some walks, each of which begins at the end of the one before it. None
 /// follows one that ends at its beginning. After `WALKS` of them the result is the last of these
 /// ends that is reached already, since code for no other path is kept then. If none is, walks go on
@@ -204,6 +212,9 @@ fn last_place(known: &Known, code: &[Wide], from: usize, seen: &[Known], left: &
 {
     let (mut place, mut reached) = (from, from);
     for turn in 0..code.len() {
+        if is_return_at(code, place) {
+            return place;
+        }
         let spot = Spot {
             place,
             held: known.held,
@@ -240,10 +251,6 @@ fn threaded_offset(
 ) -> u32
     ensures { Moves known.now following.now skipped result }
 {
-    // No walk goes past a return.
-    if matches!(following.get(skipped as usize), Some(insn) if is_return(insn.code)) {
-        return skipped;
-    }
     let place = last_place(known, following, skipped as usize, seen, left);
     // An expression's code is too short for an error: its places fit 32 bits.
     match u32::try_from(place) {
