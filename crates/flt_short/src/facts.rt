@@ -10,12 +10,12 @@ ghost use Rattle.std.specs.Prelude.{◌≡◌, ◌<◌, IsTrue, IfSome, List, �
 ghost use Rattle.flt_short.specs.declared.facts.IndexValue.{IndexValue};
 ghost use Rattle.flt_bpf.specs.{Instructions.operation_of, declared.machine.State.State};
 ghost use Rattle.flt_short.specs.inside.Facts.{same_optional, same_index, same_load, same_field};
-ghost use Rattle.flt_short.specs.inside.Facts.{claims_nothing, allows, load_of, held_at};
+ghost use Rattle.flt_short.specs.inside.Facts.{claims_nothing, allows, load_of, held_at, if_small};
 ghost use Rattle.flt_short.specs.inside.Facts.{Implies, JoinsClaims, same_held, IsOutcome};
 ghost use Rattle.flt_short.specs.inside.Facts.{IsOther, holds_field, masked_held, held_after};
 ghost use Rattle.flt_short.specs.inside.Facts.{known_after, Holds, IsThere, HoldsAt};
 ghost use Rattle.flt_short.specs.inside.Facts.{JoinsFact, JoinsFacts, JoinsBy, IsClaimAbout};
-ghost use Rattle.flt_short.specs.inside.Facts.{if_small, IsClaimAfter, AddsFact, LearnsEqual, Learns, Arrives};
+ghost use Rattle.flt_short.specs.inside.Facts.{IsClaimAfter, AddsFact, LearnsEqual, Learns, Arrives};
 
 use flt_bpf::Wide;
 use flt_bpf::operation::{AluOperation, Operand, Operation, Register, Source, Test, decode};

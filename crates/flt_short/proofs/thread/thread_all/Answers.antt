@@ -13,7 +13,8 @@ loop-at-preserved c =
     record {
       shape = omega (arith, length-set insns at c.thread_insn-insn.result);
       so_far = threaded_more c.arrive.new.seen c.args.insns.now c.loop-at.seen seen c.known_at.result.now insns at c.index-insns-at.result
-          c.thread_insn-insn.result (omega arith) c.loop-at.invariant.so_far (λ p n s h. c.known_at.ensures p n s h (c.nothing_known-nothing.ensures p n s)) here;
+          c.thread_insn-insn.result (omega arith) c.loop-at.invariant.so_far
+          (λ p n s h. c.known_at.ensures p n s h (c.nothing_known-nothing.ensures p n s)) here;
     }
 
 pub returns : goal.returns
