@@ -58,6 +58,14 @@ joined_one x ys k d claim l same joins p n (inr h) =
     let y = get_or ys k d in
     implied y.claim claim (value_of p n x.field) joins.1 (subst (λ o. is_said y.claim o ≡ true) (sym (same_value p n x.field y.field same)) (h k d l))
 
+said_nothing : (o : Option ℕ) → is_said Claim.Nothing o ≡ true
+said_nothing None = refl
+said_nothing (Some n) = refl
+
+-- nothing is claimed
+pub joined_none : (x : Fact) (ys : List Fact) → JoinsFact x ys (record { field = x.field; claim = Claim.Nothing })
+joined_none x ys p n h = said_nothing (value_of p n x.field)
+
 -- some of the facts xs, those before `at`, are joined with ys already
 abbrev pub JoinedSoFar : List Fact → List Fact → List Fact → ℕ → Type 0
 JoinedSoFar first ys xs at = (p : List ℕ) (n : ℕ) → (All (Says p n) first → All (Says p n) xs) × (All (Says p n) ys → All (Says p n) (take at xs))
@@ -142,9 +150,13 @@ module _ (p : List ℕ) (len : ℕ) where
       → HeldHolds p len (masked_held h m) (record s { accumulator = v })
   masks h m v s x e = grind arith
 
+  kept_small : (b : Bool) (x : IndexValue) (v : ℕ) → IndexHolds p x v → IndexHolds p (if b then x else IndexValue.Unknown) v
+  kept_small true x v h = h
+  kept_small false x v h = tt
+
   pub after : (op : Operation) (k : Known) (i : Insn) (s : State) → operation_of i.code ≡ Some op → goes_on_or_rejects op ≡ true → Holds p len k s
       → After (known_after (Some op) k i) (does op i p len s)
-  after op k i s e f y = grind (arith, masks, loads_at)
+  after op k i s e f y = grind (arith, masks, loads_at, kept_small)
 
 -- a run that comes to a place with more known
 pub arrives : (seen : List Known) (place : ℕ) (k d new : Known) → place < length seen → JoinsBy (get_or seen place d).held (get_or seen place d) k new

@@ -6,7 +6,7 @@ use Rattle.flt_short.proofs.Common.{Load, LoadHeaderLength, Compute, Jump, JumpI
 use Rattle.flt_short.proofs.Common.{into, answer_of, answer_after, operand_value, test_holds, is_branch, not, Field, Held, IndexValue, Known, same_held}
 use Rattle.flt_short.proofs.Common.{same_index, IsOutcome, masked_held, load_of, held_after, is_free_by, is_free, known_step, count_by, get_or, cond, start}
 use Rattle.flt_short.proofs.Common.{does, goes_on_or_rejects, ends_in_return, known_after, loaded, loaded_at, IsThere, HeldHolds, IndexHolds, Holds, HoldsAt}
-use Rattle.flt_short.proofs.Common.{IsClaimAbout, Learns, Arrives, with_a, IsDecided, Passes, LeadsTo, GoesOn, Moves, Alike, IsThreaded, AreThreaded}
+use Rattle.flt_short.proofs.Common.{IsClaimAbout, Learns, Arrives, with_a, IsDecided, Passes, LeadsTo, Moves, Alike, IsThreaded, AreThreaded}
 use Rattle.flt_short.proofs.Knowing.{same_indexes, same_value, same_holds, loaded_by, loads_at, After, after, masks}
 use Rattle.flt_short.proofs.Likeness.{at_step}
 use Rattle.std.proofs.Common.{◌≤◌, ◌++◌, take, append_assoc}

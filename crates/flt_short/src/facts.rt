@@ -7,9 +7,10 @@
 //! `code` and `k` are those of a load: together they say which bytes of the packet it takes.
 
 ghost use Rattle.std.specs.Prelude.{◌≡◌, ◌<◌, IsTrue, IfSome, List, ℕ};
+ghost use Rattle.flt_short.specs.declared.facts.IndexValue.{IndexValue};
 ghost use Rattle.flt_bpf.specs.{Instructions.operation_of, declared.machine.State.State};
 ghost use Rattle.flt_short.specs.inside.Facts.{same_optional, same_index, same_load, same_field};
-ghost use Rattle.flt_short.specs.inside.Facts.{claims_nothing, allows, load_of, held_at};
+ghost use Rattle.flt_short.specs.inside.Facts.{claims_nothing, allows, load_of, held_at, if_small};
 ghost use Rattle.flt_short.specs.inside.Facts.{Implies, JoinsClaims, same_held, IsOutcome};
 ghost use Rattle.flt_short.specs.inside.Facts.{IsOther, holds_field, masked_held, held_after};
 ghost use Rattle.flt_short.specs.inside.Facts.{known_after, Holds, IsThere, HoldsAt};
@@ -22,15 +23,16 @@ use flt_bpf::operation::{AluOperation, Operand, Operation, Register, Source, Tes
 /// The number of facts kept at a place. One more takes the place of another (`place_for`).
 pub const MOST_FACTS: usize = 7;
 
-/// What X holds, by what put it there.
+/// What X holds, by what put it there. Only numbers that fit a byte are kept, so that a state is
+/// small.
 #[derive(Clone, Copy)]
 pub enum IndexValue {
     /// Anything.
     Unknown,
     /// The length of the IPv4 header that begins at this byte.
-    HeaderLength(u32),
+    HeaderLength(u8),
     /// This number.
-    Number(u32),
+    Number(u8),
 }
 
 /// A number of the packet: the value that the load with this code and this `k` puts into A; if
@@ -39,8 +41,8 @@ pub enum IndexValue {
 #[derive(Clone, Copy)]
 pub struct Field {
     pub code: u16,
-    pub k: u32,
     pub index: IndexValue,
+    pub k: u32,
     pub mask: Option<u32>,
 }
 
@@ -86,8 +88,8 @@ pub struct Known {
 const NOTHING_CLAIMED: Fact = Fact {
     field: Field {
         code: 0,
-        k: 0,
         index: IndexValue::Unknown,
+        k: 0,
         mask: None,
     },
     claim: Claim::Nothing,
@@ -132,15 +134,15 @@ pub fn same_index(one: IndexValue, other: IndexValue) -> bool
 }
 
 /// Whether two loads put the same into A.
-fn same_load(one: Field, other: Field) -> bool
-    ensures { result ≡ same_load one other }
+fn same_load(one: &Field, other: &Field) -> bool
+    ensures { result ≡ same_load one.now other.now }
 {
     (one.code == other.code && one.k == other.k) && same_index(one.index, other.index)
 }
 
 /// Whether two fields are values of the same load, with the same mask or both without one.
-pub fn same_field(one: Field, other: Field) -> bool
-    ensures { result ≡ same_field one other }
+pub fn same_field(one: &Field, other: &Field) -> bool
+    ensures { result ≡ same_field one.now other.now }
 {
     same_load(one, other) && same_optional(one.mask, other.mask)
 }
@@ -196,27 +198,25 @@ fn joined_claim(claim: Claim, other: Claim) -> Claim
     }
 }
 
-/// The fact that holds where two paths meet: this one holds on one of them, and all of `others`
-/// hold on the other. The first of these with which a claim about its field is left decides.
-#[tactic(auto, using(crate::proofs::Knowing::joined_one))]
-fn joined_fact(fact: Fact, others: &[Fact]) -> Fact
-    ensures { JoinsFact fact others.now result }
+/// The claim about the field of a fact that holds where two paths meet: this fact holds on one of
+/// them, and all of `others` hold on the other. The first of these with which a claim is left
+/// decides.
+#[tactic(auto, using(crate::proofs::Knowing::joined_one, crate::proofs::Knowing::joined_none))]
+fn claim_of_both(fact: &Fact, others: &[Fact]) -> Claim
+    ensures { JoinsFact fact.now others.now (record { field = fact.now.field; claim = result }) }
 {
     if claims_nothing(fact.claim) {
-        return NOTHING_CLAIMED;
+        return Claim::Nothing;
     }
     for other in others {
-        if same_field(fact.field, other.field) {
+        if same_field(&fact.field, &other.field) {
             let claim = joined_claim(fact.claim, other.claim);
             if !claims_nothing(claim) {
-                return Fact {
-                    field: fact.field,
-                    claim,
-                };
+                return claim;
             }
         }
     }
-    NOTHING_CLAIMED
+    Claim::Nothing
 }
 
 /// Changes facts to those that hold where two paths meet: all of them hold on one, and all of
@@ -225,14 +225,14 @@ fn join_facts(facts: &mut [Fact], others: &[Fact])
     ensures { JoinsFacts facts.old others.now facts.new }
 {
     for at in 0..facts.len() {
-        facts[at] = joined_fact(facts[at], others);
+        facts[at].claim = claim_of_both(&facts[at], others);
     }
 }
 
 /// Whether two values of A are the same value of the packet. Nothing is known of two that are
 /// `Unknown`.
-pub fn same_held(one: Held, other: Held) -> bool
-    ensures { result ≡ same_held one other }
+pub fn same_held(one: &Held, other: &Held) -> bool
+    ensures { result ≡ same_held one.now other.now }
 {
     match (one, other) {
         (Held::Field(field), Held::Field(another)) => same_field(field, another),
@@ -253,7 +253,7 @@ fn join(known: &mut Known, came: &Known)
         return;
     }
     join_facts(&mut known.facts, &came.facts);
-    if !same_held(known.held, came.held) {
+    if !same_held(&known.held, &came.held) {
         known.held = Held::Unknown;
     }
     if !same_index(known.index, came.index) {
@@ -284,11 +284,11 @@ fn speaks_of(claim: Claim, number: u32) -> bool {
 
 /// The claim of the first fact that says something of whether a field is this number; `Nothing` if
 /// no fact does.
-pub fn claim_about(facts: &[Fact], field: Field, number: u32) -> Claim
-    ensures { IsClaimAbout facts.now field result }
+pub fn claim_about(facts: &[Fact], field: &Field, number: u32) -> Claim
+    ensures { IsClaimAbout facts.now field.now result }
 {
     for fact in facts {
-        if same_field(fact.field, field) && speaks_of(fact.claim, number) {
+        if same_field(&fact.field, field) && speaks_of(fact.claim, number) {
             return fact.claim;
         }
     }
@@ -308,18 +308,18 @@ fn other_by_claim(claim: Claim, number: u32) -> Option<u32>
 
 /// Whether a new fact may take the place of an old one without loss: the old one claims nothing, or
 /// follows from the new one.
-fn gives_way(old: Fact, fact: Fact) -> bool {
+fn gives_way(old: &Fact, fact: &Fact) -> bool {
     claims_nothing(old.claim)
-        || (same_field(old.field, fact.field) && entails(fact.claim, old.claim))
+        || (same_field(&old.field, &fact.field) && entails(fact.claim, old.claim))
 }
 
 /// The index of the fact whose place one more fact takes: the first one that it replaces
 /// without loss, or else the last one.
-fn place_for(facts: &[Fact; MOST_FACTS], fact: Fact) -> usize
+fn place_for(facts: &[Fact; MOST_FACTS], fact: &Fact) -> usize
     ensures { result < MOST_FACTS }
 {
     for at in 0..MOST_FACTS - 1 {
-        if gives_way(facts[at], fact) {
+        if gives_way(&facts[at], fact) {
             return at;
         }
     }
@@ -331,28 +331,28 @@ fn add_fact(known: &mut Known, field: Field, claim: Claim)
     ensures { AddsFact known.old field claim known.new }
 {
     let fact = Fact { field, claim };
-    let at = place_for(&known.facts, fact);
+    let at = place_for(&known.facts, &fact);
     known.facts[at] = fact;
 }
 
 /// Whether A holds the field of a load, perhaps masked, so that its bytes are captured.
-fn holds_field(held: Held, load: Field) -> bool
-    ensures { result ≡ holds_field held load }
+fn holds_field(held: &Held, load: &Field) -> bool
+    ensures { result ≡ holds_field held.now load.now }
 {
     matches!(held, Held::Field(field) if same_load(field, load))
 }
 
 /// Whether the bytes that a load takes are captured, by what A holds or by a fact: any claim of
 /// their number says so.
-pub fn is_captured(known: &Known, load: Field) -> bool
+pub fn is_captured(known: &Known, load: &Field) -> bool
     ensures { IsTrue result → (p : List ℕ) (n : ℕ) (s : State)
-        → Holds p n known.now s → IsThere p n load }
+        → Holds p n known.now s → IsThere p n load.now }
 {
-    if holds_field(known.held, load) {
+    if holds_field(&known.held, load) {
         return true;
     }
     for fact in &known.facts {
-        if same_load(fact.field, load) && !claims_nothing(fact.claim) {
+        if same_load(&fact.field, load) && !claims_nothing(fact.claim) {
             return true;
         }
     }
@@ -372,14 +372,50 @@ pub fn masked_held(held: Held, mask: u32) -> Held
     }
 }
 
+/// What X holds after the load of the length of the header at a byte.
+fn header_at(at: u32) -> IndexValue
+    ensures { result ≡ if_small at (IndexValue.HeaderLength at) }
+{
+    if at < 256 {
+        IndexValue::HeaderLength(at as u8)
+    } else {
+        IndexValue::Unknown
+    }
+}
+
+/// What X holds after the load of a number.
+fn number_of(number: u32) -> IndexValue
+    ensures { result ≡ if_small number (IndexValue.Number number) }
+{
+    if number < 256 {
+        IndexValue::Number(number as u8)
+    } else {
+        IndexValue::Unknown
+    }
+}
+
+/// Whether X holds the length of the header at this byte.
+pub fn holds_header(index: IndexValue, at: u32) -> bool
+    ensures { result ≡ same_index index (IndexValue.HeaderLength at) }
+{
+    matches!(index, IndexValue::HeaderLength(known) if u32::from(known) == at)
+}
+
+/// Whether X holds this number.
+pub fn holds_number(index: IndexValue, number: u32) -> bool
+    ensures { result ≡ same_index index (IndexValue.Number number) }
+{
+    matches!(index, IndexValue::Number(known) if u32::from(known) == number)
+}
+
 /// What an instruction loads if it is a load, while X holds `index`.
 pub fn load_of(insn: Wide, index: IndexValue) -> Field
     ensures { result ≡ load_of insn index }
 {
     Field {
         code: insn.code,
-        k: insn.k,
         index,
+        k: insn.k,
         mask: None,
     }
 }
@@ -397,17 +433,17 @@ fn held_at(index: IndexValue, insn: Wide) -> Held
 /// The value of A after an instruction, by the values of A and X before. It is known after a load
 /// of the packet or of its length, and after a mask of a field. A test keeps it; after all others
 /// it is `Unknown`.
-pub fn held_after(held: Held, index: IndexValue, insn: Wide) -> Held
-    ensures { result ≡ held_after (operation_of insn.code) held index insn }
+pub fn held_after(held: &Held, index: IndexValue, insn: Wide) -> Held
+    ensures { result ≡ held_after (operation_of insn.code) held.now index insn }
 {
     match decode(insn.code) {
         Some(Operation::LoadAbsolute(_) | Operation::Load(Register::Accumulator, Source::Length)) =>
             Held::Field(load_of(insn, IndexValue::Unknown)),
         Some(Operation::LoadIndirect(_)) => held_at(index, insn),
         Some(Operation::Compute(AluOperation::And, Operand::Constant)) => {
-            masked_held(held, insn.k)
+            masked_held(*held, insn.k)
         }
-        Some(Operation::JumpIf(_, _)) => held,
+        Some(Operation::JumpIf(_, _)) => *held,
         _ => Held::Unknown,
     }
 }
@@ -418,10 +454,10 @@ pub fn pass_insn(known: &mut Known, insn: Wide)
     ensures { known.new ≡ known_after (operation_of insn.code) known.old insn }
 {
     let index = known.index;
-    known.held = held_after(known.held, index, insn);
+    known.held = held_after(&known.held, index, insn);
     known.index = match decode(insn.code) {
-        Some(Operation::LoadHeaderLength) => IndexValue::HeaderLength(insn.k),
-        Some(Operation::Load(Register::Index, Source::Immediate)) => IndexValue::Number(insn.k),
+        Some(Operation::LoadHeaderLength) => header_at(insn.k),
+        Some(Operation::Load(Register::Index, Source::Immediate)) => number_of(insn.k),
         Some(Operation::Load(Register::Index, _) | Operation::CopyToIndex) => IndexValue::Unknown,
         _ => index,
     };
@@ -430,8 +466,8 @@ pub fn pass_insn(known: &mut Known, insn: Wide)
 /// The claim about a field after the test whether it is a number had this outcome. If the field is
 /// known to be one of two numbers, and isn't this one, it is the other one.
 #[tactic(auto, using(crate::proofs::Knowing::same_number))]
-fn claim_by_outcome(facts: &[Fact], field: Field, number: u32, outcome: bool) -> Claim
-    ensures { IsClaimAfter facts.now field number outcome result }
+fn claim_by_outcome(facts: &[Fact], field: &Field, number: u32, outcome: bool) -> Claim
+    ensures { IsClaimAfter facts.now field.now number outcome result }
 {
     if outcome {
         return Claim::Is(number);
@@ -446,7 +482,7 @@ fn claim_by_outcome(facts: &[Fact], field: Field, number: u32, outcome: bool) ->
 fn learn_equal(known: &mut Known, field: Field, number: u32, outcome: bool)
     ensures { LearnsEqual known.old field number outcome known.new }
 {
-    let claim = claim_by_outcome(&known.facts, field, number, outcome);
+    let claim = claim_by_outcome(&known.facts, &field, number, outcome);
     add_fact(known, field, claim);
 }
 
@@ -471,17 +507,17 @@ pub fn learn(known: &mut Known, insn: Wide, outcome: bool)
 }
 
 /// The most instructions of code whose states lie on the stack, so that threading it takes no
-/// memory: about 300 bytes for each.
+/// memory: about 220 bytes for each.
 pub const FEW: usize = 16;
 
-/// The state at a place; past the end of the code, the one in which nothing is known.
-pub fn known_at(seen: &[Known], place: usize) -> Known
+/// The state at a place; past the end of the states `nothing`, in which nothing is known.
+pub fn known_at<'a>(seen: &'a [Known], place: usize, nothing: &'a Known) -> &'a Known
     ensures { (p : List ℕ) (n : ℕ) (s : State)
-        → HoldsAt p n seen.now place s → Holds p n result s }
+        → HoldsAt p n seen.now place s → Holds p n nothing.now s → Holds p n result.now s }
 {
     match seen.get(place) {
-        Some(known) => *known,
-        None => nothing_known(),
+        Some(known) => known,
+        None => nothing,
     }
 }
 

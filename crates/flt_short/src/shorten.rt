@@ -67,6 +67,11 @@ fn ends_block(insn: Wide) -> bool {
     is_test(&insn) || is_return(insn.code)
 }
 
+/// Whether an instruction is a mask of A with a constant.
+fn is_mask(insn: Wide) -> bool {
+    insn.code == Operation::Compute(AluOperation::And, Operand::Constant).code()
+}
+
 /// The test with these offsets instead of its own. One that exceeds 32 bits leads elsewhere, and
 /// then the new code isn't taken.
 fn with_offsets(insn: Wide, yes: usize, no: usize) -> Wide {
@@ -194,7 +199,11 @@ impl Shortening<'_> {
     /// (`84 k`, `21 0`). `None` if these aren't the instructions at `at`, if A is read after them,
     /// or if both outcomes land at the same place.
     fn bits_test_at(&self, at: usize) -> Option<Wide> {
-        let (mask, test) = (self.old_insn(at), self.old_insn(index_after(at, 0)));
+        let mask = self.old_insn(at);
+        if !is_mask(mask) {
+            return None;
+        }
+        let test = self.old_insn(index_after(at, 0));
         if !is_masked_test(mask, test) {
             return None;
         }

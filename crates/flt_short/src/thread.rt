@@ -21,12 +21,12 @@ ghost use Rattle.flt_short.specs.inside.Threads.{Moves, IsThreaded};
 
 use crate::alike::{goes_on_or_rejects, is_test};
 use crate::facts::{
-    FEW, Held, IndexValue, Known, arrive, claim_about, held_after, is_captured, known_at, learn,
-    load_of, masked_held, nothing_known, outcome_by_claim, pass_insn, same_held, same_index,
-    unreached,
+    FEW, Held, IndexValue, Known, arrive, claim_about, held_after, holds_header, holds_number,
+    is_captured, known_at, learn, load_of, masked_held, nothing_known, outcome_by_claim, pass_insn,
+    same_held, unreached,
 };
 use flt_bpf::operation::{AluOperation, Operand, Operation, Register, Source, Test, decode};
-use flt_bpf::{Wide, reads_accumulator, sets_accumulator};
+use flt_bpf::{Wide, is_return, reads_accumulator, sets_accumulator};
 use std::alloc::{AllocError, Allocator};
 
 /// The most instructions that a walk passes. This bounds the time that it takes.
@@ -53,8 +53,8 @@ pub struct Spot {
 }
 
 /// Whether A is this number if it is `held`; `None` if the facts don't decide it.
-fn is_number(known: &Known, held: Held, number: u32) -> Option<bool>
-    ensures { IfSome result (λ outcome. IsDecided known.now held number outcome) }
+fn is_number(known: &Known, held: &Held, number: u32) -> Option<bool>
+    ensures { IfSome result (λ outcome. IsDecided known.now held.now number outcome) }
 {
     let Held::Field(field) = held else {
         return None;
@@ -64,9 +64,9 @@ fn is_number(known: &Known, held: Held, number: u32) -> Option<bool>
 
 /// How many instructions a test for equality with a constant skips if A is `held`; `None` if the
 /// facts don't decide it.
-fn skipped_by_test(known: &Known, insn: Wide, held: Held) -> Option<u32>
+fn skipped_by_test(known: &Known, insn: Wide, held: &Held) -> Option<u32>
     ensures { operation_of insn.code ≡ Some (JumpIf Equal Constant)
-        → IfSome result (λ skipped. Passes known.now insn held skipped) }
+        → IfSome result (λ skipped. Passes known.now insn held.now skipped) }
 {
     match is_number(known, held, insn.k) {
         Some(true) => Some(insn.yes),
@@ -76,11 +76,11 @@ fn skipped_by_test(known: &Known, insn: Wide, held: Held) -> Option<u32>
 }
 
 /// How many instructions a test of bits skips if A is `held`; `None` if the facts don't decide it.
-fn skipped_by_bits(known: &Known, insn: Wide, held: Held) -> Option<u32>
+fn skipped_by_bits(known: &Known, insn: Wide, held: &Held) -> Option<u32>
     ensures { operation_of insn.code ≡ Some (JumpIf AnyBit Constant)
-        → IfSome result (λ skipped. Passes known.now insn held skipped) }
+        → IfSome result (λ skipped. Passes known.now insn held.now skipped) }
 {
-    match is_number(known, masked_held(held, insn.k), 0) {
+    match is_number(known, &masked_held(*held, insn.k), 0) {
         Some(true) => Some(insn.no),
         Some(false) => Some(insn.yes),
         None => None,
@@ -91,8 +91,8 @@ fn skipped_by_bits(known: &Known, insn: Wide, held: Held) -> Option<u32>
 /// walk ends before it. A walk passes only tests that the facts decide, and instructions that
 /// change nothing but A and go on at the next one on each packet with this state.
 #[tactic(auto, using(crate::proofs::Threading::walk_steps))]
-fn skipped_after(known: &Known, insn: Wide, held: Held) -> Option<u32>
-    ensures { IfSome result (λ skipped. Passes known.now insn held skipped) }
+fn skipped_after(known: &Known, insn: Wide, held: &Held) -> Option<u32>
+    ensures { IfSome result (λ skipped. Passes known.now insn held.now skipped) }
 {
     match decode(insn.code) {
         Some(Operation::JumpIf(Test::Equal, Operand::Constant)) => {
@@ -102,16 +102,15 @@ fn skipped_after(known: &Known, insn: Wide, held: Held) -> Option<u32>
             skipped_by_bits(known, insn, held)
         }
         Some(Operation::LoadAbsolute(_))
-            if is_captured(known, load_of(insn, IndexValue::Unknown)) => { Some(0) }
-        Some(Operation::LoadIndirect(_)) if is_captured(known, load_of(insn, known.index)) => {
+            if is_captured(known, &load_of(insn, IndexValue::Unknown)) => { Some(0) }
+        Some(Operation::LoadIndirect(_)) if is_captured(known, &load_of(insn, known.index)) => {
             Some(0)
         }
         Some(Operation::LoadIndirect(_))
-            if same_held(Held::AtIndex(insn.code, insn.k), known.held) => { Some(0) }
-        Some(Operation::LoadHeaderLength)
-            if same_index(known.index, IndexValue::HeaderLength(insn.k)) => { Some(0) }
+            if same_held(&Held::AtIndex(insn.code, insn.k), &known.held) => { Some(0) }
+        Some(Operation::LoadHeaderLength) if holds_header(known.index, insn.k) => Some(0),
         Some(Operation::Load(Register::Index, Source::Immediate))
-            if same_index(known.index, IndexValue::Number(insn.k)) => { Some(0) }
+            if holds_number(known.index, insn.k) => { Some(0) }
         Some(Operation::Load(Register::Accumulator, Source::Length)) => Some(0),
         Some(Operation::Compute(AluOperation::And, Operand::Constant)) => Some(0),
         _ => None,
@@ -140,14 +139,14 @@ fn is_free(code: &[Wide]) -> bool
 /// doesn't matter. Else `best`, the last such place so far; at the start of a walk both are the
 /// same.
 #[tactic(auto, using(crate::proofs::Threading::stops))]
-fn place_or_best(known: &Known, code: &[Wide], spot: Spot, best: usize) -> usize
-    ensures { LeadsTo known.now code.now spot best result }
+fn place_or_best(known: &Known, code: &[Wide], spot: &Spot, best: usize) -> usize
+    ensures { LeadsTo known.now code.now spot.now best result }
 {
     let place = spot.place;
     if place == best || place >= code.len() {
         return best;
     }
-    if same_held(spot.held, known.held) {
+    if same_held(&spot.held, &known.held) {
         return place;
     }
     if is_free(&code[place..]) { place } else { best }
@@ -157,8 +156,8 @@ fn place_or_best(known: &Known, code: &[Wide], spot: Spot, best: usize) -> usize
 /// if the walk finds none. It passes at most `fuel` instructions. If it may fork (`forks`), it ends
 /// at the first such place; at a test that it can't pass it goes on after both outcomes. It may not
 /// fork then, and finds the last such place of each: if that is the same, it is the result.
-fn walk(fuel: usize, known: &Known, code: &[Wide], spot: Spot, best: usize, forks: bool) -> usize
-    ensures { LeadsTo known.now code.now spot best result }
+fn walk(fuel: usize, known: &Known, code: &[Wide], spot: &Spot, best: usize, forks: bool) -> usize
+    ensures { LeadsTo known.now code.now spot.now best result }
 {
     let start = best;
     let best = place_or_best(known, code, spot, best);
@@ -169,21 +168,21 @@ fn walk(fuel: usize, known: &Known, code: &[Wide], spot: Spot, best: usize, fork
         return best;
     };
     let (left, next) = (fuel - 1, spot.place + 1);
-    if let Some(skipped) = skipped_after(known, *insn, spot.held) {
-        let held = held_after(spot.held, known.index, *insn);
+    if let Some(skipped) = skipped_after(known, *insn, &spot.held) {
+        let held = held_after(&spot.held, known.index, *insn);
         let place = next + skipped as usize;
-        return walk(left, known, code, Spot { place, held }, best, forks);
+        return walk(left, known, code, &Spot { place, held }, best, forks);
     }
     if !forks || !is_test(insn) {
         return best;
     }
     let (place, held) = (next + insn.yes as usize, spot.held);
-    let yes = walk(left, known, code, Spot { place, held }, best, false);
+    let yes = walk(left, known, code, &Spot { place, held }, best, false);
     if yes == best {
         return best;
     }
     let place = next + insn.no as usize;
-    let no = walk(left, known, code, Spot { place, held }, best, false);
+    let no = walk(left, known, code, &Spot { place, held }, best, false);
     if yes == no { yes } else { best }
 }
 
@@ -196,6 +195,14 @@ fn is_reached(seen: &[Known], place: usize) -> bool {
     }
 }
 
+/// Whether the instruction at a place is a return. No walk goes past it, so none need be tried.
+fn is_return_at(code: &[Wide], place: usize) -> bool {
+    match code.get(place) {
+        Some(insn) => is_return(insn.code),
+        None => false,
+    }
+}
+
 /// The end of the last of some walks, each of which begins at the end of the one before it. None
 /// follows one that ends at its beginning. After `WALKS` of them the result is the last of these
 /// ends that is reached already, since code for no other path is kept then. If none is, walks go on
@@ -205,11 +212,14 @@ fn last_place(known: &Known, code: &[Wide], from: usize, seen: &[Known], left: &
 {
     let (mut place, mut reached) = (from, from);
     for turn in 0..code.len() {
+        if is_return_at(code, place) {
+            return place;
+        }
         let spot = Spot {
             place,
             held: known.held,
         };
-        let next = walk(FUEL, known, code, spot, place, true);
+        let next = walk(FUEL, known, code, &spot, place, true);
         if next == place {
             return place;
         }
@@ -305,10 +315,11 @@ fn thread_insn(
 fn thread_all(seen: &mut [Known], insns: &mut [Wide])
     ensures { Threads insns.new insns.old }
 {
-    arrive(seen, 0, &nothing_known());
+    let nothing = nothing_known();
+    arrive(seen, 0, &nothing);
     let mut left = SHARED_WALKS.saturating_mul(insns.len());
     for at in 0..insns.len() {
-        let mut here = known_at(seen, at);
+        let mut here = *known_at(seen, at, &nothing);
         let old = insns[at];
         let insn = thread_insn(seen, at + 1, &mut here, old, &insns[at + 1..], &mut left);
         insns[at] = insn;
@@ -344,6 +355,18 @@ fn repeats_a_load(insns: &[Wide]) -> bool {
     false
 }
 
+/// Threads at most `FEW` instructions, with their states on the stack. The states are filled first,
+/// so there are no more than needed; the last two instructions, the returns, need none.
+fn thread_few(insns: &mut [Wide])
+    ensures { Threads insns.new insns.old }
+{
+    match insns.len() {
+        0..=10 => thread_all(&mut [unreached(); 8], insns),
+        11..=12 => thread_all(&mut [unreached(); 10], insns),
+        _ => thread_all(&mut [unreached(); FEW - 2], insns),
+    }
+}
+
 /// Threads code: its tests skip tests whose outcome is known. The new code returns the same on each
 /// packet. Code of at most 64 instructions in which no load occurs twice is returned unchanged,
 /// since threading seldom changes it. The error is a failed allocation.
@@ -355,7 +378,7 @@ pub fn threaded<A: Allocator>(alloc: A, mut insns: Vec<Wide, A>) -> Result<Vec<W
         return Ok(insns);
     }
     if insns.len() <= FEW {
-        thread_all(&mut [unreached(); FEW], &mut insns);
+        thread_few(&mut insns);
         return Ok(insns);
     }
     let mut seen = vec![in alloc; unreached(); insns.len()]?;

@@ -3,7 +3,7 @@
 -- and `k` are those of a load. Together, with what X holds at a load at X, they identify its value:
 -- bytes of the packet, or its length. Elsewhere `k` is a state. `i` is an instruction.
 use Rattle.std.specs.Option.{option_map}
-use Rattle.std.specs.Prelude.{◌≡◌, ℕ, ◌+◌, ◌%◌, ◌^◌, ◌==◌, not, Bool, true, false, if◌then◌else◌, ◌&&◌, ◌||◌, ◌⊎◌, List, All, Option, Some, None, IfSome, slice_get, bit_and}
+use Rattle.std.specs.Prelude.{◌≡◌, ℕ, nat_lt, ◌+◌, ◌%◌, ◌^◌, ◌==◌, not, Bool, true, false, if◌then◌else◌, ◌&&◌, ◌||◌, ◌⊎◌, List, All, Option, Some, None, IfSome, slice_get, bit_and}
 use Rattle.flt_bpf.specs.Instructions.{operation_of}
 use Rattle.flt_bpf.specs.Machine.{field, header_length, test_holds, operand_value}
 use Rattle.flt_bpf.specs.declared.{insn.Insn.Insn, machine.State.State}
@@ -120,10 +120,14 @@ held_after (Some (Compute And Constant)) h x i = masked_held h i.k
 held_after (Some (JumpIf test operand)) h x i = h
 held_after _ h x i = Held.Unknown
 
+-- what is kept of X: a header's place, or a number, only if this is below 256
+abbrev pub if_small : ℕ → IndexValue → IndexValue
+if_small k x = if nat_lt k 256 then x else IndexValue.Unknown
+
 -- what X holds after an instruction that isn't a test, by what it held before
 abbrev pub index_after : Option Operation → IndexValue → Insn → IndexValue
-index_after (Some LoadHeaderLength) x i = IndexValue.HeaderLength i.k
-index_after (Some (Load Index Immediate)) x i = IndexValue.Number i.k
+index_after (Some LoadHeaderLength) x i = if_small i.k (IndexValue.HeaderLength i.k)
+index_after (Some (Load Index Immediate)) x i = if_small i.k (IndexValue.Number i.k)
 index_after (Some (Load Index source)) x i = IndexValue.Unknown
 index_after (Some CopyToIndex) x i = IndexValue.Unknown
 index_after _ x i = x

@@ -1,5 +1,5 @@
 -- A test for equality, or of bits, shows a number.
-use Rattle.flt_short.proofs.Common.{◌≡◌, Some, sym, ap, ◌∙◌, subst, not, Insn, JumpIf, Constant, Test, LearnsEqual, masked_held}
+use Rattle.flt_short.proofs.Common.{◌≡◌, Some, sym, ap, ◌∙◌, subst, Insn, JumpIf, Constant, Test, LearnsEqual, masked_held}
 use Rattle.std.proofs.Common.{rules, arith}
 use Rattle.std.proofs.lemmas.Grind.{common_steps}
 use Rattle.flt_bpf.specs.Instructions.{operation_of}

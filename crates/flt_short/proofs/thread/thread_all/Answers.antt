@@ -12,11 +12,12 @@ loop-at-preserved c =
     let here = rw (take_rest insns (at + 1), c.index-insns-at.is) at c.thread_insn-insn.ensures in
     record {
       shape = omega (arith, length-set insns at c.thread_insn-insn.result);
-      so_far = threaded_more c.arrive.new.seen c.args.insns.now c.loop-at.seen seen c.known_at-here.result insns at c.index-insns-at.result
-          c.thread_insn-insn.result (omega arith) c.loop-at.invariant.so_far c.known_at-here.ensures here;
+      so_far = threaded_more c.arrive.new.seen c.args.insns.now c.loop-at.seen seen c.known_at.result.now insns at c.index-insns-at.result
+          c.thread_insn-insn.result (omega arith) c.loop-at.invariant.so_far
+          (λ p n s h. c.known_at.ensures p n s h (c.nothing_known-nothing.ensures p n s)) here;
     }
 
 pub returns : goal.returns
 returns c =
-    threads _ c.args.insns.now c.arrive.new.seen (λ p n s. c.arrive.ensures.comes p n s (c.nothing_known.ensures p n s))
+    threads _ c.args.insns.now c.arrive.new.seen (λ p n s. c.arrive.ensures.comes p n s (c.nothing_known-nothing.ensures p n s))
     (threaded_all c.arrive.new.seen c.args.insns.now c.loop-at.seen c.loop-at.insns c.loop-at.at (omega arith) c.loop-at.invariant.so_far)
