@@ -112,7 +112,7 @@ within_without x i (j ∷ js) out =
     (λ e. ap (λ b. is_in x j || b) (within_without x i js out))
 
 -- which half a number can be in
-none_below : (x a : ℕ) (is : List Interval) → x < a → Apart a is → is_within x is ≡ false
+pub none_below : (x a : ℕ) (is : List Interval) → x < a → Apart a is → is_within x is ≡ false
 none_below x a [] l h = refl
 none_below x a (i ∷ is) l h =
     let k = h.0 in

@@ -1,18 +1,19 @@
 -- Formulas that look for several numbers: their code, unfolded once, how they read, and how many
 -- tests and loads they have.
 use Rattle.flt_gen.proofs.Ascending.{if_case, is_in, is_within, Apart, Searchable, Reached, Ready, searchable_apart, apart_take, apart_drop, apart_without}
-use Rattle.flt_gen.proofs.Ascending.{length_without, within_without, lower_half, upper_half, first_taken, ends_few}
+use Rattle.flt_gen.proofs.Ascending.{length_without, within_without, lower_half, upper_half, first_taken, ends_few, none_below}
 use Rattle.flt_gen.proofs.Common.{◌≡◌, ℕ, zero, suc, ◌+◌, ◌-◌, ◌*◌, ◌/◌, ◌%◌, ◌^◌, ◌<◌, ◌≤◌, List, [], ◌∷◌, length, take, drop, Bool, true, false, Option, Some}
 use Rattle.flt_gen.proofs.Common.{None, refl, ap, ap₂, sym, ◌∙◌, subst, arith, max, nat_le, nat_lt, ◌==◌, not, ◌&&◌, ◌||◌, if◌then◌else◌, take_rest}
 use Rattle.flt_gen.proofs.Common.{length-drop}
 use Rattle.flt_gen.proofs.Common.{length-take, nat_tests, and_parts, or-false, field, Width, Word, HalfWord, Byte, Insn, Interval, Sides, Offset, Fixed}
-use Rattle.flt_gen.proofs.Common.{AfterHeader, AtIndex, FieldPlace, Elementary, MatchResult, Yes, No, Rejected, reading_of, with, compares, field_at}
+use Rattle.flt_gen.proofs.Common.{AfterHeader, AtIndex, FieldPlace, Elementary, MatchResult, Yes, Rejected, reading_of, with, compares, field_at}
 use Rattle.flt_gen.proofs.Common.{under_mask, elementary_reads, Formula, Split, both, either, reads, Link, Direction, Source, Destination, And, Or, Comparison}
 use Rattle.flt_gen.proofs.Common.{Equal, Less, AtMost, AtLeast, Block, emit_after, emit_test, nothing, same_offset, same_width, same_mask, Numbers}
 use Rattle.flt_gen.proofs.Common.{field_test, are_few, low_of, within_formula, sought_formula, first_ends, sought_tests, tests, loads, test_loads}
 use Rattle.flt_gen.proofs.Common.{place_loads, mask_loads, nodes, words, Single, Outcome}
 use Rattle.flt_gen.proofs.Counted.{Bare, bare_within, bare_some, place_few, mask_few}
-use Rattle.flt_gen.proofs.Runs.{one_number}
+use Rattle.flt_gen.proofs.Firsts.{exact, or_yes, by_first}
+use Rattle.flt_gen.proofs.{Exclusive.or_no, Runs.one_number}
 use Rattle.flt_gen.specs.Formula.{choose}
 use Rattle.flt_gen.specs.inside.Search.{chain_of, search, MOST_HALVINGS, few_formula, many_formula, sides_at_index, at_index, are_at_index}
 use Rattle.flt_gen.specs.inside.Search.{fewest_at_index, never, always}
@@ -66,9 +67,6 @@ pub ruleset search_steps = (search_none, search_few, search_put)
 abbrev pub read_by : Option ℕ → (ℕ → Bool) → MatchResult
 read_by o f = reading_of (with o (λ x. Some (f x)))
 
-abbrev pub exact : Bool → MatchResult
-exact b = reading_of (Some b)
-
 are_many : (is : List Interval) → are_few is ≡ false → 2 ≤ length is
 are_many (i ∷ j ∷ is) e = omega arith
 are_many _ e = cc
@@ -83,14 +81,6 @@ by_test false inside x y hit miss = miss refl
 
 above_first : (x : ℕ) (i : Interval) (is : List Interval) → i.low ≤ x → (is_in x i || is_within x is) ≡ (nat_le x i.high || is_within x is)
 above_first x i is l = grind (arith, nat_tests)
-
-none_lower : (x a : ℕ) (is : List Interval) → Apart a is → x < a → is_within x is ≡ false
-none_lower x a [] up l = refl
-none_lower x a (i ∷ is) up l =
-    let k = up.0 in
-    let m = up.1 in
-    let out : is_in x i ≡ false = grind (arith, nat_tests) in
-    ap (λ b. b || is_within x is) out ∙ none_lower x (i.high + 1) is up.2 (omega arith)
 
 module _ (link : Link) (p : List ℕ) (n : ℕ) (f : FieldPlace) where
   -- where the field is a number
@@ -126,7 +116,7 @@ module _ (link : Link) (p : List ℕ) (n : ℕ) (f : FieldPlace) where
         (λ e. if_case (λ (g : Formula). reads link g p n ≡ exact inside) from _ _ (λ t. upper (l t))
         (λ t. split_told AtLeast i.low (Split (field_test f AtMost i.high) always (chain_of f false is)) never inside
         (λ t. let m : i.low ≤ u = grind (arith, nat_tests) in upper m)
-        (λ t. let m : u < i.low = grind (arith, nat_tests) in sym (ap exact (none_lower u i.low (i ∷ is) (omega arith, up.1, up.2) m)))))
+        (λ t. let m : u < i.low = grind (arith, nat_tests) in sym (ap exact (none_below u i.low (i ∷ is) m (omega arith, up.1, up.2))))))
 
     search_told : (k : ℕ) (from : Bool) (a : ℕ) (is : List Interval) → Apart a is → (from ≡ true → low_of is ≤ u)
         → reads link (search f k from is) p n ≡ exact (is_within u is)
@@ -179,11 +169,11 @@ abbrev pub Merged : Direction → Type 0
 Merged (Direction.Both And) = ⊥
 Merged _ = Unit {0}
 
--- several, the first of which is f, on the sides that a direction asks for
+-- several, of which those of the first one are f, on the sides that a direction asks for
 abbrev pub sides_read : Direction → Option ℕ → Option ℕ → (ℕ → Bool) → (ℕ → Bool) → MatchResult
 sides_read (Direction.One Source) s d f a = read_by s a
 sides_read (Direction.One Destination) s d f a = read_by d a
-sides_read (Direction.Both Or) s d f a = either (both (read_by s a) (either (read_by s f) (read_by d (λ x. true)))) (read_by d a)
+sides_read (Direction.Both Or) s d f a = by_first (read_by s a) (read_by s f) (read_by d f) (read_by d a)
 sides_read (Direction.Both And) s d f a = both (read_by s f) (read_by d f)
 
 -- the number in X and that in the instruction are the place
@@ -199,27 +189,19 @@ at_index_same p index mask _ _ w l = absurd l
 zero_low : (x : ℕ) → nat_le 0 x ≡ true
 zero_low x = grind (arith, nat_tests)
 
-captured_is : (o : Option ℕ) → read_by o (λ x. nat_le 0 x) ≡ read_by o (λ x. true)
-captured_is None = refl
-captured_is (Some x) = ap exact (zero_low x)
+captured_is : (o : Option ℕ) (f : ℕ → Bool) → read_by o (λ x. nat_le 0 x) ≡ either (read_by o f) Yes
+captured_is None f = refl
+captured_is (Some x) f = ap exact (zero_low x) ∙ sym (or_yes (f x))
 
 -- the source, if it is captured, is of the first member, of all, and of the others
-few_told : (b c o : Bool) (d : Option ℕ) (a : ℕ → Bool) → (b ≡ true → c ≡ true) → (b ≡ false → o ≡ c)
-    → either (exact b) (either (read_by d a) (exact o)) ≡ either (both (exact c) (either (exact b) (read_by d (λ x. true)))) (read_by d a)
-few_told true true o d a all rest = refl
-few_told true false o d a all rest = absurd (let e = all refl in cc)
-few_told false true o None a all rest = refl
-few_told false true o (Some y) a all rest = ap (λ z. either (exact (a y)) (exact z)) (rest refl) ∙ by (a y)
-  where
-    by : (b : Bool) → either (exact b) Yes ≡ Yes
-    by true = refl
-    by false = refl
-few_told false false o d a all rest = ap (λ z. either (read_by d a) (exact z)) (rest refl) ∙ by (read_by d a)
-  where
-    by : (r : MatchResult) → either r No ≡ r
-    by Yes = refl
-    by No = refl
-    by Rejected = refl
+few_told : (b c o : Bool) (d : Option ℕ) (f a : ℕ → Bool) → (b ≡ true → c ≡ true) → (b ≡ false → o ≡ c)
+    → either (exact b) (either (read_by d a) (exact o)) ≡ by_first (exact c) (exact b) (read_by d f) (read_by d a)
+few_told true true o d f a all rest = refl
+few_told true false o d f a all rest = absurd (let e = all refl in cc)
+few_told false true o None f a all rest = refl
+few_told false true o (Some y) f a all rest =
+    ap (λ z. either (exact (a y)) (exact z)) (rest refl) ∙ or_yes (a y) ∙ sym (ap (λ r. either r (exact (a y))) (or_yes (f y)))
+few_told false false o d f a all rest = ap (λ z. either (read_by d a) (exact z)) (rest refl) ∙ or_no (read_by d a)
 
 module _ (link : Link) (p : List ℕ) (n : ℕ) (at : Sides) (numbers : Numbers) (r : Ready at numbers) where
   abbrev place : Offset → FieldPlace
@@ -244,28 +226,28 @@ module _ (link : Link) (p : List ℕ) (n : ℕ) (at : Sides) (numbers : Numbers)
       (field_at offset at.width p) of_first
   first_read offset = search_reads link p n (place offset) (numbers.first ∷ []) (omega arith, r.order, tt)
 
-  few_read : reads link (few_formula at numbers) p n ≡ either (both (read_by source of_all) (either (read_by source of_first)
-      (read_by destination (λ x. true)))) (read_by destination of_all)
-  few_read =
-      ap₂ (λ x y. either x (either y others)) (first_read at.source) (all_read at.destination) ∙ by source refl
+  abbrev either_side : MatchResult
+  either_side = by_first (read_by source of_all) (read_by source of_first) (read_by destination of_first) (read_by destination of_all)
+
+  few_read : reads link (few_formula at numbers) p n ≡ either_side
+  few_read = ap₂ (λ x y. either x (either y others)) (first_read at.source) (all_read at.destination) ∙ by source refl
     where
       others : MatchResult
       others = reads link (within_formula numbers.mask numbers.others at.source at.width) p n
 
-      by : (s : Option ℕ) → source ≡ s → either (read_by s of_first) (either (read_by destination of_all) others) ≡ either
-          (both (read_by s of_all) (either (read_by s of_first) (read_by destination (λ x. true)))) (read_by destination of_all)
+      by : (s : Option ℕ) → source ≡ s → either (read_by s of_first) (either (read_by destination of_all) others) ≡ by_first (read_by s of_all)
+          (read_by s of_first) (read_by destination of_first) (read_by destination of_all)
       by None e = refl
       by (Some x) e =
           let y = under_mask numbers.mask x in
           let up = subst (Apart 0) (sym r.others_are) (apart_without 0 numbers.first numbers.all (searchable_apart numbers.all r.all)) in
           let out = search_told link p n (place at.source) x e MOST_HALVINGS false 0 numbers.others up (λ g. cc) in
           ap (λ z. either (exact (of_first x)) (either (read_by destination of_all) z)) out
-          ∙ few_told (of_first x) (of_all x) (is_within y numbers.others) destination of_all
+          ∙ few_told (of_first x) (of_all x) (is_within y numbers.others) destination of_first of_all
           (λ t. r.first_in p x e (sym (or-false (is_in y numbers.first)) ∙ t))
           (λ t. ap (is_within y) r.others_are ∙ within_without y numbers.first numbers.all (sym (or-false (is_in y numbers.first)) ∙ t))
 
-  many_read : reads link (many_formula (sides_at_index at) numbers) p n ≡ either (both (read_by source of_all) (either (read_by source of_first)
-      (read_by destination (λ x. true)))) (read_by destination of_all)
+  many_read : reads link (many_formula (sides_at_index at) numbers) p n ≡ either_side
   many_read =
       let same = at_index_same p at.index numbers.mask at.source at.destination at.width r.reached in
       let a = at_index at.index at.source in
@@ -273,8 +255,8 @@ module _ (link : Link) (p : List ℕ) (n : ℕ) (at : Sides) (numbers : Numbers)
       ap₂ (λ x y. either (both x (either (reads link (within_formula numbers.mask (numbers.first ∷ []) a at.width) p n)
       (read_by (field_at b at.width p) (λ z. nat_le 0 z)))) y) (all_read a) (all_read b)
       ∙ ap₂ (λ x y. either (both (read_by (field_at a at.width p) of_all) (either x y)) (read_by (field_at b at.width p) of_all)) (first_read a)
-      (captured_is (field_at b at.width p))
-      ∙ ap₂ (λ s d. either (both (read_by s of_all) (either (read_by s of_first) (read_by d (λ x. true)))) (read_by d of_all)) same.0 same.1
+      (captured_is (field_at b at.width p) of_first)
+      ∙ ap₂ (λ s d. by_first (read_by s of_all) (read_by s of_first) (read_by d of_first) (read_by d of_all)) same.0 same.1
 
   pub sought_read : (d : Direction) → Merged d → reads link (sought_formula d at numbers) p n ≡ sides_read d source destination of_first of_all
   sought_read (Direction.One Source) m = all_read at.source

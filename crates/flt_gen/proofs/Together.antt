@@ -5,13 +5,14 @@ use Rattle.flt_gen.proofs.Common.{subst, ◌-◌, ◌∙◌, arith, inl, inr, �
 use Rattle.flt_gen.proofs.Common.{Tcp, Udp, ValueType, Numbers}
 use Rattle.flt_gen.proofs.Common.{Host, Net, Port, PortRange, Source, Destination, And, Or, Direction, CompleteQualifiers, Value, first_bits, Word, HalfWord}
 use Rattle.flt_gen.proofs.Common.{Offset, field, Link, type_offset, FrameKind, Elementary, Interval, Sides, Transport, MatchResult, Yes}
-use Rattle.flt_gen.proofs.Common.{No, Rejected, field_at, under_mask, kind_test, elementary_reads, Formula, sought_formula, both}
+use Rattle.flt_gen.proofs.Common.{No, field_at, under_mask, kind_test, elementary_reads, Formula, sought_formula, both}
 use Rattle.flt_gen.proofs.Common.{either, all_of, sides, reads, address_places, address_test, partial_mask, port_is, port_between}
 use Rattle.flt_gen.proofs.Common.{port_places, in_net, hosts_formula, transport, following, ip_transport, ip6_transport, port_formula}
 use Rattle.flt_gen.proofs.Common.{value_formula, joined_all, left_out, high_mask, cut, sought, has_addresses, net_numbers, member_of, several_formula}
 use Rattle.flt_gen.proofs.Exclusive.{or_no, both_either, kinds_exclude}
+use Rattle.flt_gen.proofs.Firsts.{exact, Known, by_first, first_alone, first_more}
 use Rattle.flt_gen.proofs.Prefixes.{Idle, idle_sought, Small, cut_in, cut_within, net_hit}
-use Rattle.flt_gen.proofs.{Runs.one_number, Search.Merged, Search.read_by, Search.exact, Search.sides_read, Search.sought_read}
+use Rattle.flt_gen.proofs.{Runs.one_number, Search.Merged, Search.read_by, Search.sides_read, Search.sought_read}
 use Rattle.std.specs.Prelude.{◌⊎◌}
 use Rattle.std.proofs.Math.Nat.{mod-lt}
 use Rattle.flt_ast.specs.Counts as count
@@ -74,43 +75,28 @@ read_seen : (o : Option ℕ) (f g : ℕ → Bool) → ((x : ℕ) → o ≡ Some 
 read_seen None f g e = refl
 read_seen (Some x) f g e = ap exact (e x refl)
 
--- the source is of the first or of the others, whose first is k; so is the destination
-both_told : (m k o n b : Bool) → either (both (exact (m || (k || o))) (either (exact m) Yes)) (exact (n || b)) ≡ either (either (exact m) (exact n))
-    (either (both (exact (k || o)) (either (exact k) Yes)) (exact b))
-both_told true k o n b = refl
-both_told false true o true b = refl
-both_told false false true true b = refl
-both_told false false false true b = refl
-both_told _ _ _ _ b = refl
-
--- the destination isn't captured
-one_told : (m k o : Bool) → either (both (exact (m || (k || o))) (either (exact m) Rejected)) Rejected ≡ either (either (exact m) Rejected)
-    (either (both (exact (k || o)) (either (exact k) Rejected)) Rejected)
-one_told true k o = refl
-one_told false true o = refl
-one_told false false true = refl
-one_told _ _ _ = refl
+-- where one is no, the field is there
+known_read : (o : Option ℕ) (f g : ℕ → Bool) → read_by o f ≡ No → Known (read_by o g)
+known_read None f g e = cc
+known_read (Some x) f g e = (g x, refl)
 
 -- one more in front of those of which k is the first
 one_more : (d : Direction) (s t : Option ℕ) (m k o : ℕ → Bool) → Merged d → sides_read d s t m (λ x. m x || (k x || o x)) ≡ either
     (plain_reads d s t m) (sides_read d s t k (λ x. k x || o x))
 one_more (Direction.One Source) s t m k o h = read_or s m (λ x. k x || o x)
 one_more (Direction.One Destination) s t m k o h = read_or t m (λ x. k x || o x)
-one_more (Direction.Both Or) None t m k o h = refl
-one_more (Direction.Both Or) (Some x) None m k o h = one_told (m x) (k x) (o x)
-one_more (Direction.Both Or) (Some x) (Some y) m k o h = both_told (m x) (k x) (o x) (m y) (k y || o y)
+one_more (Direction.Both Or) s t m k o h =
+    let rest : ℕ → Bool = λ x. k x || o x in
+    ap₂ (λ x y. by_first x (read_by s m) (read_by t m) y) (read_or s m rest) (read_or t m rest)
+    ∙ first_more (read_by s m) (read_by t m) (read_by s k) (read_by t k) (read_by s rest) (read_by t rest)
+    (λ e. (known_read s m rest e, known_read s m k e)) (known_read t m k)
 one_more (Direction.Both And) s t m k o h = absurd h
-
--- what holds and is one of two is that one
-absorbed : (r s : MatchResult) → both r (either r s) ≡ r
-absorbed Yes s = refl
-absorbed _ s = refl
 
 one_alone : (d : Direction) (s t : Option ℕ) (m : ℕ → Bool) → sides_read d s t m (λ x. m x || false) ≡ plain_reads d s t m
 one_alone d s t m = ap (sides_read d s t m) (λ i x. or-false (m x) i) ∙ by d
   where
     by : (d : Direction) → sides_read d s t m m ≡ plain_reads d s t m
-    by (Direction.Both Or) = ap (λ r. either r (read_by t m)) (absorbed (read_by s m) (read_by t (λ x. true)))
+    by (Direction.Both Or) = ap₂ (λ x y. by_first x (read_by s m) (read_by t m) y) (sym (or_no _)) (sym (or_no _)) ∙ first_alone (read_by s m) (read_by t m)
     by (Direction.One Source) = refl
     by _ = refl
 
@@ -119,7 +105,8 @@ sides_seen : (d : Direction) (s t : Option ℕ) (f g a b : ℕ → Bool) → ((x
 sides_seen (Direction.One Source) s t f g a b i j h k = read_seen s a b h
 sides_seen (Direction.One Destination) s t f g a b i j h k = read_seen t a b k
 sides_seen (Direction.Both Or) s t f g a b i j h k =
-    ap₂ either (ap₂ both (read_seen s a b h) (ap (λ r. either r (read_by t (λ x. true))) (read_seen s f g i))) (read_seen t a b k)
+    ap₂ (λ x y. by_first x y (read_by t f) (read_by t a)) (read_seen s a b h) (read_seen s f g i)
+    ∙ ap₂ (by_first (read_by s b) (read_by s g)) (read_seen t f g j) (read_seen t a b k)
 sides_seen (Direction.Both And) s t f g a b i j h k = ap₂ both (read_seen s f g i) (read_seen t f g j)
 
 -- how many tests a member has at least by itself
