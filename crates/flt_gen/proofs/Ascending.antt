@@ -1,7 +1,7 @@
 -- Intervals that ascend.
 use Rattle.flt_gen.proofs.Common.{◌≡◌, ℕ, zero, suc, ◌+◌, ◌-◌, ◌^◌, ◌<◌, ◌≤◌, List, [], ◌∷◌, length, take, drop, get_or, Bool, true, false, Option, Some, None}
 use Rattle.flt_gen.proofs.Common.{refl, sym, ap, ap₂, ◌∙◌, subst, arith, nat_lt, nat_le, ◌==◌, ◌&&◌, ◌||◌, max, if◌then◌else◌, nat_tests, and_parts, or_assoc}
-use Rattle.flt_gen.proofs.Common.{Interval, Sides, Offset, Fixed, AfterHeader, field_at, under_mask, low_of}
+use Rattle.flt_gen.proofs.Common.{Interval, Sides, Offset, Fixed, AfterHeader, field_at, under_mask, low_of, Link, index_of}
 use Rattle.flt_gen.proofs.Common.{Numbers, no_interval, first_ends, insert_ascending, is_gap, extended, joined_from}
 use Rattle.flt_gen.proofs.Common.{joined_all, same_interval, without}
 use Rattle.std.specs.List.{insert}
@@ -60,13 +60,13 @@ Reached index mask (AfterHeader h a) (AfterHeader g b) = (mask ≡ None) × (g �
 Reached index mask _ _ = ⊥
 
 -- numbers that are searched in fields: those of the first member are among them
-pub record Ready (at : Sides) (numbers : Numbers) : Type 0 where
+pub record Ready (link : Link) (at : Sides) (numbers : Numbers) : Type 0 where
   pub order : numbers.first.low ≤ numbers.first.high
   pub all : Searchable numbers.all
   pub others_are : numbers.others ≡ without numbers.first numbers.all
   pub first_in : (p : List ℕ) (x : ℕ) → field_at at.source at.width p ≡ Some x → is_in (under_mask numbers.mask x) numbers.first ≡ true
       → is_within (under_mask numbers.mask x) numbers.all ≡ true
-  pub reached : Reached at.index numbers.mask at.source at.destination
+  pub reached : Reached (index_of link at) numbers.mask at.source at.destination
 
 pub searchable_apart : (is : List Interval) → Searchable is → Apart 0 is
 searchable_apart [] h = absurd h

@@ -74,7 +74,7 @@ pub use Rattle.flt_gen.specs.inside.Group.{group_formula, or_any, or_group, trut
 pub use Rattle.flt_gen.specs.inside.Intervals.{no_interval, insert_ascending, is_gap, extended, joined_from, joined_all, is_aligned, idle_bits, left_out}
 pub use Rattle.flt_gen.specs.inside.Intervals.{high_mask, cut, same_interval, without, numbers_by, sought}
 pub use Rattle.flt_gen.specs.inside.ProgramCode.{emit_accessor_tests, expression_code, program_code, returns_code}
-pub use Rattle.flt_gen.specs.inside.Search.{Numbers, field_test, are_few, low_of, sought_formula, within_formula}
+pub use Rattle.flt_gen.specs.inside.Search.{Numbers, field_test, are_few, low_of, sought_formula, within_formula, index_of}
 pub use Rattle.flt_gen.specs.inside.Walk.{Walk, finish_formula, emit_node, emit_both_nodes, or_walk, emit_nodes, start_walk, insns_of, targets, finish_truth}
 pub use Rattle.flt_gen.specs.inside.Walk.{finish_number, with_insns, flush_members, flush_group, emit_truth_node}
 pub use Rattle.flt_words.specs.declared.token.Comparison.{Comparison}

@@ -7,7 +7,8 @@ use Rattle.flt_gen.proofs.Common.{◌≡◌, ℕ, ◌+◌, ◌-◌, ◌*◌, ◌
 use Rattle.flt_gen.proofs.Common.{ap₂, ◌∙◌}
 use Rattle.flt_gen.proofs.Common.{subst, arith, ◌==◌, ◌||◌, ◌&&◌, nat_lt, nat_le, if◌then◌else◌, suc-mul, nat_tests, and_parts, or_parts, Protocol, Ip, Tcp}
 use Rattle.flt_gen.proofs.Common.{Source, Destination, And, Or, ValueType, Host, Net, Port, PortRange, Direction, CompleteQualifiers, Value, Interval}
-use Rattle.flt_gen.proofs.Common.{Sides, FrameKind, network_offset, not, map, and-false, inl, inr, sought_formula, sought_tests, has_addresses, joined_all}
+use Rattle.flt_gen.proofs.Common.{index_of, Sides, FrameKind, network_offset, not, map, and-false, inl, inr, sought_formula, sought_tests, has_addresses}
+use Rattle.flt_gen.proofs.Common.{joined_all}
 use Rattle.flt_gen.proofs.Common.{left_out}
 use Rattle.flt_gen.proofs.Common.{high_mask, cut, address_places, port_places, ip_transport, ip6_transport, sought, Entry, TruthTree, check, cast, sized, bare}
 use Rattle.flt_gen.proofs.Common.{valued, qualified, compared, denied, joined, is_unfilled, any_primitive, Link, Formula, Both, Either, Except}
@@ -124,18 +125,18 @@ offset_few : (link : Link) → network_offset link ≤ 16
 offset_few link.Ether = omega arith
 offset_few _ = omega arith
 
-address_reached : (link : Link) (k : FrameKind) (mask : Option ℕ) → let at = address_places link k in Reached at.index mask at.source at.destination
+address_reached : (link : Link) (k : FrameKind) (mask : Option ℕ) → let at = address_places link k in Reached (index_of link at) mask at.source at.destination
 address_reached link kind.Ip mask = let l = offset_few link in (omega arith, omega arith, omega arith, omega arith)
 address_reached link _ mask = let l = offset_few link in (omega arith, omega arith, omega arith, omega arith)
 
 module _ (link : Link) (q : CompleteQualifiers) (numbers : Numbers) (n : ℕ) (h : Numbered numbers n) (two : 2 ≤ n) where
-  sought_bare : (at : Sides) → Ready at numbers → Bare (sought_formula q.direction at numbers) (n * count.side_tests q.direction 1 + (n - 1))
-  sought_bare at r = bare_within _ (sought_few q.direction numbers n h two) (bare_sought at numbers r q.direction)
+  sought_bare : (at : Sides) → Ready link at numbers → Bare (sought_formula link q.direction at numbers) (n * count.side_tests q.direction 1 + (n - 1))
+  sought_bare at r = bare_within _ (sought_few q.direction numbers n h two) (bare_sought link at numbers r q.direction)
 
   abbrev asked : Sides → Formula
-  asked at = sought_formula q.direction at numbers
+  asked at = sought_formula link q.direction at numbers
 
-  hosts_bare : ((f : FrameKind) → Ready (address_places link f) numbers) → Bare (hosts_formula link q.protocol asked)
+  hosts_bare : ((f : FrameKind) → Ready link (address_places link f) numbers) → Bare (hosts_formula link q.protocol asked)
       (n * count.ip4_tests q.protocol q.direction)
   hosts_bare r = bare_within _ (several_hosts_few q.protocol q.direction n (n - 1) (omega arith))
       (bare_hosts link q.protocol asked _ (omega arith) (λ f. bare_after (sought_bare _ (r f))))
@@ -144,7 +145,7 @@ module _ (link : Link) (q : CompleteQualifiers) (numbers : Numbers) (n : ℕ) (h
   ports_bare r = bare_within _ (several_ports_few q.protocol q.direction n (n - 1) two (omega arith))
       (bare_ports link q.protocol asked _ (sought_bare _ r.0) (sought_bare _ r.1))
 
-  bare_several : (k : ValueType) → (has_addresses k ≡ true → (f : FrameKind) → Ready (address_places link f) numbers)
+  bare_several : (k : ValueType) → (has_addresses k ≡ true → (f : FrameKind) → Ready link (address_places link f) numbers)
       → (has_addresses k ≡ false → PortsReady link numbers) → Bare (several_formula link q k numbers) (n * member_tests k q.protocol q.direction)
   bare_several Host r s = hosts_bare (r refl)
   bare_several Net r s = hosts_bare (r refl)
@@ -157,10 +158,10 @@ searchable_cut : (last : ℕ) (first : Interval) (is : List Interval) → Idle l
 searchable_cut last first [] h up = absurd up
 searchable_cut last first (i ∷ is) h up = cut_apart last 0 first (i ∷ is) h up
 
-ready : (at : Sides) (b : Bool) (group : Group) (ms : List Interval) → Held group ms → 1 ≤ length group.entries
-    → Fitting b at → ((mask : Option ℕ) → (b ≡ false → mask ≡ None) → Reached at.index mask at.source at.destination)
-    → Ready at (sought b group.first group.all)
-ready at b group ms h some fit reached = record {
+ready : (link : Link) (at : Sides) (b : Bool) (group : Group) (ms : List Interval) → Held group ms → 1 ≤ length group.entries
+    → Fitting b at → ((mask : Option ℕ) → (b ≡ false → mask ≡ None) → Reached (index_of link at) mask at.source at.destination)
+    → Ready link at (sought b group.first group.all)
+ready link at b group ms h some fit reached = record {
   order = cut_order last group.first group.first is idle idle.first_aligned h.order;
   all = searchable_cut last group.first is idle up;
   others_are = refl;
@@ -191,16 +192,16 @@ module _ (link : Link) (group : Group) (ms : List Interval) (h : Held group ms) 
   abbrev masked : Bool
   masked = has_addresses k && not group.is_plain
 
-  addresses_ready : (f : FrameKind) → Ready (address_places link f) (numbers_of group)
-  addresses_ready f = ready (address_places link f) masked group ms h some (address_fitting masked link f) (λ mask _. address_reached link f mask)
+  addresses_ready : (f : FrameKind) → Ready link (address_places link f) (numbers_of group)
+  addresses_ready f = ready link (address_places link f) masked group ms h some (address_fitting masked link f) (λ mask _. address_reached link f mask)
 
   ports_ready : has_addresses k ≡ false → PortsReady link (numbers_of group)
   ports_ready e =
       let no = ap (λ c. c && not group.is_plain) e in
       let l = offset_few link in (
-        ready (port_places (ip_transport link)) masked group ms h some (unmasked_fitting masked (port_places (ip_transport link)) no)
+        ready link (port_places (ip_transport link)) masked group ms h some (unmasked_fitting masked (port_places (ip_transport link)) no)
             (λ mask f. (f no, refl)),
-        ready (port_places (ip6_transport link)) masked group ms h some (unmasked_fitting masked (port_places (ip6_transport link)) no)
+        ready link (port_places (ip6_transport link)) masked group ms h some (unmasked_fitting masked (port_places (ip6_transport link)) no)
             (λ mask f. (omega arith, omega arith, omega arith, omega arith)),
       )
 

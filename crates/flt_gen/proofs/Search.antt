@@ -15,7 +15,7 @@ use Rattle.flt_gen.proofs.Counted.{Bare, bare_within, bare_some, place_few, mask
 use Rattle.flt_gen.proofs.Firsts.{exact, or_yes, by_first}
 use Rattle.flt_gen.proofs.{Exclusive.or_no, Runs.one_number}
 use Rattle.flt_gen.specs.Formula.{choose}
-use Rattle.flt_gen.specs.inside.Search.{chain_of, search, MOST_HALVINGS, few_formula, many_formula, sides_at_index, at_index, are_at_index}
+use Rattle.flt_gen.specs.inside.Search.{chain_of, search, MOST_HALVINGS, few_formula, many_formula, sides_at_index, at_index, index_of, are_alone, are_at_index}
 use Rattle.flt_gen.specs.inside.Search.{fewest_at_index, never, always}
 use Rattle.std.proofs.Math.Nat.{mod-eq_of_lt}
 
@@ -203,7 +203,7 @@ few_told false true o (Some y) f a all rest =
     ap (λ z. either (exact (a y)) (exact z)) (rest refl) ∙ or_yes (a y) ∙ sym (ap (λ r. either r (exact (a y))) (or_yes (f y)))
 few_told false false o d f a all rest = ap (λ z. either (read_by d a) (exact z)) (rest refl) ∙ or_no (read_by d a)
 
-module _ (link : Link) (p : List ℕ) (n : ℕ) (at : Sides) (numbers : Numbers) (r : Ready at numbers) where
+module _ (link : Link) (p : List ℕ) (n : ℕ) (at : Sides) (numbers : Numbers) (r : Ready link at numbers) where
   abbrev place : Offset → FieldPlace
   place offset = record { offset = offset; width = at.width; mask = numbers.mask }
 
@@ -247,23 +247,23 @@ module _ (link : Link) (p : List ℕ) (n : ℕ) (at : Sides) (numbers : Numbers)
           (λ t. r.first_in p x e (sym (or-false (is_in y numbers.first)) ∙ t))
           (λ t. ap (is_within y) r.others_are ∙ within_without y numbers.first numbers.all (sym (or-false (is_in y numbers.first)) ∙ t))
 
-  many_read : reads link (many_formula (sides_at_index at) numbers) p n ≡ either_side
+  many_read : reads link (many_formula (sides_at_index link at) numbers) p n ≡ either_side
   many_read =
-      let same = at_index_same p at.index numbers.mask at.source at.destination at.width r.reached in
-      let a = at_index at.index at.source in
-      let b = at_index at.index at.destination in
+      let same = at_index_same p (index_of link at) numbers.mask at.source at.destination at.width r.reached in
+      let a = at_index (index_of link at) at.source in
+      let b = at_index (index_of link at) at.destination in
       ap₂ (λ x y. either (both x (either (reads link (within_formula numbers.mask (numbers.first ∷ []) a at.width) p n)
       (read_by (field_at b at.width p) (λ z. nat_le 0 z)))) y) (all_read a) (all_read b)
       ∙ ap₂ (λ x y. either (both (read_by (field_at a at.width p) of_all) (either x y)) (read_by (field_at b at.width p) of_all)) (first_read a)
       (captured_is (field_at b at.width p) of_first)
       ∙ ap₂ (λ s d. by_first (read_by s of_all) (read_by s of_first) (read_by d of_first) (read_by d of_all)) same.0 same.1
 
-  pub sought_read : (d : Direction) → Merged d → reads link (sought_formula d at numbers) p n ≡ sides_read d source destination of_first of_all
+  pub sought_read : (d : Direction) → Merged d → reads link (sought_formula link d at numbers) p n ≡ sides_read d source destination of_first of_all
   sought_read (Direction.One Source) m = all_read at.source
   sought_read (Direction.One Destination) m = all_read at.destination
   sought_read (Direction.Both And) m = absurd m
   sought_read (Direction.Both Or) m =
-      if_case (λ (g : Formula). reads link g p n ≡ sides_read (Direction.Both Or) source destination of_first of_all) (are_at_index at numbers) _ _
+      if_case (λ (g : Formula). reads link g p n ≡ sides_read (Direction.Both Or) source destination of_first of_all) (are_at_index link at numbers) _ _
       (λ e. many_read) (λ e. few_read)
 
 -- ---- the counts
@@ -397,7 +397,7 @@ at_index_many w false n e = e
 at_index_many Word true n e = grind (arith, nat_tests)
 at_index_many _ true n e = grind (arith, nat_tests)
 
-module _ (at : Sides) (numbers : Numbers) (r : Ready at numbers) where
+module _ (link : Link) (at : Sides) (numbers : Numbers) (r : Ready link at numbers) where
   within_cheap : (is : List Interval) (offset : Offset) → let x = within_formula numbers.mask is offset at.width in
       Cheap nothing x (place_loads offset + mask_loads numbers.mask) (2 * length is - 1 + first_ends is)
   within_cheap is offset =
@@ -412,7 +412,7 @@ module _ (at : Sides) (numbers : Numbers) (r : Ready at numbers) where
 
   few_bare : Bare (few_formula at numbers) (twice + 1)
   few_bare =
-      let few = lean at.index numbers.mask at.source at.destination r.reached in
+      let few = lean (index_of link at) numbers.mask at.source at.destination r.reached in
       let a = few.0 in
       let d = few.1 in
       let one = within_cheap (numbers.first ∷ []) at.source in
@@ -431,15 +431,15 @@ module _ (at : Sides) (numbers : Numbers) (r : Ready at numbers) where
         light_fit = omega (arith, one.loads_fit, one.tests_fit, all.loads_fit, all.tests_fit, others.loads_fit, others.tests_fit);
       }
 
-  many_bare : Bare (many_formula (sides_at_index at) numbers) (twice + 3)
+  many_bare : Bare (many_formula (sides_at_index link at) numbers) (twice + 3)
   many_bare =
-      let few = lean at.index numbers.mask at.source at.destination r.reached in
+      let few = lean (index_of link at) numbers.mask at.source at.destination r.reached in
       let a = few.2 in
       let d = few.3 in
-      let one = within_cheap (numbers.first ∷ []) (at_index at.index at.source) in
-      let all = within_cheap numbers.all (at_index at.index at.source) in
-      let second = within_cheap numbers.all (at_index at.index at.destination) in
-      let asked = place_few (at_index at.index at.destination) in
+      let one = within_cheap (numbers.first ∷ []) (at_index (index_of link at) at.source) in
+      let all = within_cheap numbers.all (at_index (index_of link at) at.source) in
+      let second = within_cheap numbers.all (at_index (index_of link at) at.destination) in
+      let asked = place_few (at_index (index_of link at) at.destination) in
       let e = ends_few (numbers.first ∷ []) in
       let g = ends_few numbers.all in
       let m = some in
@@ -462,16 +462,17 @@ module _ (at : Sides) (numbers : Numbers) (r : Ready at numbers) where
         light_fit = omega (arith, all.loads_fit, all.tests_fit);
       }
 
-  pub bare_sought : (d : Direction) → Bare (sought_formula d at numbers) (sought_tests d numbers)
-  bare_sought (Direction.One Source) = side_bare at.source (lean at.index numbers.mask at.source at.destination r.reached).0
-  bare_sought (Direction.One Destination) = side_bare at.destination (lean at.index numbers.mask at.source at.destination r.reached).1
+  pub bare_sought : (d : Direction) → Bare (sought_formula link d at numbers) (sought_tests d numbers)
+  bare_sought (Direction.One Source) = side_bare at.source (lean (index_of link at) numbers.mask at.source at.destination r.reached).0
+  bare_sought (Direction.One Destination) = side_bare at.destination (lean (index_of link at) numbers.mask at.source at.destination r.reached).1
   bare_sought (Direction.Both And) = bare_some 1 (omega arith)
-  bare_sought (Direction.Both Or) = by (are_at_index at numbers) refl
+  bare_sought (Direction.Both Or) = by (are_at_index link at numbers) refl
     where
-      by : (many : Bool) → are_at_index at numbers ≡ many → Bare (if many then many_formula (sides_at_index at) numbers else few_formula at numbers)
+      by : (many : Bool) → are_at_index link at numbers ≡ many → Bare (if many then many_formula (sides_at_index link at) numbers else few_formula at numbers)
           (twice + (if nat_le 5 (length numbers.all) then 3 else 1))
-      by true e = subst (λ five. Bare (many_formula (sides_at_index at) numbers) (twice + (if five then 3 else 1)))
-          (sym (at_index_many at.width (numbers.first.low == numbers.first.high) (length numbers.all) (and_parts (not at.is_alone) _ e).1)) many_bare
+      by true e = subst (λ five. Bare (many_formula (sides_at_index link at) numbers) (twice + (if five then 3 else 1)))
+          (sym (at_index_many at.width (numbers.first.low == numbers.first.high) (length numbers.all) (and_parts (not (are_alone link at.width)) _ e).1))
+          many_bare
       by false e =
           let one : 1 ≤ (if nat_le 5 (length numbers.all) then 3 else 1) = if_case (λ k. 1 ≤ k) (nat_le 5 (length numbers.all)) 3 1
           (λ f. omega arith) (λ f. omega arith) in

@@ -46,7 +46,7 @@ address_fitting b link k e p x (inr f) = word_small p _ x f
 
 -- numbers that are searched in the ports after both headers
 abbrev pub PortsReady : Link → Numbers → Type 0
-PortsReady link numbers = Ready (port_places (ip_transport link)) numbers × Ready (port_places (ip6_transport link)) numbers
+PortsReady link numbers = Ready link (port_places (ip_transport link)) numbers × Ready link (port_places (ip6_transport link)) numbers
 
 not_both : (b c : Bool) → (b ≡ true → c ≡ true) → c ≡ false → b ≡ false
 not_both false c f e = refl
@@ -286,9 +286,9 @@ module _ (link : Link) (p : List ℕ) (n : ℕ) where
       (w : (y : ℕ) → is_within y all ≡ is_within y (m ∷ ms)) where
     -- the formula of several
     abbrev asked : Sides → Formula
-    asked at = sought_formula q.direction at (sought b m all)
+    asked at = sought_formula link q.direction at (sought b m all)
 
-    sides_are : (at : Sides) → Fitting b at → Ready at (sought b m all) → told_at asked at ≡ sides_read q.direction (source_of at) (destination_of at)
+    sides_are : (at : Sides) → Fitting b at → Ready link at (sought b m all) → told_at asked at ≡ sides_read q.direction (source_of at) (destination_of at)
         (hit m) (λ x. is_within x (m ∷ ms))
     sides_are at fit ready = sought_read link p n at (sought b m all) ready q.direction h
         ∙ sides_seen q.direction (source_of at) (destination_of at) _ _ _ _ (λ x e. one x (small x (inl e)))
@@ -312,7 +312,7 @@ module _ (link : Link) (p : List ℕ) (n : ℕ) where
         some : (x : ℕ) → Small last x → is_within (u x) (map (cut last) (joined_all all)) ≡ is_within x (m ∷ ms)
         some x l = cut_within last x m (joined_all all) idle l ∙ within_joined x all o ∙ w x
 
-    several_hosts : ((k : FrameKind) → Ready (address_places link k) (sought b m all)) → reads link (hosts_formula link q.protocol asked) p n
+    several_hosts : ((k : FrameKind) → Ready link (address_places link k) (sought b m all)) → reads link (hosts_formula link q.protocol asked) p n
         ≡ members_read Host q.protocol q.direction m ms
     several_hosts r = hosts_are q.protocol asked ∙ hosts_same q.protocol _ _ (λ k. sides_are (address_places link k) (address_fitting b link k) (r k))
 
@@ -325,7 +325,7 @@ module _ (link : Link) (p : List ℕ) (n : ℕ) where
         ports_are q.protocol asked ∙ ap₂ (two_headers q.protocol) (sides_are ip (unmasked_fitting b ip e) r.0) (sides_are ip6 (unmasked_fitting b ip6 e) r.1)
 
     pub several_are : (k : ValueType) → (b ≡ true → has_addresses k ≡ true) → (has_addresses k ≡ true → (f : FrameKind)
-        → Ready (address_places link f) (sought b m all)) → (has_addresses k ≡ false → PortsReady link (sought b m all))
+        → Ready link (address_places link f) (sought b m all)) → (has_addresses k ≡ false → PortsReady link (sought b m all))
         → reads link (several_formula link q k (sought b m all)) p n ≡ members_read k q.protocol q.direction m ms
     several_are Host f r s = several_hosts (r refl)
     several_are Net f r s = several_hosts (r refl)

@@ -4,13 +4,17 @@ ghost use Rattle.std.specs.Prelude.{◌≡◌};
 ghost use Rattle.flt_gen.specs.inside.{Emits.Emits, Emits.EmitsFormula, Code.emit_after};
 ghost use Rattle.flt_gen.specs.inside.Search.{are_few, low_of, chain_of, search, within_formula};
 ghost use Rattle.flt_gen.specs.inside.Search.{few_formula, many_formula, sought_formula};
-ghost use Rattle.flt_gen.specs.inside.Search.{fewest_at_index, are_at_index, at_index};
+ghost use Rattle.flt_gen.specs.inside.Search.{fewest_at_index, are_alone, are_at_index};
+ghost use Rattle.flt_gen.specs.inside.Search.{index_of, at_index, sides_at_index};
 ghost use Rattle.cap_octet.specs.declared.link.Link.{Link};
 
 use crate::code::{Code, Targets};
-use crate::elementary::{Elementary, FieldPlace, Interval, Offset, Sides, compares_at};
+use crate::elementary::{
+    Elementary, FieldPlace, Interval, Offset, Sides, compares_at, network_offset,
+};
 use crate::emit::NOTHING;
 use crate::intervals::Numbers;
+use cap_octet::Link;
 use flt_ast::Direction;
 use flt_bpf::operation::Width;
 use flt_words::{Comparison, Join, Side};
@@ -55,12 +59,51 @@ fn fewest_at_index(width: Width, is_plain: bool) -> usize
     }
 }
 
+/// Whether headers of only one kind have such fields: the addresses of raw IP, which has no ARP.
+fn are_alone(link: Link, width: Width) -> bool
+    ensures { result ≡ are_alone link width }
+{
+    match width {
+        Width::Word => link.type_offset().is_none(),
+        _ => false,
+    }
+}
+
 /// Whether numbers are looked for at X: never if headers of only one kind have them.
-fn are_at_index(at: Sides, numbers: &Numbers<'_>) -> bool
-    ensures { result ≡ are_at_index at numbers.now }
+fn are_at_index(link: Link, at: Sides, numbers: &Numbers<'_>) -> bool
+    ensures { result ≡ are_at_index link at numbers.now }
 {
     let first = numbers.first;
-    !at.is_alone && numbers.all.len() >= fewest_at_index(at.width, first.low == first.high)
+    !are_alone(link, at.width)
+        && numbers.all.len() >= fewest_at_index(at.width, first.low == first.high)
+}
+
+/// What X holds if both sides are read at it: as many bytes as the destination is past that of an
+/// IPv4 address, or of a port right after the link header. So it is at the same place after X in
+/// headers of each kind.
+fn index_of(link: Link, at: Sides) -> u32
+    ensures { result ≡ index_of link at }
+{
+    let past = match at.width {
+        Width::Word => 16,
+        _ => 2,
+    };
+    match at.destination {
+        Offset::Fixed(place) => place.saturating_sub(network_offset(link) + past),
+        _ => 0,
+    }
+}
+
+/// Both sides, read at X.
+fn sides_at_index(link: Link, at: Sides) -> Sides
+    ensures { result ≡ sides_at_index link at }
+{
+    let index = index_of(link, at);
+    Sides {
+        source: at_index(index, at.source),
+        destination: at_index(index, at.destination),
+        ..at
+    }
 }
 
 /// The place that is read at X, from which both sides are counted.
@@ -201,24 +244,20 @@ impl<A: Allocator> Code<A> {
     /// headers of each kind.
     pub fn emit_among(
         &mut self,
+        link: Link,
         direction: Direction,
         at: Sides,
         numbers: &Numbers<'_>,
         to: Targets,
     ) -> Result<usize, AllocError>
-        ensures { (link : Link) → EmitsFormula link (sought_formula direction at numbers.now) to
-            self.old result self.new }
+        ensures { EmitsFormula link (sought_formula link direction at numbers.now) to self.old
+            result self.new }
     {
         let offset = match direction {
             Direction::One(Side::Source) => at.source,
             Direction::One(Side::Destination) => at.destination,
-            Direction::Both(Join::Or) if are_at_index(at, numbers) => {
-                let at = Sides {
-                    source: at_index(at.index, at.source),
-                    destination: at_index(at.index, at.destination),
-                    ..at
-                };
-                return self.emit_many(at, numbers, to);
+            Direction::Both(Join::Or) if are_at_index(link, at, numbers) => {
+                return self.emit_many(sides_at_index(link, at), numbers, to);
             }
             Direction::Both(Join::Or) => return self.emit_few(at, numbers, to),
             // Several numbers never have this direction (`same_direction` of group.rt).

@@ -71,15 +71,10 @@ pub enum Elementary {
     Field(FieldTest),
 }
 
-/// The places of a source and a destination, both addresses or both ports, and their width. If they
-/// are read at X, it holds `index`, or the length of the header before them; so fields of headers
-/// of several kinds are at the same place after X.
+/// The places of a source and a destination, both addresses or both ports, and their width.
 #[derive(Clone, Copy)]
 pub struct Sides {
     pub width: Width,
-    pub index: u32,
-    /// Whether the link has no headers of another kind with such addresses or ports.
-    pub is_alone: bool,
     pub source: Offset,
     pub destination: Offset,
 }

@@ -112,8 +112,8 @@ qualified_needed link q v = value_needed link q.value_type q.protocol q.directio
 -- ---- one value, or several numbers
 
 -- what is looked for at the places of addresses or ports
-abbrev pub wanted_formula : Wanted → Numbers → Sides → Formula
-wanted_formula (Wanted.Net direction mask address) numbers = in_net direction mask address
-wanted_formula (Wanted.Port direction n) numbers = is_port direction n
-wanted_formula (Wanted.Ports direction a b) numbers = in_range direction a b
-wanted_formula (Wanted.Several direction) numbers = λ at. sought_formula direction at numbers
+abbrev pub wanted_formula : Link → Wanted → Numbers → Sides → Formula
+wanted_formula link (Wanted.Net direction mask address) numbers = in_net direction mask address
+wanted_formula link (Wanted.Port direction n) numbers = is_port direction n
+wanted_formula link (Wanted.Ports direction a b) numbers = in_range direction a b
+wanted_formula link (Wanted.Several direction) numbers = λ at. sought_formula link direction at numbers

@@ -231,13 +231,13 @@ numbers_of group = sought (has_networks group) group.first group.all
 -- one of several members with these numbers
 abbrev pub several_formula : Link → CompleteQualifiers → ValueType → Numbers → Formula
 several_formula link q Host numbers =
-    hosts_formula link q.protocol (λ at. sought_formula q.direction at numbers)
+    hosts_formula link q.protocol (λ at. sought_formula link q.direction at numbers)
 several_formula link q Net numbers =
-    hosts_formula link q.protocol (λ at. sought_formula q.direction at numbers)
+    hosts_formula link q.protocol (λ at. sought_formula link q.direction at numbers)
 several_formula link q Port numbers =
-    port_formula link q.protocol (λ at. sought_formula q.direction at numbers)
+    port_formula link q.protocol (λ at. sought_formula link q.direction at numbers)
 several_formula link q PortRange numbers =
-    port_formula link q.protocol (λ at. sought_formula q.direction at numbers)
+    port_formula link q.protocol (λ at. sought_formula link q.direction at numbers)
 several_formula link q _ numbers = Single (Outcome false)
 
 -- a member by itself

@@ -1,11 +1,12 @@
 -- Formulas that look for several numbers in a field, or in one of two: trees of tests.
-use Rattle.std.specs.Prelude.{ℕ, zero, suc, ◌-◌, ◌/◌, ◌==◌, ◌&&◌, not, nat_le, Bool, true, false, if◌then◌else◌, List, [], ◌∷◌, length, take, drop, Option}
+use Rattle.std.specs.Prelude.{ℕ, zero, suc, ◌+◌, ◌-◌, ◌/◌, ◌==◌, ◌&&◌, not, nat_le, Bool, true, false, if◌then◌else◌, List, [], ◌∷◌, length, take, drop, Option, is_none}
 use Rattle.flt_bpf.specs.declared.operation.Width.{Width, TheVariants.Word}
 use Rattle.flt_words.specs.declared.token.Comparison.{Comparison}
 use Rattle.flt_words.specs.declared.token.Comparison.TheVariants.{Equal, Less, AtMost, AtLeast}
 use Rattle.flt_words.specs.declared.token.Join.TheVariants.{And, Or}
 use Rattle.flt_words.specs.declared.token.Side.TheVariants.{Source, Destination}
 use Rattle.flt_ast.specs.declared.qualifiers.Direction.{Direction}
+use Rattle.cap_octet.specs.{Link.network_offset, Link.type_offset, declared.link.Link.Link}
 use Rattle.flt_gen.specs.Elementary.{compares_at, compares_under}
 use Rattle.flt_gen.specs.Formula.{Formula, Single, Both, Either, Split}
 use Rattle.flt_gen.specs.declared.elementary.Elementary.{Elementary, TheVariants.Outcome}
@@ -103,10 +104,15 @@ fewest_at_index width false = 5
 fewest_at_index Word true = 24
 fewest_at_index _ true = 8
 
+-- headers of only one kind have such fields: the addresses of raw IP, which has no ARP
+abbrev pub are_alone : Link → Width → Bool
+are_alone link Word = is_none (type_offset link)
+are_alone link _ = false
+
 -- numbers are looked for at X: never if headers of only one kind have them
-abbrev pub are_at_index : Sides → Numbers → Bool
-are_at_index at numbers =
-    not at.is_alone
+abbrev pub are_at_index : Link → Sides → Numbers → Bool
+are_at_index link at numbers =
+    not (are_alone link at.width)
     && nat_le (fewest_at_index at.width (numbers.first.low == numbers.first.high)) (length numbers.all)
 
 -- a place that is read at X, which holds the number that both sides are counted from
@@ -114,19 +120,35 @@ abbrev pub at_index : ℕ → Offset → Offset
 at_index index (Fixed k) = AtIndex index (k - index)
 at_index index offset = offset
 
+-- how far after the network header begins the destination is in a header of IPv4, or right after it
+abbrev pub least_past : Width → ℕ
+least_past Word = 16
+least_past _ = 2
+
+-- a number in X with which a destination is at the same place after X in headers of each kind
+abbrev pub index_past : Offset → ℕ → ℕ
+index_past (Fixed k) least = k - least
+index_past _ least = 0
+
+-- the number that both sides are counted from at X
+abbrev pub index_of : Link → Sides → ℕ
+index_of link at = index_past at.destination (network_offset link + least_past at.width)
+
 -- both sides at X
-abbrev pub sides_at_index : Sides → Sides
-sides_at_index at =
-    record at { source = at_index at.index at.source; destination = at_index at.index at.destination }
+abbrev pub sides_at_index : Link → Sides → Sides
+sides_at_index link at = record at {
+  source = at_index (index_of link at) at.source;
+  destination = at_index (index_of link at) at.destination;
+}
 
 -- the sides that a direction asks for are some numbers; many on either side are read at X, so that
 -- the same code may serve for headers of each kind. `src and dst` is never asked for like this
-abbrev pub sought_formula : Direction → Sides → Numbers → Formula
-sought_formula (Direction.One Source) at numbers =
+abbrev pub sought_formula : Link → Direction → Sides → Numbers → Formula
+sought_formula link (Direction.One Source) at numbers =
     within_formula numbers.mask numbers.all at.source at.width
-sought_formula (Direction.One Destination) at numbers =
+sought_formula link (Direction.One Destination) at numbers =
     within_formula numbers.mask numbers.all at.destination at.width
-sought_formula (Direction.Both Or) at numbers =
-    if are_at_index at numbers then many_formula (sides_at_index at) numbers
+sought_formula link (Direction.Both Or) at numbers =
+    if are_at_index link at numbers then many_formula (sides_at_index link at) numbers
     else few_formula at numbers
-sought_formula (Direction.Both And) at numbers = never
+sought_formula link (Direction.Both And) at numbers = never
