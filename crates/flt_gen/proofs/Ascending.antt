@@ -1,8 +1,8 @@
 -- Intervals that ascend.
 use Rattle.flt_gen.proofs.Common.{◌≡◌, ℕ, zero, suc, ◌+◌, ◌-◌, ◌^◌, ◌<◌, ◌≤◌, List, [], ◌∷◌, length, take, drop, get_or, Bool, true, false, Option, Some, None}
 use Rattle.flt_gen.proofs.Common.{refl, sym, ap, ap₂, ◌∙◌, subst, arith, nat_lt, nat_le, ◌==◌, ◌&&◌, ◌||◌, max, if◌then◌else◌, nat_tests, and_parts, or_assoc}
-use Rattle.flt_gen.proofs.Common.{Interval, Sides, Offset, Fixed, AfterHeader, field_at, under_mask, low_of, Formula, Single, Compare, Both, Either, Except}
-use Rattle.flt_gen.proofs.Common.{Split, Sought, Numbers, is_in, is_within, no_interval, first_ends, insert_ascending, is_gap, extended, joined_from}
+use Rattle.flt_gen.proofs.Common.{Interval, Sides, Offset, Fixed, AfterHeader, field_at, under_mask, low_of, Link, index_of}
+use Rattle.flt_gen.proofs.Common.{Numbers, no_interval, first_ends, insert_ascending, is_gap, extended, joined_from}
 use Rattle.flt_gen.proofs.Common.{joined_all, same_interval, without}
 use Rattle.std.specs.List.{insert}
 
@@ -10,6 +10,14 @@ use Rattle.std.specs.List.{insert}
 pub if_case : {A : Type 0} (P : A → Type 0) (b : Bool) (x y : A) → (b ≡ true → P x) → (b ≡ false → P y) → P (if b then x else y)
 if_case P true x y t f = t refl
 if_case P false x y t f = f refl
+
+-- a number is in an interval, and in one of some intervals
+abbrev pub is_in : ℕ → Interval → Bool
+is_in x i = nat_le i.low x && nat_le x i.high
+
+abbrev pub is_within : ℕ → List Interval → Bool
+is_within x [] = false
+is_within x (i ∷ is) = is_in x i || is_within x is
 
 -- what an option has, if anything, is P
 abbrev pub Each : {A : Type 0} → Option A → (A → Type 0) → Type 0
@@ -52,23 +60,13 @@ Reached index mask (AfterHeader h a) (AfterHeader g b) = (mask ≡ None) × (g �
 Reached index mask _ _ = ⊥
 
 -- numbers that are searched in fields: those of the first member are among them
-pub record Ready (at : Sides) (numbers : Numbers) : Type 0 where
+pub record Ready (link : Link) (at : Sides) (numbers : Numbers) : Type 0 where
   pub order : numbers.first.low ≤ numbers.first.high
   pub all : Searchable numbers.all
   pub others_are : numbers.others ≡ without numbers.first numbers.all
   pub first_in : (p : List ℕ) (x : ℕ) → field_at at.source at.width p ≡ Some x → is_in (under_mask numbers.mask x) numbers.first ≡ true
       → is_within (under_mask numbers.mask x) numbers.all ≡ true
-  pub reached : Reached at.index numbers.mask at.source at.destination
-
--- all numbers that a formula searches
-abbrev pub Searches : Formula → Type 0
-Searches (Single t) = Unit {0}
-Searches (Compare c l r) = Unit {0}
-Searches (Both a b) = Searches a × Searches b
-Searches (Either a b) = Searches a × Searches b
-Searches (Except a) = Searches a
-Searches (Split t a b) = Searches a × Searches b
-Searches (Sought d at numbers) = Ready at numbers
+  pub reached : Reached (index_of link at) numbers.mask at.source at.destination
 
 pub searchable_apart : (is : List Interval) → Searchable is → Apart 0 is
 searchable_apart [] h = absurd h
@@ -114,7 +112,7 @@ within_without x i (j ∷ js) out =
     (λ e. ap (λ b. is_in x j || b) (within_without x i js out))
 
 -- which half a number can be in
-none_below : (x a : ℕ) (is : List Interval) → x < a → Apart a is → is_within x is ≡ false
+pub none_below : (x a : ℕ) (is : List Interval) → x < a → Apart a is → is_within x is ≡ false
 none_below x a [] l h = refl
 none_below x a (i ∷ is) l h =
     let k = h.0 in

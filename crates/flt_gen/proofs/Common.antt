@@ -44,7 +44,7 @@ pub use Rattle.flt_bpf.proofs.Suffix.{answer_drop, valid_if_short, faultless_dro
 pub use Rattle.flt_gen.specs.{Correct.IsProgramOf, Counts.short_bound_of}
 pub use Rattle.flt_gen.specs.Elementary.{Yes, No, reading_of, with, under_mask, elementary_reads, type_test, MatchResult, compares, kind_test, Rejected, is_at}
 pub use Rattle.flt_gen.specs.Elementary.{field_at, field_reads}
-pub use Rattle.flt_gen.specs.Formula.{Formula, Single, Compare, Both, Either, Except, Split, Sought, is_in, is_within, all_of, sides, Numbers}
+pub use Rattle.flt_gen.specs.Formula.{Formula, Single, Compare, Both, Either, Except, Split, all_of, sides}
 pub use Rattle.flt_gen.specs.Formula.{both, either, negation, reads, relation_reads, guarded_formula, checked_formula}
 pub use Rattle.flt_gen.specs.Laws.{word_mask, frame_kind, carries_kind, carries}
 pub use Rattle.flt_gen.specs.Numbers.{accessor_tests, width_of, base, number, result_of, accessors}
@@ -54,16 +54,15 @@ pub use Rattle.flt_gen.specs.Primitives.{qualified_formula, partial_mask, ip6_te
 pub use Rattle.flt_gen.specs.Primitives.{following, ip_transport, ip6_transport}
 pub use Rattle.flt_gen.specs.Reading.{formula, holds}
 pub use Rattle.flt_gen.specs.declared.elementary.Elementary.{Elementary, TheVariants.Outcome, TheVariants.Field}
-pub use Rattle.flt_gen.specs.declared.elementary.{FrameKind.FrameKind, Interval.Interval, Offset.Offset}
-pub use Rattle.flt_gen.specs.declared.elementary.Offset.TheVariants.{Fixed, AfterHeader}
+pub use Rattle.flt_gen.specs.declared.elementary.{FieldPlace.FieldPlace, FieldTest.FieldTest, FrameKind.FrameKind, Interval.Interval, Offset.Offset}
+pub use Rattle.flt_gen.specs.declared.elementary.Offset.TheVariants.{Fixed, AfterHeader, AtIndex}
 pub use Rattle.flt_gen.specs.declared.{elementary.Sides.Sides, group.Entry.Entry}
 pub use Rattle.flt_gen.specs.declared.port.Transport.{Transport}
-pub use Rattle.flt_gen.specs.inside.Code.{accessor_offset, constant_or, Block, block, emit_all, low_of, plain, constant, computation, takes_constant}
+pub use Rattle.flt_gen.specs.inside.Code.{accessor_offset, constant_or, Block, block, emit_all, plain, constant, computation, takes_constant}
 pub use Rattle.flt_gen.specs.inside.Code.{constant_operand, branch_insn, emit_branch, emit_comparison, emit_field, emit_mask, emit_accessor, emit_number}
-pub use Rattle.flt_gen.specs.inside.Code.{at_top, emit_interval, emit_chain, are_few, MOST_HALVINGS, emit_elementary, emit_formula, alu_operation, emit_base}
-pub use Rattle.flt_gen.specs.inside.Code.{emit_transport, emit_operands, emit_relation, emit_masked, emit_side, emit_others, emit_few, emit_index}
-pub use Rattle.flt_gen.specs.inside.Code.{emit_at_index, emit_second, emit_at_sides, emit_many, fewest_at_index, are_at_index, emit_among}
-pub use Rattle.flt_gen.specs.inside.Counts.{first_ends, sought_tests, tests, nodes, words}
+pub use Rattle.flt_gen.specs.inside.Code.{at_top, emit_elementary, emit_test, emit_after, emit_formula, alu_operation, emit_base, is_loaded, nothing}
+pub use Rattle.flt_gen.specs.inside.Code.{emit_transport, emit_operands, emit_relation, same_offset, same_width, same_mask}
+pub use Rattle.flt_gen.specs.inside.Counts.{first_ends, sought_tests, tests, test_count, nodes, words, place_loads, mask_loads, field_loads, test_loads, loads}
 pub use Rattle.flt_gen.specs.inside.Emitted.{protocols_of, relation_formula, qualified_needed, is_empty, is_idle, capture_test, last_test, needed_tests}
 pub use Rattle.flt_gen.specs.inside.Emitted.{ip6_needed, value_needed, equals, without_protocol}
 pub use Rattle.flt_gen.specs.inside.Folding.{negated_constant, applied_constant, number_or, negated_number, applied_number, folded_number, and_denied}
@@ -75,6 +74,7 @@ pub use Rattle.flt_gen.specs.inside.Group.{group_formula, or_any, or_group, trut
 pub use Rattle.flt_gen.specs.inside.Intervals.{no_interval, insert_ascending, is_gap, extended, joined_from, joined_all, is_aligned, idle_bits, left_out}
 pub use Rattle.flt_gen.specs.inside.Intervals.{high_mask, cut, same_interval, without, numbers_by, sought}
 pub use Rattle.flt_gen.specs.inside.ProgramCode.{emit_accessor_tests, expression_code, program_code, returns_code}
+pub use Rattle.flt_gen.specs.inside.Search.{Numbers, field_test, are_few, low_of, sought_formula, within_formula, index_of}
 pub use Rattle.flt_gen.specs.inside.Walk.{Walk, finish_formula, emit_node, emit_both_nodes, or_walk, emit_nodes, start_walk, insns_of, targets, finish_truth}
 pub use Rattle.flt_gen.specs.inside.Walk.{finish_number, with_insns, flush_members, flush_group, emit_truth_node}
 pub use Rattle.flt_words.specs.declared.token.Comparison.{Comparison}

@@ -1,51 +1,105 @@
 -- The counts of the table's formulas are at most those of the tree.
-use Rattle.flt_gen.proofs.Ascending.{Ready, Searches}
-use Rattle.flt_gen.proofs.Common.{◌≡◌, ℕ, ◌+◌, ◌-◌, ◌≤◌, max, min, List, [], ◌∷◌, length, Option, Some, None, refl, arith, Protocol, Source, Destination, And}
+use Rattle.flt_gen.proofs.Ascending.{if_case}
+use Rattle.flt_gen.proofs.Common.{◌≡◌, ℕ, ◌+◌, ◌-◌, ◌*◌, ◌≤◌, max, min, List, [], ◌∷◌, length, Option, Some, None, refl, arith, Protocol, Source, Destination}
+use Rattle.flt_gen.proofs.Common.{And}
 use Rattle.flt_gen.proofs.Common.{Or, ValueType, Host, Net, Port, PortRange, Proto, Direction, Value, Link, FrameKind, Elementary, Sides}
-use Rattle.flt_gen.proofs.Common.{ip_transport, ip6_transport, Formula, Single, Both, Either, Split, Sought, all_of, sides, Numbers, after}
+use Rattle.flt_gen.proofs.Common.{ip_transport, ip6_transport, Formula, Single, Both, Either, Split, all_of, sides, after, Field, Outcome}
+use Rattle.flt_gen.proofs.Common.{FieldTest, Offset, Fixed, loads, test_loads, field_loads, place_loads, mask_loads, is_loaded, nothing}
 use Rattle.flt_gen.proofs.Common.{in_net, is_port, in_range, port_places}
 use Rattle.flt_gen.proofs.Common.{any_proto, mac_tests, check_formula, cast_formula, proto_formula, hosts_of_kind, hosts_formula, ip6_formula}
-use Rattle.flt_gen.proofs.Common.{ether_host, port_formula, transport, value_formula, sought_tests, tests, nodes, words}
+use Rattle.flt_gen.proofs.Common.{ether_host, port_formula, transport, value_formula, tests, nodes, words}
 use Rattle.flt_words.specs.declared.token.Cast.{Cast, TheVariants.Broadcast, TheVariants.Multicast}
 use Rattle.flt_ast.specs.Counts as count
 
--- a formula with at most s nodes of arithmetic, w words of memory and n tests, in which all numbers
--- that are searched ascend
+-- a formula with at most s nodes of arithmetic and w words of memory, whose code is as long as that
+-- of n tests at most, and no longer if each of its branches is three instructions
 pub record Sized (f : Formula) (s w n : ℕ) : Type 0 where
   pub nodes_fit : nodes f ≤ s
   pub words_fit : words f ≤ w
-  pub searches : Searches f
-  pub tests_fit : tests f ≤ n
+  pub short_fit : loads nothing f + tests f ≤ 4 * n
+  pub light_fit : loads nothing f + 3 * tests f ≤ 6 * n
 
 -- one without comparisons
 abbrev pub Bare : Formula → ℕ → Type 0
 Bare f n = Sized f 0 0 n
 
 pub bare_within : {f : Formula} {s w m : ℕ} (n : ℕ) → m ≤ n → Sized f s w m → Sized f s w n
-bare_within n l h = record { nodes_fit = h.nodes_fit; words_fit = h.words_fit; searches = h.searches; tests_fit = omega arith }
+bare_within n l h = record {
+  nodes_fit = h.nodes_fit;
+  words_fit = h.words_fit;
+  short_fit = omega (arith, h.short_fit);
+  light_fit = omega (arith, h.light_fit);
+}
+
+-- a field is loaded by two instructions at most, and masked by one
+pub place_few : (o : Offset) → place_loads o ≤ 2
+place_few (Fixed k) = omega arith
+place_few _ = omega arith
+
+pub mask_few : (o : Option ℕ) → mask_loads o ≤ 1
+mask_few None = omega arith
+mask_few (Some m) = omega arith
+
+field_few : (t : FieldTest) → field_loads t ≤ 3
+field_few t = let a = place_few t.offset in let b = mask_few t.mask in omega arith
 
 pub bare_one : (t : Elementary) → Bare (Single t) 1
-bare_one t = record { nodes_fit = omega arith; words_fit = omega arith; searches = tt; tests_fit = omega arith }
+bare_one (Outcome b) = record { nodes_fit = omega arith; words_fit = omega arith; short_fit = omega arith; light_fit = omega arith }
+bare_one (Field t) =
+    let l = field_few t in record { nodes_fit = omega arith; words_fit = omega arith; short_fit = omega arith; light_fit = omega arith }
 
 -- a test of which there may be more
 pub bare_some : {t : Elementary} (n : ℕ) → 1 ≤ n → Bare (Single t) n
 bare_some {t = t} n l = bare_within n l (bare_one t)
 
 pub bare_both : {a b : Formula} {s w m r v n : ℕ} → Sized a s w m → Sized b r v n → Sized (Both a b) (s + r) (max w v) (m + n)
-bare_both h k = record { nodes_fit = omega arith; words_fit = omega arith; searches = (h.searches, k.searches); tests_fit = omega arith }
+bare_both h k = record {
+  nodes_fit = omega (arith, h.nodes_fit, k.nodes_fit);
+  words_fit = omega (arith, h.words_fit, k.words_fit);
+  short_fit = omega (arith, h.short_fit, k.short_fit);
+  light_fit = omega (arith, h.light_fit, k.light_fit);
+}
 
 pub bare_either : {a b : Formula} {s w m r v n : ℕ} → Sized a s w m → Sized b r v n → Sized (Either a b) (s + r) (max w v) (m + n)
-bare_either h k = let b = bare_both h k in record { nodes_fit = b.nodes_fit; words_fit = b.words_fit; searches = b.searches; tests_fit = b.tests_fit }
+bare_either h k =
+    let b = bare_both h k in record { nodes_fit = b.nodes_fit; words_fit = b.words_fit; short_fit = b.short_fit; light_fit = b.light_fit }
+
+-- with fewer nodes and words in bounds
+pub sized_as : {f : Formula} {s w n : ℕ} (r v m : ℕ) → s ≤ r → w ≤ v → n ≤ m → Sized f s w n → Sized f r v m
+sized_as r v m a b c h = record {
+  nodes_fit = omega (arith, h.nodes_fit);
+  words_fit = omega (arith, h.words_fit);
+  short_fit = omega (arith, h.short_fit);
+  light_fit = omega (arith, h.light_fit);
+}
 
 -- one without comparisons after another
 pub bare_else : {a b : Formula} {s w m n : ℕ} → Sized a s w m → Bare b n → Sized (Either a b) s w (m + n)
-bare_else h k = record { nodes_fit = omega arith; words_fit = omega arith; searches = (h.searches, k.searches); tests_fit = omega arith }
+bare_else h k = sized_as _ _ _ (omega arith) (omega arith) (omega arith) (bare_either h k)
+
+-- a field that A holds isn't loaded
+less_loads : (held : Elementary) (f : Formula) → loads held f ≤ loads nothing f
+less_loads held (Split t a b) = let l = test held t in omega arith
+  where
+    test : (held t : Elementary) → test_loads held t ≤ test_loads nothing t
+    test held (Outcome b) = omega arith
+    test held (Field t) = if_case (λ n. n ≤ field_loads t) (is_loaded held t) 0 (field_loads t) (λ e. omega arith) (λ e. omega arith)
+less_loads held _ = omega arith
 
 pub bare_split : {t : Elementary} {a b : Formula} {m n : ℕ} → Bare a m → Bare b n → Bare (Split t a b) (1 + (m + n))
-bare_split h k = record { nodes_fit = omega arith; words_fit = omega arith; searches = (h.searches, k.searches); tests_fit = omega arith }
+bare_split {t = t} {a = a} {b = b} h k =
+    let one = bare_one t in
+    let l = less_loads t a in
+    let r = less_loads t b in
+    record {
+      nodes_fit = omega (arith, h.nodes_fit, k.nodes_fit);
+      words_fit = omega (arith, h.words_fit, k.words_fit);
+      short_fit = omega (arith, one.short_fit, h.short_fit, k.short_fit);
+      light_fit = omega (arith, one.light_fit, h.light_fit, k.light_fit);
+    }
 
 pub bare_after : {t : Elementary} {a : Formula} {s w n : ℕ} → Sized a s w n → Sized (after t a) s w (1 + n)
-bare_after h = record { nodes_fit = omega arith; words_fit = omega arith; searches = (tt, h.searches); tests_fit = omega arith }
+bare_after {t = t} h = sized_as _ _ _ (omega arith) (omega arith) (omega arith) (bare_both (bare_one t) h)
 
 bare_pair : {t u : Elementary} → Bare (Both (Single t) (Single u)) 2
 bare_pair {t = t} {u = u} = bare_after (bare_one u)
@@ -60,10 +114,6 @@ bare_sides (Direction.One Source) s t n l m some = bare_all s n l some
 bare_sides (Direction.One Destination) s t n l m some = bare_all t n m some
 bare_sides (Direction.Both Or) s t n l m some = bare_either (bare_all s n l some) (bare_all t n m some)
 bare_sides (Direction.Both And) s t n l m some = bare_both (bare_all s n l some) (bare_all t n m some)
-
--- numbers that are looked for
-pub bare_sought : (d : Direction) (at : Sides) (numbers : Numbers) → Ready at numbers → Bare (Sought d at numbers) (sought_tests d numbers)
-bare_sought d at numbers r = record { nodes_fit = omega arith; words_fit = omega arith; searches = r; tests_fit = omega arith }
 
 -- protocols and Ethernet addresses
 bare_proto : (link : Link) (n : ℕ) → Bare (any_proto link n) 4

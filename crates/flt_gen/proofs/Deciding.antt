@@ -226,14 +226,6 @@ sizes_rest f fs [] h = omega arith
 sizes_rest f fs ((Field t ∷ ts) ∷ rs) h = let more = sizes_rest f fs rs h.1 in omega arith
 sizes_rest f fs (_ ∷ rs) h = absurd h.0
 
--- a reading that isn't a rejection
-abbrev pub Known : MatchResult → Type 0
-Known r = (b : Bool) × (r ≡ reading_of (Some b))
-
-pub known_either : {r s : MatchResult} → Known r → Known s → Known (either r s)
-known_either (true, e) (b, f) = (true, ap₂ either e f)
-known_either (false, e) (b, f) = (b, ap₂ either e f)
-
 module _ (link : Link) (p : List ℕ) (n : ℕ) where
   abbrev told : List Elementary → MatchResult
   told ts = reads link (all_of ts) p n

@@ -10,7 +10,7 @@ use Rattle.flt_gen.specs.declared.elementary.Elementary.{Elementary}
 use Rattle.flt_gen.specs.inside.Cases.{chain, decided, decision, all_keep, is_parted, middle}
 use Rattle.flt_gen.specs.inside.Cases.{test_at, lowest, from_test, same_word}
 use Rattle.flt_gen.specs.inside.Emitted.{needed_tests}
-use Rattle.flt_gen.specs.inside.{Code.Block, Code.emit_all, Code.emit_elementary, Code.emit_formula, Emits.Emits}
+use Rattle.flt_gen.specs.inside.{Code.Block, Code.emit_all, Code.emit_elementary, Code.emit_after, Code.emit_formula, Emits.Emits}
 use Rattle.flt_gen.proofs.Ascending.{if_case}
 use Rattle.flt_bpf.specs.declared.insn.Insn.{Insn}
 use Rattle.cap_octet.specs.declared.link.Link.{Link}
@@ -41,6 +41,19 @@ pub guarded_emitted : (link : Link) (ts : List Elementary) (f : Formula) (hit mi
     miss c ≡ (let e = emit_formula link f hit miss c in emit_all ts e.entry miss e.code)
 guarded_emitted link [] f hit miss c = refl
 guarded_emitted link (t ∷ ts) f hit miss c = ap (λ (e : Block). emit_elementary t e.entry miss e.code) (guarded_emitted link ts f hit miss c)
+
+-- a test that stands alone, and one case after the other, are emitted alike after each test
+all_after : (held : Elementary) (link : Link) (ts : List Elementary) (hit miss : ℕ) (c : List Insn) → emit_after held link (all_of ts) hit miss c
+    ≡ emit_formula link (all_of ts) hit miss c
+all_after held link [] hit miss c = refl
+all_after held link (t ∷ []) hit miss c = refl
+all_after held link (t ∷ u ∷ ts) hit miss c = refl
+
+pub chain_after : (held : Elementary) (link : Link) (tests : Case → List Elementary) (word : ℕ) (cs : List Case) (hit miss : ℕ) (c : List Insn)
+    → emit_after held link (chain tests word cs) hit miss c ≡ emit_formula link (chain tests word cs) hit miss c
+chain_after held link tests word [] hit miss c = refl
+chain_after held link tests word (d ∷ []) hit miss c = all_after held link (needed_tests (drop word (tests d))) hit miss c
+chain_after held link tests word (d ∷ x ∷ xs) hit miss c = refl
 
 -- a case in front of others, of all that are searched or of some
 chain_emitted : (link : Link) (tests : Case → List Elementary) (word : ℕ) (cs : List Case) (other : Case) (hit miss : ℕ) (c : List Insn)

@@ -7,9 +7,10 @@ use Rattle.flt_gen.proofs.Common.{And, Or, Word, Width, Offset, Elementary, Fiel
 use Rattle.flt_gen.proofs.Common.{network_offset, Formula, Outcome, both, either, all_of, reads, needed_tests, drop, if◌then◌else◌}
 use Rattle.flt_gen.proofs.Common.{zero, is_at, compares, under_mask, field_at, elementary_reads, slice_get}
 use Rattle.flt_gen.proofs.Counted.{Bare, bare_within, bare_all, bare_one, bare_some, bare_both, bare_either}
-use Rattle.flt_gen.proofs.Deciding.{Shapes, fields_of, shape_of, some_fields, rows, rows_rest, shapes_rest, sizes, sizes_rest, Known, known_either, read_all}
+use Rattle.flt_gen.proofs.Deciding.{Shapes, fields_of, shape_of, some_fields, rows, rows_rest, shapes_rest, sizes, sizes_rest, read_all}
 use Rattle.flt_gen.proofs.Deciding.{needed_read, read_put}
 use Rattle.flt_gen.proofs.Deciding.{decision_good, Likes, shapes_of, sizes_put}
+use Rattle.flt_gen.proofs.Firsts.{Known, known_either, by_first, first_alone, first_more}
 use Rattle.flt_gen.proofs.{Exclusive.or_no, Needed.fewer}
 use Rattle.std.specs.{List.insert, Prelude.is_none}
 use Rattle.std.proofs.{Math.Nat.div-div-eq-div-mul, lemmas.List.length-map}
@@ -20,45 +21,6 @@ use Rattle.flt_gen.specs.declared.{cases.Case.TheVariants.IpProto, cases.Case.Th
 use Rattle.flt_gen.specs.inside.Group.{fewest_either}
 use Rattle.flt_gen.specs.inside.Cases.{same_words, case_tests, ip6_place, mac_place, word_test, test_at, lowest, keeps, is_whole, all_keep, same_word}
 use Rattle.flt_gen.specs.inside.Cases.{decision, few_of, MOST_DECISIONS, is_address, are_either, on_side, all_on_side, either_formula}
-
--- ---- one more in front of others
-
--- all sources, the first one's, the first one's destination, and all destinations
-abbrev pub by_sides : MatchResult → MatchResult → MatchResult → MatchResult → MatchResult
-by_sides all s d others = either (both all (either s (either d Yes))) others
-
-one_alone : (s d : MatchResult) → by_sides (either s No) s d (either d No) ≡ either s d
-one_alone Yes d = refl
-one_alone No d = or_no d
-one_alone Rejected d = refl
-
--- what isn't a rejection
-abbrev exact : Bool → MatchResult
-exact b = reading_of (Some b)
-
-surely : (r : MatchResult) → Known r → either r Yes ≡ Yes
-surely r k = ap (λ x. either x Yes) k.1 ∙ by k.0
-  where
-    by : (b : Bool) → either (exact b) Yes ≡ Yes
-    by true = refl
-    by false = refl
-
-one_more : (s d first second all others : MatchResult) → (s ≡ No → Known all × Known first) → (d ≡ No → Known second)
-    → by_sides (either s all) s d (either d others) ≡ either (either s d) (by_sides all first second others)
-one_more Yes d first second all others h k = refl
-one_more Rejected d first second all others h k = refl
-one_more No d first second all others h k =
-    ap (λ r. by_sides r No d (either d others)) (h refl).0.1
-    ∙ by (h refl).0.0 d k
-    ∙ sym (ap (λ r. either d (by_sides r first second others)) (h refl).0.1)
-  where
-    by : (x : Bool) (d : MatchResult) → (d ≡ No → Known second) → by_sides (exact x) No d (either d others) ≡ either d (by_sides (exact x) first second others)
-    by true Yes k = refl
-    by true Rejected k = refl
-    by true No k = sym (ap (λ r. either (either first r) others) (surely second (k refl)) ∙ ap (λ r. either r others) (surely first (h refl).1))
-    by false Yes k = refl
-    by false Rejected k = refl
-    by false No k = refl
 
 -- ---- where one is no, none is rejected
 
@@ -152,7 +114,7 @@ one_formula false link d c = all_of (case_tests link d c)
 
 abbrev pub list_read : Bool → Link → Direction → Case → List Case → List ℕ → ℕ → MatchResult
 list_read true link d c cs p n =
-    by_sides (read_all link p n (rows (side link Source) 0 cs)) (reads link (all_of (side link Source c)) p n)
+    by_first (read_all link p n (rows (side link Source) 0 cs)) (reads link (all_of (side link Source c)) p n)
     (reads link (all_of (side link Destination c)) p n) (read_all link p n (rows (side link Destination) 0 cs))
 list_read false link d c cs p n = read_all link p n (rows (case_tests link d) 0 cs)
 
@@ -175,7 +137,7 @@ size_put false link d c i cs = sizes_put (case_tests link d) c i cs
 
 pub list_alone : (b : Bool) (link : Link) (d : Direction) (c : Case) (p : List ℕ) (n : ℕ) → list_read b link d c (c ∷ []) p n ≡ reads link
     (one_formula b link d c) p n
-list_alone true link d c p n = one_alone _ _
+list_alone true link d c p n = first_alone _ _
 list_alone false link d c p n = or_no _
 
 pub list_more : (b : Bool) (link : Link) (d : Direction) (kind first c : Case) (i : ℕ) (cs : List Case) (p : List ℕ) (n : ℕ)
@@ -189,8 +151,8 @@ list_more true link (direction.Both Or) kind first c i cs p n are e f h =
     (shapes_of link either_side (direction.One s) kind (c ∷ []) (e, tt)).0 (shapes_of link either_side (direction.One s) kind cs h) in
     let one : (s : Side) → reads link (all_of (side link s c)) p n ≡ No → Known (reads link (all_of (side link s first)) p n) =
     λ s refused. seen link s p n _ _ (almost link s kind first are f).0 (like_seen link s p n kind c are e refused) in
-    ap₂ (λ x y. by_sides x (reads link (all_of (side link Source c)) p n) (reads link (all_of (side link Destination c)) p n) y) (put Source) (put Destination)
-    ∙ one_more _ _ _ _ _ _ (λ refused. (all_seen link Source p n kind cs are h (like_seen link Source p n kind c are e refused), one Source refused))
+    ap₂ (λ x y. by_first x (reads link (all_of (side link Source c)) p n) (reads link (all_of (side link Destination c)) p n) y) (put Source) (put Destination)
+    ∙ first_more _ _ _ _ _ _ (λ refused. (all_seen link Source p n kind cs are h (like_seen link Source p n kind c are e refused), one Source refused))
     (one Destination)
 list_more true link (direction.Both And) kind first c i cs p n are e f h = (let none = (and_parts (is_address kind) false are).1 in cc)
 list_more true link (direction.One s) kind first c i cs p n are e f h = (let none = (and_parts (is_address kind) false are).1 in cc)
@@ -347,8 +309,8 @@ list_good true link (direction.Both Or) kind first cs are f h some many = (
       (shapes_of link either_side (direction.One s) kind cs h)).0 p n in
       let one : (s : Side) → reads link (on_side link s first) p n ≡ reads link (all_of (side link s first)) p n =
       λ s. needed_read link p n (fields_of link (direction.One s) first) (side link s first) (shape_of link (direction.One s) first) in
-      ap₂ (λ x y. by_sides x (reads link (on_side link Source first) p n) (reads link (on_side link Destination first) p n) y) (tree Source) (tree Destination)
-      ∙ ap₂ (λ x y. by_sides (read_all link p n (rows (side link Source) 0 cs)) x y (read_all link p n (rows (side link Destination) 0 cs))) (one Source)
+      ap₂ (λ x y. by_first x (reads link (on_side link Source first) p n) (reads link (on_side link Destination first) p n) y) (tree Source) (tree Destination)
+      ∙ ap₂ (λ x y. by_first (read_all link p n (rows (side link Source) 0 cs)) x y (read_all link p n (rows (side link Destination) 0 cs))) (one Source)
       (one Destination),
 )
 list_good true link (direction.Both And) kind first cs are f h some many = (let none = (and_parts (is_address kind) false are).1 in cc)

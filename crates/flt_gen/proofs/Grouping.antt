@@ -1,29 +1,35 @@
 -- The formula of a truth in which hosts or ports are looked for together reads as the truth's own,
 -- and has no more tests.
 use Rattle.flt_gen.proofs.Ascending.{if_case, Each, each_is, Searchable, Reached, Ready, Ordered, Points, ordered_inserted, points_inserted, length_inserted}
+use Rattle.flt_gen.proofs.Ascending.{is_in, is_within}
 use Rattle.flt_gen.proofs.Ascending.{within_inserted, within_joined, searchable_joined, ends_few, one_point, joined_few, joined_points}
 use Rattle.flt_gen.proofs.Common.{◌≡◌, ℕ, ◌+◌, ◌-◌, ◌*◌, ◌/◌, ◌^◌, ◌<◌, ◌≤◌, max, List, [], ◌∷◌, length, Bool, true, false, Option, Some, None, refl, sym, ap}
 use Rattle.flt_gen.proofs.Common.{ap₂, ◌∙◌}
 use Rattle.flt_gen.proofs.Common.{subst, arith, ◌==◌, ◌||◌, ◌&&◌, nat_lt, nat_le, if◌then◌else◌, suc-mul, nat_tests, and_parts, or_parts, Protocol, Ip, Tcp}
 use Rattle.flt_gen.proofs.Common.{Source, Destination, And, Or, ValueType, Host, Net, Port, PortRange, Direction, CompleteQualifiers, Value, Interval}
-use Rattle.flt_gen.proofs.Common.{Sides, FrameKind, network_offset, not, map, and-false, inl, inr, Sought, sought_tests, has_addresses, joined_all, left_out}
+use Rattle.flt_gen.proofs.Common.{index_of, Sides, FrameKind, network_offset, not, map, and-false, inl, inr, sought_formula, sought_tests, has_addresses}
+use Rattle.flt_gen.proofs.Common.{joined_all}
+use Rattle.flt_gen.proofs.Common.{left_out}
 use Rattle.flt_gen.proofs.Common.{high_mask, cut, address_places, port_places, ip_transport, ip6_transport, sought, Entry, TruthTree, check, cast, sized, bare}
-use Rattle.flt_gen.proofs.Common.{valued, qualified, compared, denied, joined, is_unfilled, any_primitive, Link, Formula, Both, Either, Except, is_in}
-use Rattle.flt_gen.proofs.Common.{is_within, both, either, negation, Numbers, reads, check_formula, cast_formula, sized_formula, hosts_formula}
+use Rattle.flt_gen.proofs.Common.{valued, qualified, compared, denied, joined, is_unfilled, any_primitive, Link, Formula, Both, Either, Except}
+use Rattle.flt_gen.proofs.Common.{both, either, negation, Numbers, reads, check_formula, cast_formula, sized_formula, hosts_formula}
 use Rattle.flt_gen.proofs.Common.{port_formula, relation_formula, qualified_needed, formula, first_ends, Group, no_group, entry, with_member, same_type}
 use Rattle.flt_gen.proofs.Common.{same_protocol, same_direction, goes_with, member_of, group_and, larger_group, is_searched, numbers_of, several_formula}
 use Rattle.flt_gen.proofs.Common.{accessor_tests, accessor_test_count, guarded_formula, Elementary, with, Tcp, value_formula, Proto, rows_formula}
 use Rattle.flt_gen.proofs.Common.{group_formula, or_any, or_group, choice, grouped_formula, MOST_TOGETHER, FEWEST_RANGES}
-use Rattle.flt_gen.proofs.Counted.{Sized, Bare, bare_within, bare_some, bare_both, bare_either, bare_else, bare_after, bare_sought, bare_check, bare_cast}
+use Rattle.flt_gen.proofs.Counted.{Sized, Bare, bare_within, bare_some, bare_both, bare_either, bare_else, bare_after, bare_check, bare_cast}
 use Rattle.flt_gen.proofs.Counted.{of_kinds, bare_hosts, bare_ports}
 use Rattle.flt_gen.proofs.Deciding.{some_front, rows, Likes, likes_put, length_put, alike, alike_alike, self_relation}
 use Rattle.flt_gen.proofs.EitherSide.{one_formula, one_size, list_read, list_size, list_alone, list_more, none_size, size_put, list_formula, list_good}
 use Rattle.flt_gen.proofs.EitherSide.{like_either}
 use Rattle.flt_gen.proofs.{Exclusive.or_no, Exclusive.both_either, Exclusive.either_assoc, IdleBits.uncut}
-use Rattle.flt_gen.proofs.{Deciding.value_same, Needed.bare_needed, Once.relation_sizes, Once.equal_are, Once.relation_same, Once.all_read, Once.guarded_read}
+use Rattle.flt_gen.proofs.{Deciding.value_same, Needed.bare_needed, Once.relation_sizes, Once.guarded_sizes, Once.equal_are, Once.relation_same}
+use Rattle.flt_gen.proofs.{Once.all_read, Once.guarded_read}
 use Rattle.flt_gen.proofs.Relations.{entry_tests, entry_bare, IsEntry, entry_is}
 use Rattle.flt_gen.proofs.Prefixes.{Idle, idle_sought, cut_in, cut_within, cut_order, cut_apart}
-use Rattle.flt_gen.proofs.Together.{Fitting, fitting_small, unmasked_fitting, address_fitting, Merged, members_read, members_more, members_alone, member_reads}
+use Rattle.flt_gen.proofs.Together.{Fitting, fitting_small, unmasked_fitting, address_fitting, PortsReady, members_read, members_more, members_alone}
+use Rattle.flt_gen.proofs.Together.{member_reads}
+use Rattle.flt_gen.proofs.Search.{Merged, bare_sought}
 use Rattle.flt_gen.proofs.Together.{IsMember, member_tests, several_are, member_is}
 use Rattle.std.specs.Prelude.{◌⊎◌, count_by, is_none}
 use Rattle.flt_words.specs.declared.token.Protocol.TheVariants as protocol
@@ -105,7 +111,7 @@ sought_few : (d : Direction) (numbers : Numbers) (n : ℕ) → Numbered numbers 
 sought_few (direction.Both Or) numbers n h two = by (nat_le 5 (length numbers.all)) refl h
   where
     by : (b : Bool) → nat_le 5 (length numbers.all) ≡ b → Numbered numbers n → 2 * max 1 (length numbers.all) + max (first_ends numbers.all)
-        (first_ends (numbers.first ∷ [])) + (if b then 2 else 1) ≤ n * count.side_tests (direction.Both Or) 1 + (n - 1)
+        (first_ends (numbers.first ∷ [])) + (if b then 3 else 1) ≤ n * count.side_tests (direction.Both Or) 1 + (n - 1)
     by true e (inl h) = let k = h.0 in let l = h.1 in let five : 5 ≤ length numbers.all = grind (arith, nat_tests) in omega arith
     by true e (inr h) = let k = h.0 in let few = ends_few numbers.all in let one = ends_few (numbers.first ∷ []) in
         let five : 5 ≤ length numbers.all = grind (arith, nat_tests) in omega arith
@@ -119,30 +125,28 @@ offset_few : (link : Link) → network_offset link ≤ 16
 offset_few link.Ether = omega arith
 offset_few _ = omega arith
 
-address_reached : (link : Link) (k : FrameKind) (mask : Option ℕ) → let at = address_places link k in Reached at.index mask at.source at.destination
+address_reached : (link : Link) (k : FrameKind) (mask : Option ℕ) → let at = address_places link k in Reached (index_of link at) mask at.source at.destination
 address_reached link kind.Ip mask = let l = offset_few link in (omega arith, omega arith, omega arith, omega arith)
 address_reached link _ mask = let l = offset_few link in (omega arith, omega arith, omega arith, omega arith)
 
 module _ (link : Link) (q : CompleteQualifiers) (numbers : Numbers) (n : ℕ) (h : Numbered numbers n) (two : 2 ≤ n) where
-  sought_bare : (at : Sides) → Ready at numbers → Bare (Sought q.direction at numbers) (n * count.side_tests q.direction 1 + (n - 1))
-  sought_bare at r = bare_within _ (sought_few q.direction numbers n h two) (bare_sought q.direction at numbers r)
+  sought_bare : (at : Sides) → Ready link at numbers → Bare (sought_formula link q.direction at numbers) (n * count.side_tests q.direction 1 + (n - 1))
+  sought_bare at r = bare_within _ (sought_few q.direction numbers n h two) (bare_sought link at numbers r q.direction)
 
   abbrev asked : Sides → Formula
-  asked at = Sought q.direction at numbers
+  asked at = sought_formula link q.direction at numbers
 
-  hosts_bare : ((f : FrameKind) → Ready (address_places link f) numbers) → Bare (hosts_formula link q.protocol asked)
+  hosts_bare : ((f : FrameKind) → Ready link (address_places link f) numbers) → Bare (hosts_formula link q.protocol asked)
       (n * count.ip4_tests q.protocol q.direction)
   hosts_bare r = bare_within _ (several_hosts_few q.protocol q.direction n (n - 1) (omega arith))
       (bare_hosts link q.protocol asked _ (omega arith) (λ f. bare_after (sought_bare _ (r f))))
 
-  ports_bare : Ready (port_places (ip_transport link)) numbers × Ready (port_places (ip6_transport link)) numbers
-      → Bare (port_formula link q.protocol asked) (n * count.port_tests q.protocol q.direction 1)
+  ports_bare : PortsReady link numbers → Bare (port_formula link q.protocol asked) (n * count.port_tests q.protocol q.direction 1)
   ports_bare r = bare_within _ (several_ports_few q.protocol q.direction n (n - 1) two (omega arith))
       (bare_ports link q.protocol asked _ (sought_bare _ r.0) (sought_bare _ r.1))
 
-  bare_several : (k : ValueType) → (has_addresses k ≡ true → (f : FrameKind) → Ready (address_places link f) numbers)
-      → (has_addresses k ≡ false → Ready (port_places (ip_transport link)) numbers × Ready (port_places (ip6_transport link)) numbers)
-      → Bare (several_formula link q k numbers) (n * member_tests k q.protocol q.direction)
+  bare_several : (k : ValueType) → (has_addresses k ≡ true → (f : FrameKind) → Ready link (address_places link f) numbers)
+      → (has_addresses k ≡ false → PortsReady link numbers) → Bare (several_formula link q k numbers) (n * member_tests k q.protocol q.direction)
   bare_several Host r s = hosts_bare (r refl)
   bare_several Net r s = hosts_bare (r refl)
   bare_several Port r s = ports_bare (s refl)
@@ -154,10 +158,10 @@ searchable_cut : (last : ℕ) (first : Interval) (is : List Interval) → Idle l
 searchable_cut last first [] h up = absurd up
 searchable_cut last first (i ∷ is) h up = cut_apart last 0 first (i ∷ is) h up
 
-ready : (at : Sides) (b : Bool) (group : Group) (ms : List Interval) → Held group ms → 1 ≤ length group.entries
-    → Fitting b at → ((mask : Option ℕ) → (b ≡ false → mask ≡ None) → Reached at.index mask at.source at.destination)
-    → Ready at (sought b group.first group.all)
-ready at b group ms h some fit reached = record {
+ready : (link : Link) (at : Sides) (b : Bool) (group : Group) (ms : List Interval) → Held group ms → 1 ≤ length group.entries
+    → Fitting b at → ((mask : Option ℕ) → (b ≡ false → mask ≡ None) → Reached (index_of link at) mask at.source at.destination)
+    → Ready link at (sought b group.first group.all)
+ready link at b group ms h some fit reached = record {
   order = cut_order last group.first group.first is idle idle.first_aligned h.order;
   all = searchable_cut last group.first is idle up;
   others_are = refl;
@@ -180,6 +184,27 @@ ready at b group ms h some fit reached = record {
     up : Searchable is
     up = searchable_joined group.all (let c = h.all_count in omega arith) h.ascends
 
+-- the numbers of a group are searched in all places where its members may be
+module _ (link : Link) (group : Group) (ms : List Interval) (h : Held group ms) (some : 1 ≤ length group.entries) where
+  abbrev k : ValueType
+  k = group.qualifiers.value_type
+
+  abbrev masked : Bool
+  masked = has_addresses k && not group.is_plain
+
+  addresses_ready : (f : FrameKind) → Ready link (address_places link f) (numbers_of group)
+  addresses_ready f = ready link (address_places link f) masked group ms h some (address_fitting masked link f) (λ mask _. address_reached link f mask)
+
+  ports_ready : has_addresses k ≡ false → PortsReady link (numbers_of group)
+  ports_ready e =
+      let no = ap (λ c. c && not group.is_plain) e in
+      let l = offset_few link in (
+        ready link (port_places (ip_transport link)) masked group ms h some (unmasked_fitting masked (port_places (ip_transport link)) no)
+            (λ mask f. (f no, refl)),
+        ready link (port_places (ip6_transport link)) masked group ms h some (unmasked_fitting masked (port_places (ip6_transport link)) no)
+            (λ mask f. (omega arith, omega arith, omega arith, omega arith)),
+      )
+
 -- a group of members with numbers is searched by how many they are
 by_numbers : (group : Group) → group.case ≡ None → is_searched group ≡ nat_le (if group.is_plain then 2 else FEWEST_RANGES) (length group.entries)
 by_numbers group e = ap (λ o. nat_le (fewest o group.qualifiers.direction group.is_plain) (length group.entries)) e
@@ -198,15 +223,7 @@ group_bare_several link group ms h e = by group.is_plain refl e
     with_numbers few two =
         bare_within _ h.counted
         (bare_several link group.qualifiers (numbers_of group) n few two k
-        (λ e f. ready (address_places link f) (has_addresses k && not group.is_plain) group ms h (omega arith)
-        (address_fitting (has_addresses k && not group.is_plain) link f) (λ mask _. address_reached link f mask))
-        (λ e. let no = ap (λ c. c && not group.is_plain) e in let l = offset_few link in (
-          ready (port_places (ip_transport link)) (has_addresses k && not group.is_plain) group ms h (omega arith)
-              (unmasked_fitting (has_addresses k && not group.is_plain) (port_places (ip_transport link)) no) (λ mask f. (f no, refl)),
-          ready (port_places (ip6_transport link)) (has_addresses k && not group.is_plain) group ms h (omega arith)
-              (unmasked_fitting (has_addresses k && not group.is_plain) (port_places (ip6_transport link)) no)
-              (λ mask f. (omega arith, omega arith, omega arith, omega arith)),
-        )))
+        (λ e f. addresses_ready link group ms h (omega arith) f) (λ e. ports_ready link group ms h (omega arith) e))
 
     length_cut : (b : Bool) → length (sought b group.first group.all).all ≡ length (joined_all group.all)
     length_cut b = length-map (joined_all group.all) (cut (left_out b group.first (joined_all group.all)))
@@ -236,11 +253,6 @@ rows_bare link [] l = absurd (omega arith)
 rows_bare link (e ∷ []) l = bare_within _ (omega arith) (entry_bare link e)
 rows_bare link (e ∷ f ∷ es) l = bare_either (entry_bare link e) (rows_bare link (f ∷ es) (omega arith))
 
--- tests in front of a formula
-front_bare : {f : Formula} {n : ℕ} (ts : List Elementary) → Bare f n → Bare (guarded_formula ts f) (length ts + n)
-front_bare [] h = bare_within _ (omega arith) h
-front_bare (t ∷ ts) h = bare_within _ (omega arith) (bare_after (front_bare ts h))
-
 -- a group of cases has few tests, and reads as one after the other
 listed_is : (link : Link) (group : Group) → Listed group.qualifiers.direction group → is_searched group ≡ true
     → Bare (together_formula link group group.case) (group_tests group) × ((p : List ℕ) (n : ℕ) → reads link (together_formula link group group.case) p n
@@ -249,7 +261,7 @@ listed_is link group h searched = subst Good (sym h.is_first)
     (let good = list_good b link d h.kind h.first group.cases refl h.first_like h.like h.some many in
     let few = h.counted link in
     let fronts = ap (λ (ts : List Elementary). length ts) front in (
-      subst (λ (f : Formula). Bare f (group_tests group)) (sym put) (bare_within _ (omega arith) (front_bare (case_front link h.first) good.0)),
+      subst (λ (f : Formula). Bare f (group_tests group)) (sym put) (bare_within _ (omega arith) (guarded_sizes (case_front link h.first) good.0)),
       λ p n. ap (λ (f : Formula). reads link f p n) put ∙ guarded_read link p n (case_front link h.first) _
           ∙ ap₂ (λ ts r. both (all_read link p n ts) r) front (good.1 p n)
           ∙ sym (h.rows_are link p n),
@@ -309,6 +321,7 @@ group_rows link p n group k =
         ∙ several_are link p n group.qualifiers (has_addresses group.qualifiers.value_type && not group.is_plain) group.first ms group.all
         (h.merged (searched_two group few)) h.ascends h.all_within group.qualifiers.value_type
         (λ t. (and_parts (has_addresses group.qualifiers.value_type) (not group.is_plain) t).0)
+        (λ t f. addresses_ready link group ms h (omega arith) f) (λ t. ports_ready link group ms h (omega arith) t)
         ∙ sym (h.rows link p n)
     by (listed l h) e = (listed_is link group h e).1 p n
 
@@ -596,8 +609,8 @@ module _ (link : Link) (group more : Group) (k : Kept group) where
       (self_relation r, fronts_few l r.protocol, λ p n. refl))) refl some
 
 sized_sizes : (s : Size) (n : ℕ) → Sized (sized_formula s n) 2 1 1
-sized_sizes Size.Less n = record { nodes_fit = omega arith; words_fit = omega arith; searches = tt; tests_fit = omega arith }
-sized_sizes _ n = record { nodes_fit = omega arith; words_fit = omega arith; searches = tt; tests_fit = omega arith }
+sized_sizes Size.Less n = record { nodes_fit = omega arith; words_fit = omega arith; short_fit = omega arith; light_fit = omega arith }
+sized_sizes _ n = record { nodes_fit = omega arith; words_fit = omega arith; short_fit = omega arith; light_fit = omega arith }
 
 -- an entry, or a truth that is none
 leaf_stands : (link : Link) (a : TruthTree) (f : Formula) (group : Group) → Kept group → Sized f (count.truth_size a) (count.truth_words a)
@@ -613,9 +626,8 @@ leaf_stands link a f group k sizes same (Some e) is = by (larger_group e group) 
         (record {
           nodes_fit = omega (arith, b.nodes_fit);
           words_fit = omega (arith, b.words_fit);
-          searches = b.searches;
-          tests_fit =
-              omega (arith, b.tests_fit, is.few);
+          short_fit = omega (arith, b.short_fit, is.few);
+          light_fit = omega (arith, b.light_fit, is.few);
         }) is.same
     by (Some more) some =
         let t = taken link group more k e some in
@@ -624,9 +636,8 @@ leaf_stands link a f group k sizes same (Some e) is = by (larger_group e group) 
           counts = record {
             nodes_fit = omega (arith, b.nodes_fit);
             words_fit = omega (arith, b.words_fit);
-            searches = b.searches;
-            tests_fit =
-                omega (arith, b.tests_fit, t.tests_fit, is.few);
+            short_fit = omega (arith, b.short_fit, t.tests_fit, is.few);
+            light_fit = omega (arith, b.light_fit, t.tests_fit, is.few);
           };
           reads_are = λ p n. t.reads_are p n ∙ ap (λ r. either r (reads link (group_formula link group) p n)) (is.same p n);
         }
@@ -652,9 +663,8 @@ module _ (link : Link) (a b : TruthTree) (group : Group) (k : Kept group) (f : G
         counts = record {
           nodes_fit = omega (arith, s.nodes_fit);
           words_fit = omega (arith, s.words_fit);
-          searches = s.searches;
-          tests_fit =
-              omega (arith, s.tests_fit, t.tests_fit, is.few);
+          short_fit = omega (arith, s.short_fit, t.tests_fit, is.few);
+          light_fit = omega (arith, s.light_fit, t.tests_fit, is.few);
         };
         reads_are = λ p n. s.reads_are p n ∙ ap (either (reads link (formula link a) p n))
             (t.reads_are p n ∙ ap (λ r. either r (reads link (group_formula link old) p n)) (is.same p n))
@@ -692,7 +702,7 @@ grouped_stands link (compared c l r) group k u =
 grouped_stands link (denied a) group k u =
     let h = grouped_stands link a no_group kept_none u in
     or_stands link (Except (grouped_formula link no_group a)) (denied a) group k
-    (record { nodes_fit = h.nodes_fit; words_fit = h.words_fit; searches = h.searches; tests_fit = omega (arith, h.tests_fit) })
+    (record { nodes_fit = h.nodes_fit; words_fit = h.words_fit; short_fit = omega (arith, h.short_fit); light_fit = omega (arith, h.light_fit) })
     (λ p n. ap negation (h.reads_are p n ∙ or_no _))
 grouped_stands link (joined And a b) group k u =
     let parts = or_parts (any_primitive is_unfilled a) (any_primitive is_unfilled b) u in

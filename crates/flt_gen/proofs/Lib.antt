@@ -6,6 +6,7 @@ pub mod Leads
 pub mod Exclusive
 pub mod NetworkKinds
 pub mod Numbers
+pub mod Firsts
 pub mod Folded
 pub mod Held
 pub mod Runs

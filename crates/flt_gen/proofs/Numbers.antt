@@ -3,8 +3,9 @@ use Rattle.flt_gen.proofs.Common.{LoadAbsolute, accessor_offset, emit_field, ◌
 use Rattle.flt_gen.proofs.Common.{Some, None, refl, sym, ap, ap₂, ◌∙◌, subst, arith, slice_get, slice_set, nat_lt, if◌then◌else◌, option_map, nat_tests}
 use Rattle.flt_gen.proofs.Common.{get_or-set_same, get_or-set_other, Insn, State, Accumulator, Index, Width, Byte, Operand, Constant, IndexRegister, Goes, Lost}
 use Rattle.flt_gen.proofs.Common.{field, compute, operand_value, into, word_into, header_length, Operator, Protocol, Ether, Tcp, Udp, Icmp, NumberTree, literal}
-use Rattle.flt_gen.proofs.Common.{len, named, load, negated, applied, Link, Offset, Fixed, AfterHeader, with, field_at, network_offset, width_of, base}
-use Rattle.flt_gen.proofs.Common.{result_of, number, number_words, plain, alu_operation, computation, takes_constant, constant, constant_operand, emit_base}
+use Rattle.flt_gen.proofs.Common.{len, named, load, negated, applied, Link, Offset, Fixed, AfterHeader, AtIndex, with, field_at, network_offset, width_of}
+use Rattle.flt_gen.proofs.Common.{base, result_of, number, number_words, plain, alu_operation, computation, takes_constant, constant, constant_operand}
+use Rattle.flt_gen.proofs.Common.{emit_base}
 use Rattle.flt_gen.proofs.Common.{emit_transport, emit_accessor, emit_operands, emit_number, answer_of, answer_after, LoadIndirect, Load, LoadHeaderLength}
 use Rattle.flt_gen.proofs.Common.{Store, Negate, CopyToIndex, Immediate, Memory, Length}
 use Rattle.flt_gen.proofs.Leads.{by_operand, run_plain}
@@ -85,30 +86,38 @@ module _ (p : List ℕ) (n : ℕ) where
   GoesOn c slot s f = (v : ℕ) (t : State) → Keeps slot s t → t.accumulator ≡ v → answer_of c p n 0 t ≡ Some (f v)
 
   -- the last instruction puts a number into A, or ends the run with 0
-  pub into_any : (o : Option ℕ) (c : List Insn) (u : State) (f : ℕ → ℕ) → ((v : ℕ) → answer_of c p n 0 (record u { accumulator = v }) ≡ Some (f v))
-      → answer_after (answer_of c p n) (into Accumulator o u) ≡ Some (answer_for o f)
+  into_any : (o : Option ℕ) (c : List Insn) (u : State) (f : ℕ → ℕ)
+      → ((v : ℕ) → o ≡ Some v → answer_of c p n 0 (record u { accumulator = v }) ≡ Some (f v)) → answer_after (answer_of c p n) (into Accumulator o u)
+      ≡ Some (answer_for o f)
   into_any None c u f h = refl
-  into_any (Some v) c u f h = h v
+  into_any (Some v) c u f h = h v refl
 
   into_runs : (o : Option ℕ) (c : List Insn) (slot : ℕ) (s u : State) (f : ℕ → ℕ) → Keeps slot s u → GoesOn c slot s f
       → answer_after (answer_of c p n) (into Accumulator o u) ≡ Some (answer_for o f)
-  into_runs o c slot s u f k h = into_any o c u f (λ v. h v (record u { accumulator = v }) (record { long = k.long; kept = k.kept }) refl)
+  into_runs o c slot s u f k h = into_any o c u f (λ v e. h v (record u { accumulator = v }) (record { long = k.long; kept = k.kept }) refl)
 
   -- a field goes into A, whatever that leaves in X
   pub field_runs : (place : Offset) (width : Width) (c : List Insn) (s : State) (f : ℕ → ℕ)
-      → ((v i : ℕ) → answer_of c p n 0 (record s { accumulator = v; index = i }) ≡ Some (f v)) → answer_of (emit_field place width c) p n 0 s ≡ Some
-      (answer_for (field_at place width p) f)
-  field_runs (Fixed at) width c s f h = run_plain p n (LoadAbsolute width) at c s ∙ into_any (field p at width) c s f (λ v. h v s.index)
+      → ((v i : ℕ) → field_at place width p ≡ Some v → answer_of c p n 0 (record s { accumulator = v; index = i }) ≡ Some (f v))
+      → answer_of (emit_field place width c) p n 0 s ≡ Some (answer_for (field_at place width p) f)
+  field_runs (Fixed at) width c s f h = run_plain p n (LoadAbsolute width) at c s ∙ into_any (field p at width) c s f (λ v e. h v s.index e)
+  field_runs (AtIndex index at) width c s f h =
+      let u : State = record s { index = index } in
+      run_plain p n (Load Index Immediate) index (plain (LoadIndirect width) at ∷ c) s
+      ∙ run_plain p n (LoadIndirect width) at c u
+      ∙ into_any (field p ((index + at) % 2 ^ 32) width) c u f (λ v e. h v index e)
   field_runs (AfterHeader header at) width c s f h = run_plain p n LoadHeaderLength header (plain (LoadIndirect width) at ∷ c) s
-      ∙ by_header (field p header Byte)
+      ∙ by_header (field p header Byte) refl
     where
-      by_header : (o : Option ℕ) → answer_after (answer_of (plain (LoadIndirect width) at ∷ c) p n) (into Index (option_map header_length o) s) ≡ Some
+      by_header : (o : Option ℕ) → field p header Byte ≡ o
+          → answer_after (answer_of (plain (LoadIndirect width) at ∷ c) p n) (into Index (option_map header_length o) s) ≡ Some
           (answer_for (with (with o (λ b. Some (header_length b))) (λ x. field p ((x + at) % 2 ^ 32) width)) f)
-      by_header None = refl
-      by_header (Some b) =
+      by_header None is = refl
+      by_header (Some b) is =
           let x = header_length b in
           let u : State = record s { index = x } in
-          run_plain p n (LoadIndirect width) at c u ∙ into_any (field p ((x + at) % 2 ^ 32) width) c u f (λ v. h v x)
+          run_plain p n (LoadIndirect width) at c u ∙ into_any (field p ((x + at) % 2 ^ 32) width) c u f
+          (λ v e. h v x (ap (λ o. with (with o (λ y. Some (header_length y))) (λ y. field p ((y + at) % 2 ^ 32) width)) is ∙ e))
 
   -- an accessor's field at a number in A
   base_runs : (at : ℕ) (w : Width) (c : List Insn) (slot v : ℕ) (s t : State) (f : ℕ → ℕ) → Keeps slot s t → t.accumulator ≡ v → GoesOn c slot s f
@@ -174,7 +183,8 @@ module _ (p : List ℕ) (n : ℕ) where
       → GoesOn c slot s f → answer_of (emit_field (accessor_offset link protocol v) w c) p n 0 s ≡ Some
       (answer_for (with (base link protocol p) (λ at. field p ((at + v) % 2 ^ 32) w)) f)
   indexed_runs link protocol w c slot v s f k h =
-      field_runs (accessor_offset link protocol v) w c s f (λ x i. h x (record s { accumulator = x; index = i }) (record { long = k.long; kept = k.kept }) refl)
+      field_runs (accessor_offset link protocol v) w c s f
+      (λ x i e. h x (record s { accumulator = x; index = i }) (record { long = k.long; kept = k.kept }) refl)
       ∙ ap (λ o. Some (answer_for o f)) (indexed_same link protocol w v)
 
   -- the code of arithmetic has the answer for its value

@@ -3,7 +3,7 @@
 use Rattle.flt_gen.proofs.Ascending.{if_case}
 use Rattle.flt_gen.proofs.Common.{◌≡◌, ℕ, ◌+◌, ◌≤◌, List, [], ◌∷◌, true, refl, sym, ap, ◌∙◌, arith, Comparison, Protocol, Ether, Tcp, NumberTree, load, negated}
 use Rattle.flt_gen.proofs.Common.{applied, compared, accessor_test_count, number_tests, truth_tests, Link, Elementary, MatchResult, Yes, elementary_reads}
-use Rattle.flt_gen.proofs.Common.{accessors, accessor_tests, Formula, Compare, both, reads, guarded_formula, checked_formula, tests, nodes, words, equals}
+use Rattle.flt_gen.proofs.Common.{accessors, accessor_tests, Formula, Compare, both, reads, guarded_formula, checked_formula, nodes, words, equals, length}
 use Rattle.flt_gen.proofs.Common.{without_protocol, protocols_of, relation_formula, formula}
 use Rattle.flt_gen.proofs.Counted.{Sized, bare_within, bare_after}
 
@@ -12,52 +12,46 @@ equal_are Ether Ether e = cc
 equal_are _ Ether e = cc
 equal_are _ _ e = cc
 
--- the tests of accessors add neither nodes nor words, and search for nothing
-pub guarded_sizes : {s w : ℕ} (ts : List Elementary) (f : Formula) → Sized f s w (tests f) → Sized (guarded_formula ts f) s w (tests (guarded_formula ts f))
-guarded_sizes [] f h = h
-guarded_sizes (t ∷ ts) f h = bare_after (guarded_sizes ts f h)
+-- tests in front of a formula add neither nodes nor words
+pub guarded_sizes : {f : Formula} {s w n : ℕ} (ts : List Elementary) → Sized f s w n → Sized (guarded_formula ts f) s w (length ts + n)
+guarded_sizes [] h = bare_within _ (omega arith) h
+guarded_sizes (t ∷ ts) h = bare_within _ (omega arith) (bare_after (guarded_sizes ts h))
 
-checked_sizes : {s w : ℕ} (link : Link) (ps : List Protocol) (f : Formula) → Sized f s w (tests f) → Sized (checked_formula link ps f) s w
-    (tests (checked_formula link ps f))
-checked_sizes link [] f h = h
-checked_sizes link (p ∷ ps) f h = guarded_sizes (accessor_tests link p) (checked_formula link ps f) (checked_sizes link ps f h)
+pub accessor_tests_are : (link : Link) (p : Protocol) → length (accessor_tests link p) ≡ accessor_test_count p
+accessor_tests_are link Tcp = refl
+accessor_tests_are link _ = refl
+
+-- how many tests the accessors of some protocols have
+abbrev checks : List Protocol → ℕ
+checks [] = 0
+checks (p ∷ ps) = accessor_test_count p + checks ps
+
+checked_sizes : {f : Formula} {s w n : ℕ} (link : Link) (ps : List Protocol) → Sized f s w n → Sized (checked_formula link ps f) s w (checks ps + n)
+checked_sizes link [] h = bare_within _ (omega arith) h
+checked_sizes link (p ∷ ps) h =
+    let t = accessor_tests_are link p in bare_within _ (omega arith) (guarded_sizes (accessor_tests link p) (checked_sizes link ps h))
 
 -- no more tests
-pub accessor_tests_are : (link : Link) (p : Protocol) (f : Formula) → tests (guarded_formula (accessor_tests link p) f) ≡ accessor_test_count p + tests f
-accessor_tests_are link Tcp f = omega arith
-accessor_tests_are link _ f = omega arith
+without_tests : (p : Protocol) (qs : List Protocol) → checks (without_protocol p qs) ≤ checks qs
+without_tests p [] = omega arith
+without_tests p (q ∷ qs) =
+    let h = without_tests p qs in
+    if_case (λ xs. checks xs ≤ checks (q ∷ qs)) (equals p q) (without_protocol p qs) (q ∷ without_protocol p qs) (λ e. omega arith) (λ e. omega arith)
 
-without_tests : (link : Link) (p : Protocol) (qs : List Protocol) (f : Formula) → tests (checked_formula link (without_protocol p qs) f) ≤ tests
-    (checked_formula link qs f)
-without_tests link p [] f = omega arith
-without_tests link p (q ∷ qs) f =
-    let h = without_tests link p qs f in
-    let t = accessor_tests_are link q (checked_formula link qs f) in
-    let u = accessor_tests_are link q (checked_formula link (without_protocol p qs) f) in
-    if_case (λ xs. tests (checked_formula link xs f) ≤ tests (checked_formula link (q ∷ qs) f)) (equals p q) (without_protocol p qs)
-    (q ∷ without_protocol p qs) (λ e. omega arith) (λ e. omega arith)
-
-protocols_tests : (link : Link) (a : NumberTree) (rest : List Protocol) (f : Formula) → tests (checked_formula link (protocols_of a rest) f) ≤
-    number_tests a + tests (checked_formula link rest f)
-protocols_tests link (load p s a) rest f =
-    let h = protocols_tests link a rest f in
-    let w = without_tests link p (protocols_of a rest) f in
-    let t = accessor_tests_are link p (checked_formula link (without_protocol p (protocols_of a rest)) f) in
-    omega arith
-protocols_tests link (negated a) rest f = protocols_tests link a rest f
-protocols_tests link (applied o a b) rest f =
-    let h = protocols_tests link a (protocols_of b rest) f in
-    let k = protocols_tests link b rest f in
-    omega arith
-protocols_tests link _ rest f = omega arith
+protocols_tests : (a : NumberTree) (rest : List Protocol) → checks (protocols_of a rest) ≤ number_tests a + checks rest
+protocols_tests (load p s a) rest = let h = protocols_tests a rest in let w = without_tests p (protocols_of a rest) in omega arith
+protocols_tests (negated a) rest = protocols_tests a rest
+protocols_tests (applied o a b) rest = let h = protocols_tests a (protocols_of b rest) in let k = protocols_tests b rest in omega arith
+protocols_tests _ rest = omega arith
 
 pub relation_sizes : (link : Link) (c : Comparison) (l r : NumberTree) → Sized (relation_formula link c l r) (nodes (Compare c l r))
     (words (Compare c l r)) (truth_tests (compared c l r))
 relation_sizes link c l r =
-    let h = protocols_tests link l (protocols_of r []) (Compare c l r) in
-    let k = protocols_tests link r [] (Compare c l r) in
-    bare_within _ (omega arith) (checked_sizes link (protocols_of l (protocols_of r [])) (Compare c l r)
-    (record { nodes_fit = omega arith; words_fit = omega arith; searches = tt; tests_fit = omega arith }))
+    let h = protocols_tests l (protocols_of r []) in
+    let k = protocols_tests r [] in
+    let one : Sized (Compare c l r) (nodes (Compare c l r)) (words (Compare c l r)) 1 =
+    record { nodes_fit = omega arith; words_fit = omega arith; short_fit = omega arith; light_fit = omega arith } in
+    bare_within _ (omega arith) (checked_sizes link (protocols_of l (protocols_of r [])) one)
 
 -- the same reading
 pub both_again : (a b r : MatchResult) → both a (both b r) ≡ both (both a b) r

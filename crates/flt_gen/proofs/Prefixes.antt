@@ -1,9 +1,9 @@
 -- Last bits that don't decide which numbers are in intervals, and networks as intervals.
-use Rattle.flt_gen.proofs.Ascending.{if_case, Apart, apart_less}
+use Rattle.flt_gen.proofs.Ascending.{if_case, Apart, apart_less, is_in, is_within}
 use Rattle.flt_gen.proofs.Common.{◌≡◌, ℕ, zero, suc, ◌+◌, ◌-◌, ◌*◌, ◌/◌, ◌%◌, ◌^◌, ◌<◌, ◌≤◌, List, [], ◌∷◌, map, Bool, true, false, Some, None, refl, sym, ap}
 use Rattle.flt_gen.proofs.Common.{ap₂, ◌∙◌, subst, arith, ◌==◌, ◌&&◌, ◌||◌, nat_le, bit_and, if◌then◌else◌, div-mul-le_self, lt-div-mul-add, le-div_iff_mul-le}
-use Rattle.flt_gen.proofs.Common.{mul-le-mul_right, pow-succ', suc-mul, nat_tests, and_parts, and_le_r, pow_pos, first_bits, under_mask, Interval, is_in}
-use Rattle.flt_gen.proofs.Common.{is_within, partial_mask, is_aligned, idle_bits, left_out, high_mask, cut, interval}
+use Rattle.flt_gen.proofs.Common.{mul-le-mul_right, pow-succ', suc-mul, nat_tests, and_parts, and_le_r, pow_pos, first_bits, under_mask, Interval}
+use Rattle.flt_gen.proofs.Common.{partial_mask, is_aligned, idle_bits, left_out, high_mask, cut, interval}
 use Rattle.flt_gen.proofs.Runs.{one_number}
 use Rattle.std.specs.{Int.Bits.and_zero_r, List.list_all}
 use Rattle.std.proofs.{Common.pow_mono, Math.Nat.div-lt_iff_lt-mul, Math.Nat.div-add-mod, lemmas.Nat.and_mask, lemmas.Nat.Bits.and_high_mask}

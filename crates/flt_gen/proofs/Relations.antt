@@ -17,9 +17,8 @@ entry_tests (Entry.Relation r) = accessor_test_count r.protocol + 1
 pub entry_bare : (link : Link) (e : Entry) → Bare (entry_formula link e) (entry_tests e)
 entry_bare link (Entry.Value q v) = bare_needed link q.value_type q.protocol q.direction v
 entry_bare link (Entry.Relation r) =
-    let t = Single (relation_test link r) in
-    let few = accessor_tests_are link r.protocol t in
-    bare_within _ (omega arith) (guarded_sizes (accessor_tests link r.protocol) t (bare_one (relation_test link r)))
+    let few = accessor_tests_are link r.protocol in
+    bare_within _ (omega arith) (guarded_sizes (accessor_tests link r.protocol) (bare_one (relation_test link r)))
 
 -- an entry stands for a truth
 pub record IsEntry (link : Link) (a : TruthTree) (e : Entry) : Type 0 where

@@ -1,17 +1,18 @@
 -- Addresses or ports that are looked for together read as one after the other.
-use Rattle.flt_gen.proofs.Ascending.{if_case, Each, each_is, Ordered, within_joined}
+use Rattle.flt_gen.proofs.Ascending.{if_case, Each, each_is, Ordered, within_joined, is_in, is_within, Ready}
 use Rattle.flt_gen.proofs.Common.{◌≡◌, ℕ, ◌+◌, ◌*◌, ◌^◌, ◌%◌, ◌<◌, ◌≤◌, List, [], ◌∷◌, length, map, Bool, true, false, Option, Some, None, refl, sym, ap, ap₂}
 use Rattle.flt_gen.proofs.Common.{subst, ◌-◌, ◌∙◌, arith, inl, inr, ◌==◌, ◌||◌, ◌&&◌, nat_le, min, max, bit_and, nat_tests, and_parts, or-false, Protocol, Ip}
-use Rattle.flt_gen.proofs.Common.{Tcp, Udp, ValueType}
+use Rattle.flt_gen.proofs.Common.{Tcp, Udp, ValueType, Numbers}
 use Rattle.flt_gen.proofs.Common.{Host, Net, Port, PortRange, Source, Destination, And, Or, Direction, CompleteQualifiers, Value, first_bits, Word, HalfWord}
 use Rattle.flt_gen.proofs.Common.{Offset, field, Link, type_offset, FrameKind, Elementary, Interval, Sides, Transport, MatchResult, Yes}
-use Rattle.flt_gen.proofs.Common.{No, Rejected, reading_of, with, field_at, under_mask, kind_test, elementary_reads, Formula, Sought, is_in, is_within, both}
+use Rattle.flt_gen.proofs.Common.{No, field_at, under_mask, kind_test, elementary_reads, Formula, sought_formula, both}
 use Rattle.flt_gen.proofs.Common.{either, all_of, sides, reads, address_places, address_test, partial_mask, port_is, port_between}
 use Rattle.flt_gen.proofs.Common.{port_places, in_net, hosts_formula, transport, following, ip_transport, ip6_transport, port_formula}
 use Rattle.flt_gen.proofs.Common.{value_formula, joined_all, left_out, high_mask, cut, sought, has_addresses, net_numbers, member_of, several_formula}
 use Rattle.flt_gen.proofs.Exclusive.{or_no, both_either, kinds_exclude}
+use Rattle.flt_gen.proofs.Firsts.{exact, Known, by_first, first_alone, first_more}
 use Rattle.flt_gen.proofs.Prefixes.{Idle, idle_sought, Small, cut_in, cut_within, net_hit}
-use Rattle.flt_gen.proofs.Runs.{one_number}
+use Rattle.flt_gen.proofs.{Runs.one_number, Search.Merged, Search.read_by, Search.sides_read, Search.sought_read}
 use Rattle.std.specs.Prelude.{◌⊎◌}
 use Rattle.std.proofs.Math.Nat.{mod-lt}
 use Rattle.flt_ast.specs.Counts as count
@@ -43,34 +44,20 @@ pub address_fitting : (b : Bool) (link : Link) (k : FrameKind) → Fitting b (ad
 address_fitting b link k e p x (inl f) = word_small p _ x f
 address_fitting b link k e p x (inr f) = word_small p _ x f
 
+-- numbers that are searched in the ports after both headers
+abbrev pub PortsReady : Link → Numbers → Type 0
+PortsReady link numbers = Ready link (port_places (ip_transport link)) numbers × Ready link (port_places (ip6_transport link)) numbers
+
 not_both : (b c : Bool) → (b ≡ true → c ≡ true) → c ≡ false → b ≡ false
 not_both false c f e = refl
 not_both true c f e = absurd (let t = f refl in cc)
 
--- those that are looked for together: not both sides at once
-abbrev pub Merged : Direction → Type 0
-Merged (Direction.Both And) = ⊥
-Merged _ = Unit {0}
-
--- what is read of a field that is there
-abbrev read_by : Option ℕ → (ℕ → Bool) → MatchResult
-read_by o f = reading_of (with o (λ x. Some (f x)))
-
-abbrev exact : Bool → MatchResult
-exact b = reading_of (Some b)
-
--- one member, and several, the first of which is f, on the sides that a direction asks for
+-- one member, on the sides that a direction asks for
 abbrev plain_reads : Direction → Option ℕ → Option ℕ → (ℕ → Bool) → MatchResult
 plain_reads (Direction.One Source) s d f = read_by s f
 plain_reads (Direction.One Destination) s d f = read_by d f
 plain_reads (Direction.Both Or) s d f = either (read_by s f) (read_by d f)
 plain_reads (Direction.Both And) s d f = both (read_by s f) (read_by d f)
-
-abbrev sides_read : Direction → Option ℕ → Option ℕ → (ℕ → Bool) → (ℕ → Bool) → MatchResult
-sides_read (Direction.One Source) s d f a = read_by s a
-sides_read (Direction.One Destination) s d f a = read_by d a
-sides_read (Direction.Both Or) s d f a = either (both (read_by s a) (either (read_by s f) (read_by d (λ x. true)))) (read_by d a)
-sides_read (Direction.Both And) s d f a = both (read_by s f) (read_by d f)
 
 yes_and : (b c : Bool) → both (exact b) (exact c) ≡ exact (b && c)
 yes_and true c = refl
@@ -88,43 +75,28 @@ read_seen : (o : Option ℕ) (f g : ℕ → Bool) → ((x : ℕ) → o ≡ Some 
 read_seen None f g e = refl
 read_seen (Some x) f g e = ap exact (e x refl)
 
--- the source is of the first or of the others, whose first is k; so is the destination
-both_told : (m k o n b : Bool) → either (both (exact (m || (k || o))) (either (exact m) Yes)) (exact (n || b)) ≡ either (either (exact m) (exact n))
-    (either (both (exact (k || o)) (either (exact k) Yes)) (exact b))
-both_told true k o n b = refl
-both_told false true o true b = refl
-both_told false false true true b = refl
-both_told false false false true b = refl
-both_told _ _ _ _ b = refl
-
--- the destination isn't captured
-one_told : (m k o : Bool) → either (both (exact (m || (k || o))) (either (exact m) Rejected)) Rejected ≡ either (either (exact m) Rejected)
-    (either (both (exact (k || o)) (either (exact k) Rejected)) Rejected)
-one_told true k o = refl
-one_told false true o = refl
-one_told false false true = refl
-one_told _ _ _ = refl
+-- where one is no, the field is there
+known_read : (o : Option ℕ) (f g : ℕ → Bool) → read_by o f ≡ No → Known (read_by o g)
+known_read None f g e = cc
+known_read (Some x) f g e = (g x, refl)
 
 -- one more in front of those of which k is the first
 one_more : (d : Direction) (s t : Option ℕ) (m k o : ℕ → Bool) → Merged d → sides_read d s t m (λ x. m x || (k x || o x)) ≡ either
     (plain_reads d s t m) (sides_read d s t k (λ x. k x || o x))
 one_more (Direction.One Source) s t m k o h = read_or s m (λ x. k x || o x)
 one_more (Direction.One Destination) s t m k o h = read_or t m (λ x. k x || o x)
-one_more (Direction.Both Or) None t m k o h = refl
-one_more (Direction.Both Or) (Some x) None m k o h = one_told (m x) (k x) (o x)
-one_more (Direction.Both Or) (Some x) (Some y) m k o h = both_told (m x) (k x) (o x) (m y) (k y || o y)
+one_more (Direction.Both Or) s t m k o h =
+    let rest : ℕ → Bool = λ x. k x || o x in
+    ap₂ (λ x y. by_first x (read_by s m) (read_by t m) y) (read_or s m rest) (read_or t m rest)
+    ∙ first_more (read_by s m) (read_by t m) (read_by s k) (read_by t k) (read_by s rest) (read_by t rest)
+    (λ e. (known_read s m rest e, known_read s m k e)) (known_read t m k)
 one_more (Direction.Both And) s t m k o h = absurd h
-
--- what holds and is one of two is that one
-absorbed : (r s : MatchResult) → both r (either r s) ≡ r
-absorbed Yes s = refl
-absorbed _ s = refl
 
 one_alone : (d : Direction) (s t : Option ℕ) (m : ℕ → Bool) → sides_read d s t m (λ x. m x || false) ≡ plain_reads d s t m
 one_alone d s t m = ap (sides_read d s t m) (λ i x. or-false (m x) i) ∙ by d
   where
     by : (d : Direction) → sides_read d s t m m ≡ plain_reads d s t m
-    by (Direction.Both Or) = ap (λ r. either r (read_by t m)) (absorbed (read_by s m) (read_by t (λ x. true)))
+    by (Direction.Both Or) = ap₂ (λ x y. by_first x (read_by s m) (read_by t m) y) (sym (or_no _)) (sym (or_no _)) ∙ first_alone (read_by s m) (read_by t m)
     by (Direction.One Source) = refl
     by _ = refl
 
@@ -133,7 +105,8 @@ sides_seen : (d : Direction) (s t : Option ℕ) (f g a b : ℕ → Bool) → ((x
 sides_seen (Direction.One Source) s t f g a b i j h k = read_seen s a b h
 sides_seen (Direction.One Destination) s t f g a b i j h k = read_seen t a b k
 sides_seen (Direction.Both Or) s t f g a b i j h k =
-    ap₂ either (ap₂ both (read_seen s a b h) (ap (λ r. either r (read_by t (λ x. true))) (read_seen s f g i))) (read_seen t a b k)
+    ap₂ (λ x y. by_first x y (read_by t f) (read_by t a)) (read_seen s a b h) (read_seen s f g i)
+    ∙ ap₂ (by_first (read_by s b) (read_by s g)) (read_seen t f g j) (read_seen t a b k)
 sides_seen (Direction.Both And) s t f g a b i j h k = ap₂ both (read_seen s f g i) (read_seen t f g j)
 
 -- how many tests a member has at least by itself
@@ -313,11 +286,12 @@ module _ (link : Link) (p : List ℕ) (n : ℕ) where
       (w : (y : ℕ) → is_within y all ≡ is_within y (m ∷ ms)) where
     -- the formula of several
     abbrev asked : Sides → Formula
-    asked at = Sought q.direction at (sought b m all)
+    asked at = sought_formula link q.direction at (sought b m all)
 
-    sides_are : (at : Sides) → Fitting b at → told_at asked at ≡ sides_read q.direction (source_of at) (destination_of at)
+    sides_are : (at : Sides) → Fitting b at → Ready link at (sought b m all) → told_at asked at ≡ sides_read q.direction (source_of at) (destination_of at)
         (hit m) (λ x. is_within x (m ∷ ms))
-    sides_are at fit = by q.direction h ∙ sides_seen q.direction (source_of at) (destination_of at) _ _ _ _ (λ x e. one x (small x (inl e)))
+    sides_are at fit ready = sought_read link p n at (sought b m all) ready q.direction h
+        ∙ sides_seen q.direction (source_of at) (destination_of at) _ _ _ _ (λ x e. one x (small x (inl e)))
         (λ x e. one x (small x (inr e))) (λ x e. some x (small x (inl e))) (λ x e. some x (small x (inr e)))
       where
         last : ℕ
@@ -338,29 +312,26 @@ module _ (link : Link) (p : List ℕ) (n : ℕ) where
         some : (x : ℕ) → Small last x → is_within (u x) (map (cut last) (joined_all all)) ≡ is_within x (m ∷ ms)
         some x l = cut_within last x m (joined_all all) idle l ∙ within_joined x all o ∙ w x
 
-        by : (e : Direction) → Merged e → reads link (Sought e at (sought b m all)) p n ≡ sides_read e (source_of at) (destination_of at)
-            (λ x. is_within (u x) (cut last m ∷ [])) (λ x. is_within (u x) (map (cut last) (joined_all all)))
-        by (Direction.Both And) q = absurd q
-        by (Direction.One Source) q = refl
-        by _ q = refl
-
-    several_hosts : reads link (hosts_formula link q.protocol asked) p n ≡ members_read Host q.protocol q.direction m ms
-    several_hosts = hosts_are q.protocol asked ∙ hosts_same q.protocol _ _ (λ k. sides_are (address_places link k) (address_fitting b link k))
+    several_hosts : ((k : FrameKind) → Ready link (address_places link k) (sought b m all)) → reads link (hosts_formula link q.protocol asked) p n
+        ≡ members_read Host q.protocol q.direction m ms
+    several_hosts r = hosts_are q.protocol asked ∙ hosts_same q.protocol _ _ (λ k. sides_are (address_places link k) (address_fitting b link k) (r k))
 
     -- ports have no mask
-    several_ports : b ≡ false → reads link (port_formula link q.protocol asked) p n ≡ members_read Port q.protocol q.direction m ms
-    several_ports e =
+    several_ports : b ≡ false → PortsReady link (sought b m all) → reads link (port_formula link q.protocol asked) p n
+        ≡ members_read Port q.protocol q.direction m ms
+    several_ports e r =
         let ip = port_places (ip_transport link) in
         let ip6 = port_places (ip6_transport link) in
-        ports_are q.protocol asked ∙ ap₂ (two_headers q.protocol) (sides_are ip (unmasked_fitting b ip e)) (sides_are ip6 (unmasked_fitting b ip6 e))
+        ports_are q.protocol asked ∙ ap₂ (two_headers q.protocol) (sides_are ip (unmasked_fitting b ip e) r.0) (sides_are ip6 (unmasked_fitting b ip6 e) r.1)
 
-    pub several_are : (k : ValueType) → (b ≡ true → has_addresses k ≡ true) → reads link (several_formula link q k (sought b m all)) p n ≡ members_read k
-        q.protocol q.direction m ms
-    several_are Host f = several_hosts
-    several_are Net f = several_hosts
-    several_are Port f = several_ports (not_both b _ f refl)
-    several_are PortRange f = several_ports (not_both b _ f refl)
-    several_are _ f = refl
+    pub several_are : (k : ValueType) → (b ≡ true → has_addresses k ≡ true) → (has_addresses k ≡ true → (f : FrameKind)
+        → Ready link (address_places link f) (sought b m all)) → (has_addresses k ≡ false → PortsReady link (sought b m all))
+        → reads link (several_formula link q k (sought b m all)) p n ≡ members_read k q.protocol q.direction m ms
+    several_are Host f r s = several_hosts (r refl)
+    several_are Net f r s = several_hosts (r refl)
+    several_are Port f r s = several_ports (not_both b _ f refl) (s refl)
+    several_are PortRange f r s = several_ports (not_both b _ f refl) (s refl)
+    several_are _ f r s = refl
 
   -- the row of a member
   row_sides : (at : Sides) (d : Direction) (s t : List Elementary) (f : ℕ → Bool) → reads link (all_of s) p n ≡ read_by (source_of at) f

@@ -4,7 +4,7 @@ use Rattle.flt_gen.proofs.Common.{fold, length-drop, ◌≢◌, ◌↔◌, rever
 use Rattle.flt_gen.proofs.Common.{IsValidUnlessLong, is_branch, JUMP, HasNoJump, IsShort, start, valid_if_short, faultless_drop, ends_drop, answer_drop}
 use Rattle.flt_gen.proofs.Common.{machine_answers, Node, tests_of, nodes_of, words_of, bound_of, expr_nodes, is_unfilled, some_primitive, Expression, empty}
 use Rattle.flt_gen.proofs.Common.{truth, Link, MatchResult, Yes, plain, IsProgramOf, short_bound_of, holds, with_folded, folded_expression, no_group}
-use Rattle.flt_gen.proofs.Common.{grouped_formula, returns_code, expression_code, program_code, emit_nodes, start_walk, insns_of}
+use Rattle.flt_gen.proofs.Common.{nothing, grouped_formula, returns_code, expression_code, program_code, emit_nodes, start_walk, insns_of}
 use Rattle.flt_gen.proofs.Folded.{expression_folded, nodes_folded}
 use Rattle.flt_gen.proofs.Grouping.{kept_none, grouped_stands}
 use Rattle.flt_gen.proofs.Exclusive.{or_no}
@@ -66,8 +66,8 @@ fits link empty filled few = more_by true _ _ (omega arith) (omega arith)
     (record { grows = none_by true returns_sound; entry = record { low = omega arith; upper_bound = omega arith } })
 fits link (truth a) filled few =
     let s = grouped_stands link a no_group kept_none filled in
-    more_by true _ _ (omega (arith, s.tests_fit, s.nodes_fit)) (omega (arith, s.tests_fit, s.nodes_fit))
-    (emitted_by true link (grouped_formula link no_group a) 2 1 returns_code (omega (arith, s.words_fit)) s.searches returns_sound
+    more_by true _ _ (omega (arith, s.short_fit, s.nodes_fit)) (omega (arith, s.light_fit, s.nodes_fit))
+    (emitted_by true nothing link (grouped_formula link no_group a) 2 1 returns_code (omega (arith, s.words_fit)) returns_sound
     (record { low = omega arith; upper_bound = omega arith }) (record { low = omega arith; upper_bound = omega arith }))
 
 leads : (link : Link) (e : Expression) → some_primitive is_unfilled e ≡ false → words_of e ≤ 16 → (p : List ℕ) (n : ℕ)
@@ -76,7 +76,7 @@ leads link empty filled few p n = hit_leads p n
 leads link (truth a) filled few p n =
     let s = grouped_stands link a no_group kept_none filled in
     leads_to p n (ap (λ r. pick r 262144 0) (s.reads_are p n ∙ or_no _))
-    (emitted_leads p n link (grouped_formula link no_group a) 2 1 262144 0 returns_code (omega (arith, s.words_fit)) s.searches (hit_leads p n)
+    (emitted_leads p n link (grouped_formula link no_group a) 2 1 262144 0 returns_code (omega (arith, s.words_fit)) (hit_leads p n)
     (miss_leads p n))
 
 -- what is left of code

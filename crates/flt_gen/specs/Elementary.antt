@@ -10,7 +10,7 @@ use Rattle.flt_words.specs.declared.token.Comparison.TheVariants.{Equal, NotEqua
 use Rattle.flt_gen.specs.declared.elementary.Elementary.{Elementary, TheVariants.Outcome, TheVariants.Field}
 use Rattle.flt_gen.specs.declared.elementary.{FieldTest.FieldTest, FrameKind.FrameKind}
 use Rattle.flt_gen.specs.declared.elementary.FrameKind.TheVariants.{Ethernet, Ip, Ip6, Arp, Rarp}
-use Rattle.flt_gen.specs.declared.elementary.Offset.{Offset, TheVariants.Fixed, TheVariants.AfterHeader}
+use Rattle.flt_gen.specs.declared.elementary.Offset.{Offset, TheVariants.Fixed, TheVariants.AfterHeader, TheVariants.AtIndex}
 
 -- the result of a match on a packet: a rejection is neither yes nor no
 pub data MatchResult : Type 0 where
@@ -49,6 +49,7 @@ abbrev pub field_at : Offset → Width → List ℕ → Option ℕ
 field_at (Fixed k) width p = field p k width
 field_at (AfterHeader header k) width p =
     with (header_at p header) (λ x. field p ((x + k) % 2 ^ 32) width)
+field_at (AtIndex index k) width p = field p ((index + k) % 2 ^ 32) width
 
 -- the bits of a number that a mask keeps, or all of them without one
 abbrev pub under_mask : Option ℕ → ℕ → ℕ

@@ -1,7 +1,7 @@
 -- The table of primitives: each is a formula of elementary tests.
-use Rattle.std.specs.Prelude.{ℕ, ◌+◌, ◌-◌, ◌*◌, ◌/◌, ◌%◌, ◌^◌, ◌==◌, if◌then◌else◌, min, max, false, List, [], ◌∷◌, Option, Some, None, is_none}
+use Rattle.std.specs.Prelude.{ℕ, ◌+◌, ◌-◌, ◌*◌, ◌/◌, ◌%◌, ◌^◌, ◌==◌, if◌then◌else◌, min, max, false, List, [], ◌∷◌, Option, Some, None}
 use Rattle.cap_octet.specs.Assigned.{IPPROTO_ICMP, IPPROTO_TCP, IPPROTO_UDP, IPPROTO_ICMPV6}
-use Rattle.cap_octet.specs.{Link.network_offset, Link.type_offset, declared.link.Link.Link}
+use Rattle.cap_octet.specs.{Link.network_offset, declared.link.Link.Link}
 use Rattle.flt_bpf.specs.declared.operation.Width.TheVariants.{Word, HalfWord, Byte}
 use Rattle.flt_words.specs.declared.token.Cast.{Cast, TheVariants.Broadcast, TheVariants.Multicast}
 use Rattle.flt_words.specs.declared.token.Comparison.TheVariants.{NotEqual, AtMost, AtLeast, Equal}
@@ -112,12 +112,10 @@ abbrev pub destination_offset : FrameKind → ℕ
 destination_offset Ip = 16
 destination_offset _ = 24
 
--- where both IPv4 addresses of a header of IPv4, ARP or RARP stand; raw IP has no ARP and RARP
+-- where both IPv4 addresses of a header of IPv4, ARP or RARP stand
 abbrev pub address_places : Link → FrameKind → Sides
 address_places link kind = record {
   width = Word;
-  index = destination_offset kind - destination_offset Ip;
-  is_alone = is_none (type_offset link);
   source = Fixed (network_offset link + source_offset kind);
   destination = Fixed (network_offset link + destination_offset kind);
 }
@@ -179,8 +177,6 @@ abbrev pub port_places : Transport → Sides
 port_places header =
     record {
       width = HalfWord;
-      index = header.index;
-      is_alone = false;
       source = header.source;
       destination = header.destination;
     }
@@ -221,7 +217,6 @@ ip_transport link = record {
   no_later_fragment = Some (first_fragment link);
   source = AfterHeader (network_offset link) (network_offset link);
   destination = AfterHeader (network_offset link) (network_offset link + 2);
-  index = 0;
 }
 
 -- what follows an IPv6 header, which has 40 bytes
@@ -232,7 +227,6 @@ ip6_transport link = record {
   no_later_fragment = None;
   source = Fixed (network_offset link + 40);
   destination = Fixed (network_offset link + 42);
-  index = 40;
 }
 
 -- `port` and `portrange`: the ports of TCP and UDP over IPv4 or IPv6; for SCTP no port is read

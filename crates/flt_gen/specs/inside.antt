@@ -6,6 +6,7 @@ pub mod Counts
 pub mod Emitted
 pub mod Folding
 pub mod Intervals
+pub mod Search
 pub mod Relations
 pub mod Group
 pub mod ProgramCode

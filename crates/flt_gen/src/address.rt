@@ -40,8 +40,6 @@ fn address_places(link: Link, kind: FrameKind) -> Sides
     let start = network_offset(link);
     Sides {
         width: Width::Word,
-        index: destination - 16,
-        is_alone: link.type_offset().is_none(),
         source: Offset::Fixed(start + source),
         destination: Offset::Fixed(start + destination),
     }
@@ -114,10 +112,10 @@ impl<A: Allocator> Code<A> {
         numbers: &Numbers<'_>,
         to: Targets,
     ) -> Result<usize, AllocError>
-        ensures { EmitsFormula link (hosts_of_kind link kind (wanted_formula wanted numbers.now)) to
+        ensures { EmitsFormula link (hosts_of_kind link kind (wanted_formula link wanted numbers.now)) to
             self.old result self.new }
     {
-        let yes = self.emit_wanted(address_places(link, kind), wanted, numbers, to)?;
+        let yes = self.emit_wanted(link, address_places(link, kind), wanted, numbers, to)?;
         self.emit_elementary(kind_test(link, kind), Targets { yes, no: to.no })
     }
 
@@ -132,7 +130,7 @@ impl<A: Allocator> Code<A> {
         to: Targets,
     ) -> Result<usize, AllocError>
         ensures { EmitsFormula link
-            (hosts_formula link protocol (wanted_formula wanted numbers.now)) to self.old result
+            (hosts_formula link protocol (wanted_formula link wanted numbers.now)) to self.old result
             self.new }
     {
         let kind = match protocol {

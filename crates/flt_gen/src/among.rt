@@ -1,17 +1,23 @@
-//! Emits the code that checks whether a field, or one of two, is in one of some intervals.
+//! Emits the search whether a field, or one of two, is in one of some intervals: a tree of tests.
 
-ghost use Rattle.std.specs.Prelude.{◌≡◌, OnOk};
-ghost use Rattle.flt_gen.specs.inside.Code.{are_few, low_of, emit_interval, emit_chain};
-ghost use Rattle.flt_gen.specs.inside.Code.{emit_search, emit_masked, emit_side, emit_few};
-ghost use Rattle.flt_gen.specs.inside.Code.{emit_index, emit_at_index, emit_many, emit_among};
-ghost use Rattle.flt_gen.specs.inside.{Emits.Emits, Code.fewest_at_index, Code.are_at_index};
+ghost use Rattle.std.specs.Prelude.{◌≡◌};
+ghost use Rattle.flt_gen.specs.inside.{Emits.Emits, Emits.EmitsFormula, Code.emit_after};
+ghost use Rattle.flt_gen.specs.inside.Search.{are_few, low_of, chain_of, search, within_formula};
+ghost use Rattle.flt_gen.specs.inside.Search.{few_formula, many_formula, sought_formula};
+ghost use Rattle.flt_gen.specs.inside.Search.{fewest_at_index, are_alone, are_at_index};
+ghost use Rattle.flt_gen.specs.inside.Search.{index_of, at_index, sides_at_index};
+ghost use Rattle.cap_octet.specs.declared.link.Link.{Link};
 
 use crate::code::{Code, Targets};
-use crate::elementary::{Interval, Offset, Sides};
+use crate::elementary::{
+    Elementary, FieldPlace, Interval, Offset, Sides, compares_at, network_offset,
+};
+use crate::emit::NOTHING;
 use crate::intervals::Numbers;
+use cap_octet::Link;
 use flt_ast::Direction;
-use flt_bpf::operation::{Operand, Operation, Register, Source, Test, Width};
-use flt_words::{Join, Side};
+use flt_bpf::operation::Width;
+use flt_words::{Comparison, Join, Side};
 use std::alloc::{AllocError, Allocator};
 
 /// How often intervals are halved at most, down to few: 4,096 of them take twelve times.
@@ -53,116 +59,145 @@ fn fewest_at_index(width: Width, is_plain: bool) -> usize
     }
 }
 
+/// Whether headers of only one kind have such fields: the addresses of raw IP, which has no ARP.
+fn are_alone(link: Link, width: Width) -> bool
+    ensures { result ≡ are_alone link width }
+{
+    match width {
+        Width::Word => link.type_offset().is_none(),
+        _ => false,
+    }
+}
+
 /// Whether numbers are looked for at X: never if headers of only one kind have them.
-fn are_at_index(at: Sides, numbers: &Numbers<'_>) -> bool
-    ensures { result ≡ are_at_index at numbers.now }
+fn are_at_index(link: Link, at: Sides, numbers: &Numbers<'_>) -> bool
+    ensures { result ≡ are_at_index link at numbers.now }
 {
     let first = numbers.first;
-    !at.is_alone && numbers.all.len() >= fewest_at_index(at.width, first.low == first.high)
+    !are_alone(link, at.width)
+        && numbers.all.len() >= fewest_at_index(at.width, first.low == first.high)
+}
+
+/// What X holds if both sides are read at it: as many bytes as the destination is past that of an
+/// IPv4 address, or of a port right after the link header. So it is at the same place after X in
+/// headers of each kind.
+fn index_of(link: Link, at: Sides) -> u32
+    ensures { result ≡ index_of link at }
+{
+    let past = match at.width {
+        Width::Word => 16,
+        _ => 2,
+    };
+    match at.destination {
+        Offset::Fixed(place) => place.saturating_sub(network_offset(link) + past),
+        _ => 0,
+    }
+}
+
+/// Both sides, read at X.
+fn sides_at_index(link: Link, at: Sides) -> Sides
+    ensures { result ≡ sides_at_index link at }
+{
+    let index = index_of(link, at);
+    Sides {
+        source: at_index(index, at.source),
+        destination: at_index(index, at.destination),
+        ..at
+    }
+}
+
+/// The place that is read at X, from which both sides are counted.
+fn at_index(index: u32, offset: Offset) -> Offset
+    ensures { result ≡ at_index index offset }
+{
+    match offset {
+        Offset::Fixed(at) => Offset::AtIndex(index, at.saturating_sub(index)),
+        _ => offset,
+    }
 }
 
 impl<A: Allocator> Code<A> {
-    /// Emits whether A is in an interval. If it is known to be no lower (`is_above`), that is
-    /// one test, and else for more than one number two.
-    fn emit_interval(
-        &mut self,
-        is_above: bool,
-        item: Interval,
-        to: Targets,
-    ) -> Result<usize, AllocError>
-        ensures { Emits result (emit_interval is_above item to.yes to.no self.old) self.new }
-    {
-        if item.low == item.high {
-            self.emit_branch(Test::Equal, Operand::Constant, item.low, to)?;
-            return Ok(self.top());
-        }
-        self.emit_branch(Test::Greater, Operand::Constant, item.high, to.exchanged())?;
-        if is_above {
-            return Ok(self.top());
-        }
-        let yes = self.top();
-        let to = Targets { yes, ..to };
-        self.emit_branch(Test::AtLeast, Operand::Constant, item.low, to)?;
-        Ok(self.top())
-    }
-
-    /// Emits whether A is in some intervals, by one after the other. Returns the place where the
-    /// code begins; for no interval that is `to.no`. It calls itself for each: they are few, once
-    /// `emit_search` has halved them. `is_above`: A is known to be no less than the first one.
+    /// Emits whether a field is in some intervals, which ascend, by one after the other. Returns
+    /// the place where the code begins; for no interval that is `to.no`. It calls itself for each:
+    /// they are few, once `emit_search` has halved them. `is_above`: the field is known to be no
+    /// less than the first one. The test `held` comes before.
     fn emit_chain(
         &mut self,
+        field: FieldPlace,
+        held: Elementary,
         is_above: bool,
         items: &[Interval],
         to: Targets,
     ) -> Result<usize, AllocError>
-        ensures { Emits result (emit_chain is_above items.now to.yes to.no self.old) self.new }
+        ensures { (link : Link) → Emits result
+            (emit_after held link (chain_of field is_above items.now) to.yes to.no self.old)
+            self.new }
     {
-        match items {
-            [] => Ok(to.no),
-            [first, others @ ..] => {
-                let no = self.emit_chain(false, others, to)?;
-                self.emit_interval(is_above, *first, Targets { yes: to.yes, no })
-            }
+        let [first, others @ ..] = items else {
+            return Ok(to.no);
+        };
+        if first.low == first.high {
+            let one = field.test(Comparison::Equal, first.low);
+            let no = self.emit_chain(field, one, false, others, to)?;
+            return self.emit_test(held, one, Targets { yes: to.yes, no });
         }
+        let top = field.test(Comparison::AtMost, first.high);
+        let no = self.emit_chain(field, top, false, others, to)?;
+        let upper = Targets { yes: to.yes, no };
+        if is_above {
+            return self.emit_test(held, top, upper);
+        }
+        let bottom = field.test(Comparison::AtLeast, first.low);
+        let yes = self.emit_test(bottom, top, upper)?;
+        self.emit_test(held, bottom, Targets { yes, no: to.no })
     }
 
-    /// As `emit_chain`, of intervals that ascend, by a binary search: they are halved at most
-    /// `halvings` times, by a test whether A is in the upper half.
+    /// As `emit_chain`, by a binary search: the intervals are halved at most `halvings` times, by a
+    /// test whether the field is in the lower half.
     #[tactic(auto, using(crate::proofs::Search::search_steps))]
     fn emit_search(
         &mut self,
+        field: FieldPlace,
+        held: Elementary,
         halvings: usize,
         is_above: bool,
         items: &[Interval],
         to: Targets,
     ) -> Result<usize, AllocError>
-        ensures { Emits result
-            (emit_search halvings is_above items.now to.yes to.no self.old) self.new }
+        ensures { (link : Link) → Emits result
+            (emit_after held link (search field halvings is_above items.now) to.yes to.no self.old)
+            self.new }
     {
         if halvings == 0 || are_few(items) {
-            return self.emit_chain(is_above, items, to);
+            return self.emit_chain(field, held, is_above, items, to);
         }
         let half = items.len() / 2;
         let (lower, upper) = (&items[..half], &items[half..]);
-        let yes = self.emit_search(halvings - 1, true, upper, to)?;
-        let no = self.emit_search(halvings - 1, is_above, lower, to)?;
-        let pivot = low_of(upper);
-        self.emit_branch(Test::AtLeast, Operand::Constant, pivot, Targets { yes, no })?;
-        Ok(self.top())
+        let test = field.test(Comparison::Less, low_of(upper));
+        let no = self.emit_search(field, test, halvings - 1, true, upper, to)?;
+        let yes = self.emit_search(field, test, halvings - 1, is_above, lower, to)?;
+        self.emit_test(held, test, Targets { yes, no })
     }
 
-    /// Emits whether A, under a mask if there is one, is in some intervals, of which there is one
-    /// at least. They ascend.
-    fn emit_masked(
+    /// Emits whether a field, under a mask if there is one, is in some intervals, which ascend.
+    /// Returns the place where the code begins.
+    fn emit_within(
         &mut self,
         mask: Option<u32>,
         items: &[Interval],
-        to: Targets,
-    ) -> Result<(), AllocError>
-        ensures { OnOk result
-            (self.new ≡ emit_masked mask items.now to.yes to.no self.old) }
-    {
-        // There is one, so the search begins at `top()`, in front of which the mask goes.
-        self.emit_search(MOST_HALVINGS, false, items, to)?;
-        self.emit_mask(mask)
-    }
-
-    /// Emits whether a field is in some intervals, as `emit_masked`. Returns the place where the
-    /// code begins.
-    fn emit_side(
-        &mut self,
         offset: Offset,
         width: Width,
-        mask: Option<u32>,
-        items: &[Interval],
         to: Targets,
     ) -> Result<usize, AllocError>
-        ensures { Emits result
-            (emit_side offset width mask items.now to.yes to.no self.old) self.new }
+        ensures { (link : Link) → EmitsFormula link (within_formula mask items.now offset width) to
+            self.old result self.new }
     {
-        self.emit_masked(mask, items, to)?;
-        self.emit_field(offset, width)?;
-        Ok(self.top())
+        let field = FieldPlace {
+            offset,
+            width,
+            mask,
+        };
+        self.emit_search(field, NOTHING, MOST_HALVINGS, false, items, to)
     }
 
     /// Emits whether either side is one of few numbers: the source is compared with the first
@@ -173,92 +208,61 @@ impl<A: Allocator> Code<A> {
         numbers: &Numbers<'_>,
         to: Targets,
     ) -> Result<usize, AllocError>
-        ensures { Emits result (emit_few at numbers.now to.yes to.no self.old) self.new }
+        ensures { (link : Link) → EmitsFormula link (few_formula at numbers.now) to self.old result
+            self.new }
     {
         let (yes, width, mask) = (to.yes, at.width, numbers.mask);
-        let mut no = to.no;
-        if !numbers.others.is_empty() {
-            no = self.emit_side(at.source, width, mask, numbers.others, to)?;
-        }
+        let no = self.emit_within(mask, numbers.others, at.source, width, to)?;
         let to = Targets { yes, no };
-        let no = self.emit_side(at.destination, width, mask, numbers.all, to)?;
+        let no = self.emit_within(mask, numbers.all, at.destination, width, to)?;
         let to = Targets { yes, no };
-        self.emit_side(at.source, width, mask, &[numbers.first], to)
+        self.emit_within(mask, &[numbers.first], at.source, width, to)
     }
 
-    /// Emits the load into X of the number from which both sides are counted.
-    fn emit_index(&mut self, offset: Offset, index: u32) -> Result<(), AllocError>
-        ensures { OnOk result (self.new ≡ emit_index offset index self.old) }
-    {
-        match offset {
-            Offset::Fixed(_) => {
-                self.emit_plain(Operation::Load(Register::Index, Source::Immediate), index)
-            }
-            Offset::AfterHeader(header, _) => self.emit_plain(Operation::LoadHeaderLength, header),
-        }
-    }
-
-    /// Emits the load into A of a field that is counted from X.
-    fn emit_at_index(&mut self, offset: Offset, width: Width, index: u32) -> Result<(), AllocError>
-        ensures { OnOk result (self.new ≡ emit_at_index offset width index self.old) }
-    {
-        let at = match offset {
-            Offset::Fixed(at) => at.saturating_sub(index),
-            Offset::AfterHeader(_, at) => at,
-        };
-        self.emit_plain(Operation::LoadIndirect(width), at)
-    }
-
-    /// Emits whether either side is one of many numbers, both read at X, so that the same code may
-    /// serve for headers of each kind. If the source is one of them, but not of the first member,
-    /// it is asked whether the destination is captured.
+    /// Emits whether either side is one of many numbers. If the source is one of them, but not of
+    /// the first member, it is asked whether the destination is captured.
     fn emit_many(
         &mut self,
         at: Sides,
         numbers: &Numbers<'_>,
         to: Targets,
     ) -> Result<usize, AllocError>
-        ensures { Emits result (emit_many at numbers.now to.yes to.no self.old) self.new }
+        ensures { (link : Link) → EmitsFormula link (many_formula at numbers.now) to self.old result
+            self.new }
     {
-        let mask = numbers.mask;
-        self.emit_masked(mask, numbers.all, to)?;
-        self.emit_at_index(at.destination, at.width, at.index)?;
-        let no = self.top();
-        self.emit_branch(Test::AtLeast, Operand::Constant, 0, to)?;
-        self.emit_at_index(at.destination, at.width, at.index)?;
-        let later = Targets {
-            yes: to.yes,
-            no: self.top(),
-        };
-        let yes = self.emit_interval(false, numbers.first, later)?;
-        self.emit_masked(mask, numbers.all, Targets { yes, no })?;
-        self.emit_at_index(at.source, at.width, at.index)?;
-        self.emit_index(at.source, at.index)?;
-        Ok(self.top())
+        let (yes, width, mask) = (to.yes, at.width, numbers.mask);
+        let no = self.emit_within(mask, numbers.all, at.destination, width, to)?;
+        let captured = compares_at(at.destination, width, Comparison::AtLeast, 0);
+        let asked = self.emit_elementary(captured, Targets { yes, no })?;
+        let to = Targets { yes, no: asked };
+        let yes = self.emit_within(mask, &[numbers.first], at.source, width, to)?;
+        self.emit_within(mask, numbers.all, at.source, width, Targets { yes, no })
     }
 
     /// Emits whether the sides that a direction asks for are some numbers. Returns the place where
-    /// the code begins.
+    /// the code begins. Many on either side are read at X, so that the same code may serve for
+    /// headers of each kind.
     pub fn emit_among(
         &mut self,
+        link: Link,
         direction: Direction,
         at: Sides,
         numbers: &Numbers<'_>,
         to: Targets,
     ) -> Result<usize, AllocError>
-        ensures { Emits result
-            (emit_among direction at numbers.now to.yes to.no self.old) self.new }
+        ensures { EmitsFormula link (sought_formula link direction at numbers.now) to self.old
+            result self.new }
     {
         let offset = match direction {
             Direction::One(Side::Source) => at.source,
             Direction::One(Side::Destination) => at.destination,
-            Direction::Both(Join::Or) if are_at_index(at, numbers) => {
-                return self.emit_many(at, numbers, to);
+            Direction::Both(Join::Or) if are_at_index(link, at, numbers) => {
+                return self.emit_many(sides_at_index(link, at), numbers, to);
             }
             Direction::Both(Join::Or) => return self.emit_few(at, numbers, to),
             // Several numbers never have this direction (`same_direction` of group.rt).
             Direction::Both(Join::And) => return Ok(to.no),
         };
-        self.emit_side(offset, at.width, numbers.mask, numbers.all, to)
+        self.emit_within(numbers.mask, numbers.all, offset, at.width, to)
     }
 }

@@ -1,13 +1,14 @@
 //! Lists of MAC addresses, of addresses and networks of IPv6, of protocol numbers, and of relations of
 //! one accessor, as decision trees: the first words are compared by halves, and then the next ones.
 //! Addresses are on one side, or on either, if all of their words but the last are the same. Each
-//! test loads its word; `flt_short` leaves out repeated loads.
+//! test loads its word, but where halves of one word come one after the other; `flt_short` leaves out
+//! further repeated loads.
 
 ghost use Rattle.std.specs.Prelude.{◌≡◌, ◌≤◌, ◌+◌, drop, length, OnOk, count_by, nat_lt};
 ghost use Rattle.flt_gen.specs.inside.Cases.{case_of, same_words, key_of, insert_case, case_front};
 ghost use Rattle.flt_gen.specs.inside.Cases.{case_tests, lowest, reach, word_test, keeps, all_keep};
 ghost use Rattle.flt_gen.specs.inside.Cases.{test_at, from_test, middle, is_parted, chain};
-ghost use Rattle.flt_gen.specs.inside.{Emits.Emits, Code.emit_all, Code.emit_formula};
+ghost use Rattle.flt_gen.specs.inside.{Emits.Emits, Code.emit_all, Code.emit_formula, Code.emit_after};
 ghost use Rattle.flt_gen.specs.inside.Emitted.{needed_tests};
 ghost use Rattle.flt_gen.specs.inside.Cases.{decision, either_formula, cases_formula, few_of};
 ghost use Rattle.flt_gen.specs.inside.Cases.{shares, are_either, mac_place, ip6_place};
@@ -19,6 +20,7 @@ use crate::code::{Code, Targets};
 use crate::elementary::{
     Elementary, FieldTest, FrameKind, has_ip_proto, has_ip6_proto, kind_test, network_offset,
 };
+use crate::emit::NOTHING;
 use crate::number::emit_protocol_tests;
 use crate::protocol::mac_tests;
 use crate::relation::{Relation, relation_test};
@@ -391,9 +393,11 @@ impl<A: Allocator> Code<A> {
         }
     }
 
-    /// Emits cases by halves, down to `few`, of one word after the other: `most` times at most.
+    /// Emits cases by halves, down to `few`, of one word after the other: `most` times at most. Each
+    /// test of a half is made on what the test `held` before it left in A.
     fn emit_decision(
         &mut self,
+        held: Elementary,
         most: usize,
         few: usize,
         link: Link,
@@ -403,7 +407,7 @@ impl<A: Allocator> Code<A> {
         to: Targets,
     ) -> Result<usize, AllocError>
         ensures { Emits result
-            (emit_formula link (decision few most (case_tests link direction) word cases.now)
+            (emit_after held link (decision few most (case_tests link direction) word cases.now)
             to.yes to.no self.old) self.new }
     {
         if most == 0 || cases.len() <= few {
@@ -417,7 +421,16 @@ impl<A: Allocator> Code<A> {
             if test_at(link, direction, word + 1, cases, 0).is_none() {
                 return self.emit_elementary(test, to);
             }
-            let yes = self.emit_decision(most - 1, few, link, direction, word + 1, cases, to)?;
+            let yes = self.emit_decision(
+                NOTHING,
+                most - 1,
+                few,
+                link,
+                direction,
+                word + 1,
+                cases,
+                to,
+            )?;
             return self.emit_elementary(test, Targets { yes, no: to.no });
         }
         let at = middle(link, direction, word, cases);
@@ -425,9 +438,10 @@ impl<A: Allocator> Code<A> {
             return self.emit_cases_in_turn(link, direction, word, cases, to);
         }
         let number = lowest(test_at(link, direction, word, cases, at));
-        let no = self.emit_decision(most - 1, few, link, direction, word, &cases[..at], to)?;
-        let yes = self.emit_decision(most - 1, few, link, direction, word, &cases[at..], to)?;
-        self.emit_elementary(from_test(test, number), Targets { yes, no })
+        let half = from_test(test, number);
+        let no = self.emit_decision(half, most - 1, few, link, direction, word, &cases[..at], to)?;
+        let yes = self.emit_decision(half, most - 1, few, link, direction, word, &cases[at..], to)?;
+        self.emit_test(held, half, Targets { yes, no })
     }
 
     /// Emits the tests in front of cases with the words of this one: the frames they may be in,
@@ -463,12 +477,21 @@ impl<A: Allocator> Code<A> {
     {
         let source = Direction::One(Side::Source);
         let destination = Direction::One(Side::Destination);
-        let no = self.emit_decision(MOST_DECISIONS, few, link, destination, 0, cases, to)?;
+        let no = self.emit_decision(
+            NOTHING,
+            MOST_DECISIONS,
+            few,
+            link,
+            destination,
+            0,
+            cases,
+            to,
+        )?;
         let yes = to.yes;
         let asked = self.emit_case_from(link, destination, 0, first, Targets { yes, no: yes })?;
         let later = self.emit_case_from(link, source, 0, first, Targets { yes, no: asked })?;
         let to = Targets { yes: later, no };
-        self.emit_decision(MOST_DECISIONS, few, link, source, 0, cases, to)
+        self.emit_decision(NOTHING, MOST_DECISIONS, few, link, source, 0, cases, to)
     }
 
     /// Emits cases, of which `first` stands first in the expression, after the tests in front of
@@ -488,7 +511,7 @@ impl<A: Allocator> Code<A> {
         let yes = if are_either(direction, first) {
             self.emit_either(link, few, first, cases, to)?
         } else {
-            self.emit_decision(MOST_DECISIONS, few, link, direction, 0, cases, to)?
+            self.emit_decision(NOTHING, MOST_DECISIONS, few, link, direction, 0, cases, to)?
         };
         self.emit_front(link, first, Targets { yes, no: to.no })
     }

@@ -7,6 +7,8 @@ ghost use Rattle.cap_octet.specs.Link.{longest_header, network_offset};
 ghost use Rattle.flt_gen.specs.Elementary.{is_at, is_masked, compares_at, compares_under};
 ghost use Rattle.flt_gen.specs.Elementary.{kind_test, type_test, has_type, has_type_at};
 ghost use Rattle.flt_gen.specs.Elementary.{first_fragment, has_ip_proto, has_ip6_proto};
+ghost use Rattle.flt_gen.specs.inside.Code.{same_offset, same_width, same_mask, is_loaded};
+ghost use Rattle.flt_gen.specs.inside.Search.{field_test};
 
 use cap_octet::Link;
 use cap_octet::assigned::{ETHERTYPE_ARP, ETHERTYPE_IPV4, ETHERTYPE_IPV6, ETHERTYPE_RARP};
@@ -31,6 +33,8 @@ pub enum Offset {
     /// At the second number plus the length of the header that begins at the first. The low half of
     /// that header's first byte gives its length, in words of 4 bytes.
     AfterHeader(u32, u32),
+    /// At the sum of both: it is read at X, which holds the first.
+    AtIndex(u32, u32),
 }
 
 /// The numbers from the first to the last.
@@ -38,6 +42,14 @@ pub enum Offset {
 pub struct Interval {
     pub low: u32,
     pub high: u32,
+}
+
+/// The place of a field, its width and the bits of it that count, or all if there is no mask.
+#[derive(Clone, Copy)]
+pub struct FieldPlace {
+    pub offset: Offset,
+    pub width: Width,
+    pub mask: Option<u32>,
 }
 
 /// A test of a field: the field, of which only the bits of the mask count, or all if there is no
@@ -59,17 +71,69 @@ pub enum Elementary {
     Field(FieldTest),
 }
 
-/// The places of a source and a destination, both addresses or both ports, and their width. If they
-/// are read at X, it holds `index`, or the length of the header before them; so fields of headers
-/// of several kinds are at the same place after X.
+/// The places of a source and a destination, both addresses or both ports, and their width.
 #[derive(Clone, Copy)]
 pub struct Sides {
     pub width: Width,
-    pub index: u32,
-    /// Whether the link has no headers of another kind with such addresses or ports.
-    pub is_alone: bool,
     pub source: Offset,
     pub destination: Offset,
+}
+
+impl FieldPlace {
+    /// The test that compares the field with a number.
+    pub fn test(self, comparison: Comparison, value: u32) -> Elementary
+        ensures { result ≡ field_test self comparison value }
+    {
+        compares_under(self.mask, self.offset, self.width, comparison, value)
+    }
+}
+
+/// Whether both places are the same.
+fn same_offset(one: Offset, other: Offset) -> bool
+    ensures { result ≡ same_offset one other }
+{
+    match (one, other) {
+        (Offset::Fixed(one), Offset::Fixed(other)) => one == other,
+        (Offset::AfterHeader(one, at), Offset::AfterHeader(other, other_at))
+        | (Offset::AtIndex(one, at), Offset::AtIndex(other, other_at)) => {
+            one == other && at == other_at
+        }
+        _ => false,
+    }
+}
+
+/// Whether both widths are the same.
+fn same_width(one: Width, other: Width) -> bool
+    ensures { result ≡ same_width one other }
+{
+    matches!(
+        (one, other),
+        (Width::Word, Width::Word) | (Width::HalfWord, Width::HalfWord) | (Width::Byte, Width::Byte)
+    )
+}
+
+/// Whether there is no mask twice, or the same one.
+fn same_mask(one: Option<u32>, other: Option<u32>) -> bool
+    ensures { result ≡ same_mask one other }
+{
+    match (one, other) {
+        (None, None) => true,
+        (Some(one), Some(other)) => one == other,
+        _ => false,
+    }
+}
+
+/// Whether A holds the field of `test` after the test `held`: both look at the same bits.
+pub fn is_loaded(held: Elementary, test: FieldTest) -> bool
+    ensures { result ≡ is_loaded held test }
+{
+    match held {
+        Elementary::Outcome(_) => false,
+        Elementary::Field(held) => {
+            same_offset(held.offset, test.offset)
+                && (same_width(held.width, test.width) && same_mask(held.mask, test.mask))
+        }
+    }
 }
 
 /// The place where the network header begins, in bytes from the start of the packet.

@@ -3,20 +3,24 @@
 ghost use Rattle.std.specs.Prelude.{◌≡◌, length, OnOk, if◌then◌else◌};
 ghost use Rattle.flt_gen.specs.inside.{Emits.Emits, Emits.EmitsFormula, Code.emit_field};
 ghost use Rattle.flt_gen.specs.inside.Code.{emit_mask, emit_comparison, emit_elementary, emit_all};
+ghost use Rattle.flt_gen.specs.inside.Code.{emit_test};
 ghost use Rattle.flt_gen.specs.{Formula.sides, Primitives.sized_formula};
 ghost use Rattle.flt_gen.specs.inside.Emitted.{needed_tests};
 ghost use Rattle.cap_octet.specs.declared.link.Link.{Link};
 
 use crate::address::{is_idle, last_test};
 use crate::code::{Code, Targets};
-use crate::elementary::{Elementary, Offset};
+use crate::elementary::{Elementary, FieldTest, Offset, is_loaded};
 use flt_ast::Direction;
 use flt_bpf::operation::{AluOperation, Operand, Operation, Register, Source, Test, Width};
 use flt_words::{Comparison, Join, Side, Size};
 use std::alloc::{AllocError, Allocator};
 
+/// A test after which A holds no field, in place of one before the first test.
+pub const NOTHING: Elementary = Elementary::Outcome(false);
+
 impl<A: Allocator> Code<A> {
-    /// Emits the load of a field into A. That of a field after a header also sets X.
+    /// Emits the load of a field into A. That of one after a header or at X also sets X.
     pub fn emit_field(&mut self, offset: Offset, width: Width) -> Result<(), AllocError>
         ensures { OnOk result (self.new ≡ emit_field offset width self.old) }
     {
@@ -25,6 +29,10 @@ impl<A: Allocator> Code<A> {
             Offset::AfterHeader(header, at) => {
                 self.emit_plain(Operation::LoadIndirect(width), at)?;
                 self.emit_plain(Operation::LoadHeaderLength, header)
+            }
+            Offset::AtIndex(index, at) => {
+                self.emit_plain(Operation::LoadIndirect(width), at)?;
+                self.emit_plain(Operation::Load(Register::Index, Source::Immediate), index)
             }
         }
     }
@@ -65,21 +73,44 @@ impl<A: Allocator> Code<A> {
         }
     }
 
-    /// Emits one test. Returns the place where it begins: for one that the link type itself
-    /// decides, which takes no code, that is one of the targets.
-    pub fn emit_elementary(&mut self, test: Elementary, to: Targets) -> Result<usize, AllocError>
-        ensures { Emits result (emit_elementary test to.yes to.no self.old) self.new }
+    /// Emits the load of a field and the mask of it, if there is one.
+    fn emit_load(&mut self, test: FieldTest) -> Result<(), AllocError>
+        ensures { OnOk result
+            (self.new ≡ emit_field test.offset test.width (emit_mask test.mask self.old)) }
+    {
+        self.emit_mask(test.mask)?;
+        self.emit_field(test.offset, test.width)
+    }
+
+    /// Emits one test, right after the test `held`: the field isn't loaded again if that one left it
+    /// in A. Returns the place where it begins: for one that the link type itself decides, which
+    /// takes no code, that is one of the targets.
+    pub fn emit_test(
+        &mut self,
+        held: Elementary,
+        test: Elementary,
+        to: Targets,
+    ) -> Result<usize, AllocError>
+        ensures { Emits result (emit_test held test to.yes to.no self.old) self.new }
     {
         match test {
             Elementary::Outcome(true) => Ok(to.yes),
             Elementary::Outcome(false) => Ok(to.no),
             Elementary::Field(field) => {
                 self.emit_comparison(field.comparison, Operand::Constant, field.value, to)?;
-                self.emit_mask(field.mask)?;
-                self.emit_field(field.offset, field.width)?;
+                if !is_loaded(held, field) {
+                    self.emit_load(field)?;
+                }
                 Ok(self.top())
             }
         }
+    }
+
+    /// Emits one test, of a field that A doesn't hold, as `emit_test`.
+    pub fn emit_elementary(&mut self, test: Elementary, to: Targets) -> Result<usize, AllocError>
+        ensures { Emits result (emit_elementary test to.yes to.no self.old) self.new }
+    {
+        self.emit_test(NOTHING, test, to)
     }
 
     /// Emits some tests that all have to hold, each after the one before. Returns the place where

@@ -21,7 +21,7 @@ pub struct Numbers<'a> {
 }
 
 impl<'a> Model for Numbers<'a> {
-    ghost use Rattle.flt_gen.specs.Formula.{Numbers};
+    ghost use Rattle.flt_gen.specs.inside.Search.{Numbers};
 
     ghost Value = { Numbers };
 

@@ -7,7 +7,6 @@ ghost use Rattle.flt_gen.specs.Primitives.{transport_ports, ip_transport, ip6_tr
 ghost use Rattle.flt_gen.specs.{Elementary.kind_test, inside.Emits.EmitsFormula};
 ghost use Rattle.flt_gen.specs.Primitives.{port_formula, after, port_places};
 ghost use Rattle.flt_gen.specs.inside.Emitted.{wanted_formula};
-ghost use Rattle.cap_octet.specs.declared.link.Link.{Link};
 
 use crate::code::{Code, Targets};
 use crate::elementary::{
@@ -32,8 +31,6 @@ pub struct Transport {
     pub no_later_fragment: Option<Elementary>,
     pub source: Offset,
     pub destination: Offset,
-    /// The length of the header before, if that is fixed, as `index` of `Sides`.
-    pub index: u32,
 }
 
 /// The transport header after an IPv4 header. That has no fixed length: the ports are at the bytes
@@ -48,7 +45,6 @@ fn ip_transport(link: Link) -> Transport
         no_later_fragment: Some(first_fragment(link)),
         source: Offset::AfterHeader(start, start),
         destination: Offset::AfterHeader(start, start + 2),
-        index: 0,
     }
 }
 
@@ -63,7 +59,6 @@ fn ip6_transport(link: Link) -> Transport
         no_later_fragment: None,
         source: Offset::Fixed(start + 40),
         destination: Offset::Fixed(start + 42),
-        index: 40,
     }
 }
 
@@ -73,8 +68,6 @@ fn port_places(header: Transport) -> Sides
 {
     Sides {
         width: Width::HalfWord,
-        index: header.index,
-        is_alone: false,
         source: header.source,
         destination: header.destination,
     }
@@ -86,14 +79,15 @@ impl<A: Allocator> Code<A> {
     /// that the packet isn't a later fragment, if there is one.
     fn emit_transport_ports(
         &mut self,
+        link: Link,
         header: Transport,
         protocol: Option<Protocol>,
         wanted: Wanted,
         numbers: &Numbers<'_>,
         to: Targets,
     ) -> Result<usize, AllocError>
-        ensures { (link : Link) → EmitsFormula link
-            (transport_ports header protocol (wanted_formula wanted numbers.now)) to self.old
+        ensures { EmitsFormula link
+            (transport_ports header protocol (wanted_formula link wanted numbers.now)) to self.old
             result self.new }
     {
         let (first, last) = match protocol {
@@ -102,7 +96,7 @@ impl<A: Allocator> Code<A> {
             None => (Some(header.tcp), header.udp),
             Some(_) => return Ok(to.no),
         };
-        let mut yes = self.emit_wanted(port_places(header), wanted, numbers, to)?;
+        let mut yes = self.emit_wanted(link, port_places(header), wanted, numbers, to)?;
         if let Some(test) = header.no_later_fragment {
             yes = self.emit_elementary(test, Targets { yes, no: to.no })?;
         }
@@ -125,10 +119,10 @@ impl<A: Allocator> Code<A> {
         to: Targets,
     ) -> Result<usize, AllocError>
         ensures { EmitsFormula link (after (kind_test link kind)
-            (transport_ports header protocol (wanted_formula wanted numbers.now))) to self.old
+            (transport_ports header protocol (wanted_formula link wanted numbers.now))) to self.old
             result self.new }
     {
-        let yes = self.emit_transport_ports(header, protocol, wanted, numbers, to)?;
+        let yes = self.emit_transport_ports(link, header, protocol, wanted, numbers, to)?;
         self.emit_elementary(kind_test(link, kind), Targets { yes, no: to.no })
     }
 
@@ -141,7 +135,7 @@ impl<A: Allocator> Code<A> {
         numbers: &Numbers<'_>,
         to: Targets,
     ) -> Result<usize, AllocError>
-        ensures { EmitsFormula link (port_formula link protocol (wanted_formula wanted numbers.now))
+        ensures { EmitsFormula link (port_formula link protocol (wanted_formula link wanted numbers.now))
             to self.old result self.new }
     {
         let (ip, ip6) = (ip_transport(link), ip6_transport(link));

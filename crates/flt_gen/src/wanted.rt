@@ -2,13 +2,13 @@
 //! numbers.
 
 ghost use Rattle.std.specs.Prelude.{◌≡◌};
-ghost use Rattle.cap_octet.specs.declared.link.Link.{Link};
 ghost use Rattle.flt_gen.specs.Primitives.{address_test, port_is, port_between};
 ghost use Rattle.flt_gen.specs.inside.{Emits.EmitsFormula, Emitted.wanted_formula};
 
 use crate::code::{Code, Targets};
 use crate::elementary::{Elementary, Offset, Sides, compares_at, compares_under};
 use crate::intervals::Numbers;
+use cap_octet::Link;
 use flt_ast::Direction;
 use flt_bpf::operation::Width;
 use flt_words::Comparison;
@@ -55,13 +55,14 @@ impl<A: Allocator> Code<A> {
     /// Emits what is looked for at some places: if it is several numbers, these.
     pub fn emit_wanted(
         &mut self,
+        link: Link,
         at: Sides,
         wanted: Wanted,
         numbers: &Numbers<'_>,
         to: Targets,
     ) -> Result<usize, AllocError>
-        ensures { (link : Link) → EmitsFormula link (wanted_formula wanted numbers.now at) to
-            self.old result self.new }
+        ensures { EmitsFormula link (wanted_formula link wanted numbers.now at) to self.old result
+            self.new }
     {
         let (source, destination) = (at.source, at.destination);
         match wanted {
@@ -79,7 +80,7 @@ impl<A: Allocator> Code<A> {
                 let destination = port_between(first, last, destination);
                 self.emit_sides(direction, false, &source, &destination, to)
             }
-            Wanted::Several(direction) => self.emit_among(direction, at, numbers, to),
+            Wanted::Several(direction) => self.emit_among(link, direction, at, numbers, to),
         }
     }
 }

@@ -1,6 +1,6 @@
 -- The code of a formula, which is emitted in front of the code that is present.
 use Rattle.std.specs.Option.{is_none}
-use Rattle.std.specs.Prelude.{not, ℕ, zero, suc, ◌+◌, ◌-◌, ◌/◌, ◌%◌, ◌^◌, true, false, nat_le, ◌==◌, ◌&&◌, if◌then◌else◌, Bool, List, [], ◌∷◌, length, take, drop, Option, Some, None}
+use Rattle.std.specs.Prelude.{ℕ, ◌+◌, ◌-◌, ◌%◌, ◌^◌, true, false, ◌==◌, ◌&&◌, if◌then◌else◌, Bool, List, [], ◌∷◌, length, Option, Some, None}
 use Rattle.flt_bpf.specs.{Check.constant_fault, Instructions.code_of}
 use Rattle.flt_bpf.specs.declared.{insn.Insn.Insn, operation.AluOperation.AluOperation}
 use Rattle.flt_bpf.specs.declared.operation.Operand.{Operand, TheVariants.Constant, TheVariants.IndexRegister}
@@ -8,23 +8,21 @@ use Rattle.flt_bpf.specs.declared.operation.Operation.{Operation}
 use Rattle.flt_bpf.specs.declared.operation.Operation.TheVariants.{LoadAbsolute, LoadIndirect, Load, LoadHeaderLength, Store, Compute, Negate, JumpIf, CopyToIndex}
 use Rattle.flt_bpf.specs.declared.operation.Register.TheVariants.{Accumulator, Index}
 use Rattle.flt_bpf.specs.declared.operation.Source.TheVariants.{Immediate, Memory, Length}
-use Rattle.flt_bpf.specs.declared.operation.{Test.Test, Width.Width, Width.TheVariants.Word}
+use Rattle.flt_bpf.specs.declared.operation.{Test.Test, Width.Width, Width.TheVariants.Word, Width.TheVariants.HalfWord, Width.TheVariants.Byte}
 use Rattle.flt_words.specs.declared.token.Comparison.{Comparison}
 use Rattle.flt_words.specs.declared.token.Comparison.TheVariants.{Equal, NotEqual, Less, AtMost, Greater, AtLeast}
-use Rattle.flt_words.specs.declared.token.{Join.Join, Operator.Operator}
+use Rattle.flt_words.specs.declared.token.Operator.{Operator}
 use Rattle.flt_words.specs.declared.token.Operator.TheVariants.{Or, And, ShiftLeft, ShiftRight, Add, Subtract, Multiply, Divide, Remainder, ExclusiveOr}
 use Rattle.flt_words.specs.declared.token.Protocol.{Protocol}
 use Rattle.flt_words.specs.declared.token.Protocol.TheVariants.{Ether, Tcp, Udp, Icmp}
-use Rattle.flt_words.specs.declared.token.Side.{Side}
 use Rattle.flt_ast.specs.Tree.{NumberTree, literal, len, named, load, negated, applied}
-use Rattle.flt_ast.specs.declared.qualifiers.Direction.{Direction}
 use Rattle.cap_octet.specs.{Link.network_offset, declared.link.Link.Link}
 use Rattle.flt_gen.specs.Elementary.{with}
-use Rattle.flt_gen.specs.Formula.{Formula, Single, Compare, Both, Either, Except, Split, Sought, Numbers}
+use Rattle.flt_gen.specs.Formula.{Formula, Single, Compare, Both, Either, Except, Split}
 use Rattle.flt_gen.specs.Numbers.{width_of}
 use Rattle.flt_gen.specs.declared.elementary.Elementary.{Elementary, TheVariants.Outcome, TheVariants.Field}
-use Rattle.flt_gen.specs.declared.elementary.{Interval.Interval, Offset.Offset}
-use Rattle.flt_gen.specs.declared.elementary.{Offset.TheVariants.Fixed, Offset.TheVariants.AfterHeader, Sides.Sides}
+use Rattle.flt_gen.specs.declared.elementary.{FieldTest.FieldTest, Offset.Offset}
+use Rattle.flt_gen.specs.declared.elementary.Offset.TheVariants.{Fixed, AfterHeader, AtIndex}
 
 -- an instruction that isn't a test
 abbrev pub plain : Operation → ℕ → Insn
@@ -91,6 +89,8 @@ abbrev pub emit_field : Offset → Width → List Insn → List Insn
 emit_field (Fixed k) width c = plain (LoadAbsolute width) k ∷ c
 emit_field (AfterHeader header k) width c =
     plain LoadHeaderLength header ∷ plain (LoadIndirect width) k ∷ c
+emit_field (AtIndex index k) width c =
+    plain (Load Index Immediate) index ∷ plain (LoadIndirect width) k ∷ c
 
 -- of A only the bits of a mask are left
 abbrev pub emit_mask : Option ℕ → List Insn → List Insn
@@ -171,153 +171,68 @@ block c entry = record { code = c; entry = entry }
 abbrev pub at_top : List Insn → Block
 at_top c = record { code = c; entry = length c }
 
--- an elementary test: a field is loaded, masked and compared; what the link type decides takes no
--- code
+-- both places are the same
+abbrev pub same_offset : Offset → Offset → Bool
+same_offset (Fixed j) (Fixed k) = j == k
+same_offset (AfterHeader g j) (AfterHeader h k) = g == h && j == k
+same_offset (AtIndex g j) (AtIndex h k) = g == h && j == k
+same_offset _ _ = false
+
+-- both widths are the same
+abbrev pub same_width : Width → Width → Bool
+same_width Word Word = true
+same_width HalfWord HalfWord = true
+same_width Byte Byte = true
+same_width _ _ = false
+
+-- there is no mask twice, or the same one
+abbrev pub same_mask : Option ℕ → Option ℕ → Bool
+same_mask None None = true
+same_mask (Some j) (Some k) = j == k
+same_mask _ _ = false
+
+-- after a test A holds the field of another one: both look at the same bits
+abbrev pub is_loaded : Elementary → FieldTest → Bool
+is_loaded (Outcome b) t = false
+is_loaded (Field u) t =
+    same_offset u.offset t.offset && (same_width u.width t.width && same_mask u.mask t.mask)
+
+-- an elementary test right after another one: a field is loaded and masked, unless A holds it, and
+-- compared; what the link type decides takes no code
+abbrev pub emit_test : Elementary → Elementary → ℕ → ℕ → List Insn → Block
+emit_test held (Outcome true) hit miss c = block c hit
+emit_test held (Outcome false) hit miss c = block c miss
+emit_test held (Field t) hit miss c =
+    let d = emit_comparison t.comparison Constant t.value hit miss c in
+    at_top (if is_loaded held t then d else emit_field t.offset t.width (emit_mask t.mask d))
+
+-- a test after which A holds no field
+abbrev pub nothing : Elementary
+nothing = Outcome false
+
+-- an elementary test of a field that A doesn't hold
 abbrev pub emit_elementary : Elementary → ℕ → ℕ → List Insn → Block
-emit_elementary (Outcome true) hit miss c = block c hit
-emit_elementary (Outcome false) hit miss c = block c miss
-emit_elementary (Field t) hit miss c =
-    at_top (emit_field t.offset t.width (emit_mask t.mask
-    (emit_comparison t.comparison Constant t.value hit miss c)))
+emit_elementary t hit miss c = emit_test nothing t hit miss c
 
--- whether A is in an interval, if it may be known to be no lower
-abbrev pub emit_interval : Bool → Interval → ℕ → ℕ → List Insn → Block
-emit_interval is_above i hit miss c =
-    if i.low == i.high then at_top (emit_branch Test.Equal Constant i.low hit miss c) else
-    (let e = at_top (emit_branch Test.Greater Constant i.high miss hit c) in
-    if is_above then e else at_top (emit_branch Test.AtLeast Constant i.low e.entry miss e.code))
-
--- whether A is in some intervals, by one after the other. It may be known that A isn't lower than
--- the first
-abbrev pub emit_chain : Bool → List Interval → ℕ → ℕ → List Insn → Block
-emit_chain is_above [] hit miss c = block c miss
-emit_chain is_above (i ∷ is) hit miss c =
-    let e = emit_chain false is hit miss c in emit_interval is_above i hit e.entry e.code
-
--- a test in front of the code of both halves: is A in the upper one, which begins with this number
-abbrev pub emit_halves : ℕ → Block → ℕ → Block
-emit_halves pivot lower upper =
-    at_top (emit_branch Test.AtLeast Constant pivot upper lower.entry lower.code)
-
--- one interval at most, or two numbers, which aren't halved: that would be one more test
-abbrev pub are_few : List Interval → Bool
-are_few [] = true
-are_few (i ∷ []) = true
-are_few (i ∷ j ∷ []) = i.low == i.high && j.low == j.high
-are_few _ = false
-
--- the place where the first interval begins
-abbrev pub low_of : List Interval → ℕ
-low_of [] = 0
-low_of (i ∷ is) = i.low
-
--- whether A is in some intervals, which ascend: halved this often at most, and then one after the
--- other. It may be known that A isn't lower than the first
-unfoldable pub emit_search : ℕ → Bool → List Interval → ℕ → ℕ → List Insn → Block
-emit_search zero is_above is hit miss c = emit_chain is_above is hit miss c
-emit_search (suc k) is_above is hit miss c =
-    if are_few is then emit_chain is_above is hit miss c else
-    (let half = length is / 2 in
-    let upper = emit_search k true (drop half is) hit miss c in
-    emit_halves (low_of (drop half is)) (emit_search k is_above (take half is) hit miss upper.code)
-    upper.entry)
-
--- how often intervals are halved at most
-abbrev pub MOST_HALVINGS : ℕ
-MOST_HALVINGS = 16
-
--- whether A, under a mask if there is one, is in some intervals, of which there is one at least
-abbrev pub emit_masked : Option ℕ → List Interval → ℕ → ℕ → List Insn → List Insn
-emit_masked mask is hit miss c =
-    emit_mask mask (emit_search MOST_HALVINGS false is hit miss c).code
-
--- whether a field is in some intervals, of which there is one at least
-abbrev pub emit_side : Offset → Width → Option ℕ → List Interval → ℕ → ℕ → List Insn → Block
-emit_side offset width mask is hit miss c =
-    at_top (emit_field offset width (emit_masked mask is hit miss c))
-
--- the same, or a place where it goes on if there is none
-abbrev pub emit_others : Sides → Numbers → List Interval → ℕ → ℕ → List Insn → Block
-emit_others at numbers [] hit miss c = block c miss
-emit_others at numbers is hit miss c = emit_side at.source at.width numbers.mask is hit miss c
-
--- either side, of few numbers: the source is compared with the first member's, the destination with
--- all, and the source with the others
-abbrev pub emit_few : Sides → Numbers → ℕ → ℕ → List Insn → Block
-emit_few at numbers hit miss c =
-    let others = emit_others at numbers numbers.others hit miss c in
-    let all = emit_side at.destination at.width numbers.mask numbers.all hit others.entry others.code in
-    emit_side at.source at.width numbers.mask (numbers.first ∷ []) hit all.entry all.code
-
--- the number that both sides are counted from goes into X
-abbrev pub emit_index : Offset → ℕ → List Insn → List Insn
-emit_index (Fixed k) index c = plain (Load Index Immediate) index ∷ c
-emit_index (AfterHeader header k) index c = plain LoadHeaderLength header ∷ c
-
--- a field that is counted from X goes into A
-abbrev pub emit_at_index : Offset → Width → ℕ → List Insn → List Insn
-emit_at_index (Fixed k) width index c = plain (LoadIndirect width) (k - index) ∷ c
-emit_at_index (AfterHeader header k) width index c = plain (LoadIndirect width) k ∷ c
-
--- the destination, counted from X, goes into A
-abbrev pub emit_second : Sides → List Insn → List Insn
-emit_second at c = emit_at_index at.destination at.width at.index c
-
--- either side, if X holds the number from which both are counted: if the source is one of the
--- numbers, but not of the first member, whether the destination is captured; if it is none, whether
--- the destination is one
-abbrev pub emit_at_sides : Sides → Numbers → ℕ → ℕ → List Insn → List Insn
-emit_at_sides at numbers hit miss c =
-    let none = emit_second at (emit_masked numbers.mask numbers.all hit miss c) in
-    let later = emit_second at (emit_branch Test.AtLeast Constant 0 hit miss none) in
-    let one = emit_interval false numbers.first hit (length later) later in
-    emit_at_index at.source at.width at.index
-    (emit_masked numbers.mask numbers.all one.entry (length none) one.code)
-
--- either side, of many numbers, at X, so that the same code may serve for headers of each kind
-abbrev pub emit_many : Sides → Numbers → ℕ → ℕ → List Insn → Block
-emit_many at numbers hit miss c =
-    at_top (emit_index at.source at.index (emit_at_sides at numbers hit miss c))
-
--- the fewest intervals that are looked for at X on either side: networks or ranges, or else single
--- addresses, which are words, or single ports
-abbrev pub fewest_at_index : Width → Bool → ℕ
-fewest_at_index width false = 5
-fewest_at_index Word true = 24
-fewest_at_index _ true = 8
-
--- numbers are looked for at X: never if headers of only one kind have them
-abbrev pub are_at_index : Sides → Numbers → Bool
-are_at_index at numbers =
-    not at.is_alone
-    && nat_le (fewest_at_index at.width (numbers.first.low == numbers.first.high)) (length numbers.all)
-
--- the sides that a direction asks for are some numbers
-abbrev pub emit_among : Direction → Sides → Numbers → ℕ → ℕ → List Insn → Block
-emit_among (Direction.One Side.Source) at numbers hit miss c =
-    emit_side at.source at.width numbers.mask numbers.all hit miss c
-emit_among (Direction.One Side.Destination) at numbers hit miss c =
-    emit_side at.destination at.width numbers.mask numbers.all hit miss c
-emit_among (Direction.Both Join.Or) at numbers hit miss c =
-    if are_at_index at numbers then emit_many at numbers hit miss c
-    else emit_few at numbers hit miss c
-emit_among (Direction.Both Join.And) at numbers hit miss c = block c miss
-
--- the code of a formula that goes on at one of two places
-abbrev pub emit_formula : Link → Formula → ℕ → ℕ → List Insn → Block
-emit_formula link (Single t) hit miss c = emit_elementary t hit miss c
-emit_formula link (Compare comparison l r) hit miss c =
+-- the code of a formula that goes on at one of two places. It comes right after a test, which may
+-- have left its field in A: that counts for a test by which one of two formulas is chosen
+abbrev pub emit_after : Elementary → Link → Formula → ℕ → ℕ → List Insn → Block
+emit_after held link (Single t) hit miss c = emit_elementary t hit miss c
+emit_after held link (Compare comparison l r) hit miss c =
     at_top (emit_relation link comparison l r hit miss c)
-emit_formula link (Both a b) hit miss c =
-    let e = emit_formula link b hit miss c in emit_formula link a e.entry miss e.code
-emit_formula link (Either a b) hit miss c =
-    let e = emit_formula link b hit miss c in emit_formula link a hit e.entry e.code
-emit_formula link (Except a) hit miss c = emit_formula link a miss hit c
-emit_formula link (Split t a b) hit miss c =
-    let no = emit_formula link b hit miss c in
-    let yes = emit_formula link a hit miss no.code in
-    emit_elementary t yes.entry no.entry yes.code
-emit_formula link (Sought d at numbers) hit miss c = emit_among d at numbers hit miss c
+emit_after held link (Both a b) hit miss c =
+    let e = emit_after nothing link b hit miss c in emit_after nothing link a e.entry miss e.code
+emit_after held link (Either a b) hit miss c =
+    let e = emit_after nothing link b hit miss c in emit_after nothing link a hit e.entry e.code
+emit_after held link (Except a) hit miss c = emit_after nothing link a miss hit c
+emit_after held link (Split t a b) hit miss c =
+    let no = emit_after t link b hit miss c in
+    let yes = emit_after t link a hit miss no.code in
+    emit_test held t yes.entry no.entry yes.code
+
+-- the code of a formula by itself
+abbrev pub emit_formula : Link → Formula → ℕ → ℕ → List Insn → Block
+emit_formula link f hit miss c = emit_after nothing link f hit miss c
 
 -- the code of some tests that all have to hold, from the last to the first
 abbrev pub emit_all : List Elementary → ℕ → ℕ → List Insn → Block

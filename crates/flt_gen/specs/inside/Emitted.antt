@@ -9,7 +9,8 @@ use Rattle.flt_ast.specs.declared.qualifiers.CompleteQualifiers.{CompleteQualifi
 use Rattle.flt_ast.specs.declared.{qualifiers.Direction.Direction, value.Value.Value}
 use Rattle.cap_octet.specs.{Link.network_offset, declared.link.Link.Link}
 use Rattle.flt_gen.specs.Elementary.{kind_test}
-use Rattle.flt_gen.specs.Formula.{Formula, Compare, Sought, Numbers, checked_formula, sides}
+use Rattle.flt_gen.specs.Formula.{Formula, Compare, checked_formula, sides}
+use Rattle.flt_gen.specs.inside.Search.{Numbers, sought_formula}
 use Rattle.flt_gen.specs.Primitives.{after, ip6_tests, value_formula, in_net, is_port, in_range}
 use Rattle.flt_gen.specs.declared.elementary.Elementary.{Elementary}
 use Rattle.flt_gen.specs.declared.elementary.Elementary.TheVariants.{Outcome, Field}
@@ -111,8 +112,8 @@ qualified_needed link q v = value_needed link q.value_type q.protocol q.directio
 -- ---- one value, or several numbers
 
 -- what is looked for at the places of addresses or ports
-abbrev pub wanted_formula : Wanted → Numbers → Sides → Formula
-wanted_formula (Wanted.Net direction mask address) numbers = in_net direction mask address
-wanted_formula (Wanted.Port direction n) numbers = is_port direction n
-wanted_formula (Wanted.Ports direction a b) numbers = in_range direction a b
-wanted_formula (Wanted.Several direction) numbers = λ at. Sought direction at numbers
+abbrev pub wanted_formula : Link → Wanted → Numbers → Sides → Formula
+wanted_formula link (Wanted.Net direction mask address) numbers = in_net direction mask address
+wanted_formula link (Wanted.Port direction n) numbers = is_port direction n
+wanted_formula link (Wanted.Ports direction a b) numbers = in_range direction a b
+wanted_formula link (Wanted.Several direction) numbers = λ at. sought_formula link direction at numbers

@@ -14,7 +14,8 @@ use Rattle.flt_ast.specs.declared.qualifiers.Direction.{Direction}
 use Rattle.flt_ast.specs.declared.value.{Ip4Net.Ip4Net, Value.Value}
 use Rattle.cap_octet.specs.declared.link.Link.{Link}
 use Rattle.flt_gen.specs.Elementary.{with}
-use Rattle.flt_gen.specs.Formula.{Formula, Single, Both, Either, Except, Sought, Numbers, guarded_formula}
+use Rattle.flt_gen.specs.Formula.{Formula, Single, Both, Either, Except, guarded_formula}
+use Rattle.flt_gen.specs.inside.Search.{Numbers, sought_formula}
 use Rattle.flt_gen.specs.Primitives.{hosts_formula, port_formula}
 use Rattle.flt_gen.specs.{Numbers.accessor_tests, Reading.formula, declared.cases.Case.Case}
 use Rattle.flt_gen.specs.declared.elementary.{Elementary.TheVariants.Outcome, Interval.Interval}
@@ -230,13 +231,13 @@ numbers_of group = sought (has_networks group) group.first group.all
 -- one of several members with these numbers
 abbrev pub several_formula : Link → CompleteQualifiers → ValueType → Numbers → Formula
 several_formula link q Host numbers =
-    hosts_formula link q.protocol (λ at. Sought q.direction at numbers)
+    hosts_formula link q.protocol (λ at. sought_formula link q.direction at numbers)
 several_formula link q Net numbers =
-    hosts_formula link q.protocol (λ at. Sought q.direction at numbers)
+    hosts_formula link q.protocol (λ at. sought_formula link q.direction at numbers)
 several_formula link q Port numbers =
-    port_formula link q.protocol (λ at. Sought q.direction at numbers)
+    port_formula link q.protocol (λ at. sought_formula link q.direction at numbers)
 several_formula link q PortRange numbers =
-    port_formula link q.protocol (λ at. Sought q.direction at numbers)
+    port_formula link q.protocol (λ at. sought_formula link q.direction at numbers)
 several_formula link q _ numbers = Single (Outcome false)
 
 -- a member by itself

@@ -1,7 +1,7 @@
 -- Intervals that ascend by their beginnings, and the bits of their numbers that are looked at.
 use Rattle.std.specs.List.{list_all}
 use Rattle.std.specs.Prelude.{ℕ, zero, suc, ◌-◌, ◌^◌, ◌==◌, ◌&&◌, nat_lt, max, bit_and, Bool, if◌then◌else◌, List, [], ◌∷◌, map, count_by, Option, Some, None}
-use Rattle.flt_gen.specs.{Formula.Numbers, declared.elementary.Interval.Interval}
+use Rattle.flt_gen.specs.{inside.Search.Numbers, declared.elementary.Interval.Interval}
 
 -- an interval that nothing looks for
 abbrev pub no_interval : Interval

@@ -1,27 +1,30 @@
 -- A decision by its parts.
 use Rattle.flt_gen.proofs.Common.{◌≡◌, ◌+◌, ◌-◌, ◌∙◌, take_rest, sym, ap, arith, None, true, false, Formula}
-use Rattle.flt_gen.proofs.Decision.{decision_chain, decision_same, decision_told, decision_halves}
+use Rattle.flt_gen.proofs.Decision.{chain_after, decision_chain, decision_same, decision_told, decision_halves}
 use Rattle.std.specs.Prelude.{is_none}
 use Rattle.std.proofs.Common.{rules, inl, inr}
 use Rattle.flt_gen.specs.declared.cases.Bound.TheVariants.{Exactly}
 use Rattle.flt_gen.specs.inside.Cases.{case_tests, all_keep, is_parted, test_at, lowest, decision}
-use Rattle.flt_gen.specs.inside.Code.{emit_formula}
+use Rattle.flt_gen.specs.inside.Code.{emit_after}
 use Rattle.flt_gen.proofs.code.Code.+emit_decision.Goals as goal
 use Rattle.flt_gen.proofs.code.Code.+emit_decision.Goals.{then-most-eq0-via-then-most-eq0, then-most-eq0-via-else-most-eq0+then-cases-few}
 
 pub returns-then-most-eq0 : goal.returns-then-most-eq0
 returns-then-most-eq0 g t c =
     let a = c.args in
-    rw (decision_chain a.few a.most (case_tests a.link a.direction) a.word a.cases.now (elim c.then-most-eq0.branch [
-      | then-most-eq0-via-then-most-eq0 w ↦ inl (let none = w.if-most-eq0.true in omega arith)
-      | then-most-eq0-via-else-most-eq0+then-cases-few w ↦ inr (let few = w.if-cases-few.true in omega arith)
-    ])) c.emit_cases_in_turn.ensures
+    rw (
+      decision_chain a.few a.most (case_tests a.link a.direction) a.word a.cases.now (elim c.then-most-eq0.branch [
+        | then-most-eq0-via-then-most-eq0 w ↦ inl (let none = w.if-most-eq0.true in omega arith)
+        | then-most-eq0-via-else-most-eq0+then-cases-few w ↦ inr (let few = w.if-cases-few.true in omega arith)
+      ]),
+      chain_after a.held a.link (case_tests a.link a.direction) a.word a.cases.now a.to.yes a.to.no a.self.now,
+    ) c.emit_cases_in_turn.ensures
 
 pub returns-in_default : goal.returns-in_default
 returns-in_default g t c =
     let a = c.args in
     let by = case_tests a.link a.direction in
-    ap (λ (x : Formula). emit_formula a.link x a.to.yes a.to.no a.self.now)
+    ap (λ (x : Formula). emit_after a.held a.link x a.to.yes a.to.no a.self.now)
     (sym (decision_same a.few a.most by a.word a.cases.now (omega arith) (omega arith) None (sym c.in_default.is ∙ c.test_at-test.ensures)
     (sym c.if-all_keep.true ∙ c.all_keep.ensures ∙ ap (λ n. all_keep by a.word (Exactly n) a.cases.now) (c.lowest.ensures ∙ ap lowest c.in_default.is))))
 
@@ -50,10 +53,12 @@ returns-then-not-is_parted g t c =
     let a = c.args in
     let by = case_tests a.link a.direction in
     let whole : false ≡ is_parted by a.word a.cases.now c.middle-at.result = search rules in
-    rw (← decision_halves a.few a.most by a.word a.cases.now (omega arith) (omega arith) c.test_at-test.result c.middle-at.result false
-    c.test_at-test.ensures c.middle-at.ensures
-    (sym c.if-all_keep.false ∙ c.all_keep.ensures ∙ ap (λ n. all_keep by a.word (Exactly n) a.cases.now) c.lowest.ensures) whole)
-    c.emit_cases_in_turn-then-not-is_parted.ensures
+    rw (
+      ← decision_halves a.few a.most by a.word a.cases.now (omega arith) (omega arith) c.test_at-test.result c.middle-at.result false
+          c.test_at-test.ensures c.middle-at.ensures
+          (sym c.if-all_keep.false ∙ c.all_keep.ensures ∙ ap (λ n. all_keep by a.word (Exactly n) a.cases.now) c.lowest.ensures) whole,
+      chain_after a.held a.link by a.word a.cases.now a.to.yes a.to.no a.self.now,
+    ) c.emit_cases_in_turn-then-not-is_parted.ensures
 
 pub returns : goal.returns
 returns g t c =
@@ -66,8 +71,9 @@ returns g t c =
           (sym c.if-all_keep.false ∙ c.all_keep.ensures ∙ ap (λ n. all_keep by a.word (Exactly n) a.cases.now) c.lowest.ensures) apart,
       ← c.test_at-2.ensures,
       ← c.lowest-number.ensures,
-      ← c.from_test.ensures,
+      ← c.from_test-half.ensures,
       c.in_ok-no.ensures,
-      ap (λ cs. emit_formula a.link (decision a.few (a.most - 1) by a.word cs) a.to.yes a.to.no c.emit_decision-2.new.self) (sym (take_rest a.cases.now at))
+      ap (λ cs. emit_after c.from_test-half.result a.link (decision a.few (a.most - 1) by a.word cs) a.to.yes a.to.no c.emit_decision-2.new.self)
+          (sym (take_rest a.cases.now at))
           ∙ c.in_ok-yes-2.ensures,
-    ) c.emit_elementary-2.ensures
+    ) c.emit_test.ensures
