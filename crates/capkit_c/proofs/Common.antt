@@ -26,11 +26,11 @@ pub use Rattle.capkit_c.specs.Portable.{sign_bit, half_sign_bit, operation_keeps
 pub use Rattle.capkit_c.specs.Portable.{runs_alike_on_libpcap, is_live_at, operation_wants, is_live_before, live_places, none_read_unwritten, most_attached}
 pub use Rattle.capkit_c.specs.Portable.{is_portable, portability}
 pub use Rattle.capkit_c.specs.Units.{IsPastUnit, IsPacketFound, NextLeaves, Stays, comment_by, ends, fails, finds, is_full, passes, DeclaresOne, IsStop}
-pub use Rattle.capkit_c.specs.Units.{PacketLeaves, PassesUnits, UnitHas, one_passed}
-pub use Rattle.capkit_c.specs.declared.memory.block.{Refusal.Refusal, UnitPacket.UnitPacket}
+pub use Rattle.capkit_c.specs.Units.{PacketLeaves, PassesUnits, one_passed}
 pub use Rattle.capkit_c.specs.declared.memory.layout.{Interface.Interface, Packet.Packet, Reader.Reader}
-pub use Rattle.capkit_c.specs.inside.Blocks.{IsFramed, Following, BlockStands, IsNoBlock, IsOfIfAny, spans_of, BlockPacketIfAny, IsRefusal, LiesIfAny}
-pub use Rattle.capkit_c.specs.inside.Units.{ArePlaced, Begins, IsNoUnit, BeginsWithUnit, Counts, IsAtEnd, IsPlaced, placed_packet}
+pub use Rattle.capkit_c.specs.inside.Skipping.{IsFramed}
+pub use Rattle.capkit_c.specs.inside.Units.{Counts, IsAtEnd, IsPacketAt}
+pub use Rattle.cap_io.specs.{Reading.UnitHas, FirstUnit.BeginsWithUnit, FirstUnit.HoldsPacket, FirstUnit.HoldsPackets}
 pub use Rattle.flt_bpf.specs.Machine.{Next, Goes, Ends, Lost, step_if_there, does, does_if_known, into, word_into, into_word, with_register, held, field}
 pub use Rattle.flt_bpf.specs.Machine.{compute, operand_value, test_holds, header_length, run_from, progress_after, machine, start}
 pub use Rattle.flt_bpf.specs.declared.insn.Insn.{Insn}
