@@ -10,16 +10,12 @@ ghost use Rattle.cap_io.specs.declared.file_state.FileState.TheVariants as state
 ghost use Rattle.cap_pcapng.specs.declared.effect.BlockEffect.TheVariants as does;
 
 use crate::file_state::FileState;
-use crate::pcap::record_spans;
+use crate::next_unit::FILE_HEADER_LENGTH;
+use crate::pcap::{RECORD_HEADER_LENGTH, record_spans};
+use crate::pcapng::BLOCK_FRONT;
 use cap_octet::Fault;
 use cap_pcap::{Head, read_head, read_magic, read_record};
 use cap_pcapng::{BlockEffect, Interfaces, PacketSpans, begins_section, block_effect, frame};
-
-/// How many bytes the file header of pcap has.
-const FILE_HEADER_LENGTH: usize = 24;
-
-/// How many bytes of a record are in front of its data.
-const RECORD_HEADER_LENGTH: usize = 16;
 
 /// A unit that fails no check.
 #[derive(Clone, Copy)]
@@ -122,7 +118,7 @@ pub(crate) fn block_in<'a, T: Interfaces>(
         → front_of (declared_by file.now (T.list table.now)) bytes.now ≡ NoUnit (Some fault)) }
 {
     // 12 bytes, the length of the shortest block, show its frame.
-    let Some(front) = bytes.first_chunk::<12>() else {
+    let Some(front) = bytes.first_chunk::<BLOCK_FRONT>() else {
         return Err(Fault::Truncated);
     };
     let frame = match frame(file.order(), front) {

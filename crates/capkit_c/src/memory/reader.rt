@@ -124,6 +124,8 @@ pub fn next_unit(
         entries: table,
         count,
     };
+    // Apart from the other units, though `unit_in` finds records too: so the compiler knows that each
+    // has a packet.
     if let FileState::Pcap(head) = form {
         return match record_in(&head, text) {
             Ok(spans) => {
