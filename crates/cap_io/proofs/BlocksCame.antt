@@ -6,7 +6,7 @@ use Rattle.cap_io.proofs.Common.{SectionParts, block_checks, parts_in, frame_che
 use Rattle.cap_io.proofs.Common.{checks_among, frame_after, interfaces_before, order_before, packet_by, packets_in, parts_after, section_after, section_by}
 use Rattle.cap_io.proofs.Common.{unit_fault, passes, frame_checks-append, frame_in-append, unit_fault-frame, unit_fault-short, unit_fault-block}
 use Rattle.cap_io.proofs.Common.{unit_fault-among, parts_in-append, block_checks-append, Frame, Enters, PacketIfAny, held_packet, section_of, AddsInterface}
-use Rattle.cap_io.proofs.Common.{IsEntryFault, most_in_unit, block_length, RestMissing, span_bytes, is_interface, PacketSpans}
+use Rattle.cap_io.proofs.Common.{IsBlockFault, IsEntryFault, most_in_unit, block_length, RestMissing, span_bytes, is_interface, PacketSpans}
 use Rattle.cap_io.proofs.Fronts.{decisive_block_length, length_by_header-whole}
 use Rattle.cap_io.proofs.OwnFaults.{entry-not_failed, own-frame, own-not_failed, own-not_memory}
 
@@ -179,13 +179,13 @@ framed_block before section block more frame is enough none says = record {
   alone = ap (λ o. frame_in o block) is ∙ says;
 }
 
--- a block that doesn't find its place
-pub entry_refused : (before : Option Section) (section : Option Order) (interfaces : List Described) (text unread' block buffer : List ℕ)
+-- a block that fails a check
+pub block_refused : (before : Option Section) (section : Option Order) (interfaces : List Described) (text unread' block buffer : List ℕ)
     (frame : Frame) (fault : Fault)
-    → order_before before ≡ section → interfaces_before before ≡ interfaces → 12 ≤ frame.length → frame.length ≤ most_in_unit → frame.length ≤ length buffer
-    → WholeCame section text buffer frame unread' → block ≡ take frame.length buffer → IsEntryFault frame interfaces block fault
-    → BlockMissing before text unread' fault
-entry_refused before section interfaces text unread' block buffer frame fault is same least small room came block_is entry =
+    → order_before before ≡ section → interfaces_before before ≡ interfaces → 12 ≤ frame.length → frame.length ≤ length buffer
+    → WholeCame section text buffer frame unread' → block ≡ take frame.length buffer → IsBlockFault frame interfaces block fault
+    → unit_fault before text ≡ Some fault
+block_refused before section interfaces text unread' block buffer frame fault is same least room came block_is checked =
     let size : length block ≡ frame.length = ap length block_is ∙ length-take-le frame.length buffer room in
     let splits : text ≡ block ++ unread' = came.splits ∙ ap (λ (l : List ℕ). l ++ unread') (sym block_is) in
     let f = framed_block before section block unread' frame is (omega arith) (ap (frame_fault section) block_is ∙ came.passes)
@@ -197,14 +197,29 @@ entry_refused before section interfaces text unread' block buffer frame fault is
     ∙ ap first_failing (block_checks-append frame block unread' least (omega arith)) in
     let parts : parts_after before (block ++ unread') ≡ parts_in frame block =
     ap (λ (g : Frame). parts_in g (block ++ unread')) f.following ∙ parts_in-append frame block unread' least (omega arith) in
-    let P : List ℕ → Type 0 = λ t. BlockMissing before t unread' fault in
-    subst P (sym splits) (record {
+    let P : List ℕ → Type 0 = λ t. unit_fault before t ≡ Some fault in
+    subst P (sym splits) (elim checked [
+      | inl fails ↦ unit_fault-block before (block ++ unread') fault (omega arith) f.framed (omega arith) (blocked ∙ fails)
+      | inr among ↦ unit_fault-among before (block ++ unread') (omega arith) f.framed (omega arith) (blocked ∙ among.0)
+          ∙ ap₂ (λ (i : List Described) (p : Parts). first_failing (checks_among i p)) same parts ∙ among.1
+    ])
+
+-- a block that doesn't find its place
+pub entry_refused : (before : Option Section) (section : Option Order) (interfaces : List Described) (text unread' block buffer : List ℕ)
+    (frame : Frame) (fault : Fault)
+    → order_before before ≡ section → interfaces_before before ≡ interfaces → 12 ≤ frame.length → frame.length ≤ most_in_unit → frame.length ≤ length buffer
+    → WholeCame section text buffer frame unread' → block ≡ take frame.length buffer → IsEntryFault frame interfaces block fault
+    → BlockMissing before text unread' fault
+entry_refused before section interfaces text unread' block buffer frame fault is same least small room came block_is entry =
+    let size : length block ≡ frame.length = ap length block_is ∙ length-take-le frame.length buffer room in
+    let splits : text ≡ block ++ unread' = came.splits ∙ ap (λ (l : List ℕ). l ++ unread') (sym block_is) in
+    let f = framed_block before section block unread' frame is (omega arith) (ap (frame_fault section) block_is ∙ came.passes)
+    (ap (frame_in section) block_is ∙ came.says) in
+    let whole : block_size before text ≡ frame.length = ap (block_size before) splits ∙ ap (λ (g : Frame). g.length) f.following in
+    let long : length text ≡ length block + length unread' = ap length splits ∙ length-append block unread' in
+    record {
       why = elim entry [
-        | inl checked ↦ elim checked [
-          | inl fails ↦ inl (unit_fault-block before (block ++ unread') fault (omega arith) f.framed (omega arith) (blocked ∙ fails))
-          | inr among ↦ inl (unit_fault-among before (block ++ unread') (omega arith) f.framed (omega arith) (blocked ∙ among.0)
-              ∙ ap₂ (λ (i : List Described) (p : Parts). first_failing (checks_among i p)) same parts ∙ among.1)
-        ]
+        | inl checked ↦ inl (block_refused before section interfaces text unread' block buffer frame fault is same least room came block_is checked)
         | inr memory ↦ inr (inr memory.0)
       ];
       count = frame.length;
@@ -212,8 +227,8 @@ entry_refused before section interfaces text unread' block buffer frame fault is
       upper_bound = small;
       unfinished = λ failed. absurd (entry-not_failed frame interfaces block fault entry failed);
       there = omega (arith, long, size);
-      rest = sym (drop_at block unread' frame.length size);
-    })
+      rest = sym (ap (drop frame.length) splits ∙ drop_at block unread' frame.length size);
+    }
 
 -- what is true of a block with an interface is true of any bytes that begin with it
 pub record Describes (before : Option Section) (text : List ℕ) : Type 0 where

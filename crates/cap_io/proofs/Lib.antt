@@ -17,3 +17,4 @@ pub mod PcapBack
 pub mod PcapngBack
 pub mod CapturesCame
 pub mod Merging
+pub mod FirstUnits

@@ -99,7 +99,7 @@ first_met : (met : Bool) (fault : Fault) (rows : List (Bool × Fault)) → first
 first_met true fault rows none = refl
 first_met false fault rows none = (cc)
 
-one_more : (order : Order) (interfaces : List Described) (d : Described) (parts : Parts) → section_by (Some (section_of order interfaces)) order
+pub one_more : (order : Order) (interfaces : List Described) (d : Described) (parts : Parts) → section_by (Some (section_of order interfaces)) order
     parts ≡ section_of order (interfaces ++ d ∷ [])
     → first_failing (checks_among interfaces parts) ≡ None → (length interfaces < most_interfaces) × (is_interface parts ≡ true)
 one_more order interfaces d (InterfaceParts link snap own options) section among =

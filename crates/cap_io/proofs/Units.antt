@@ -75,7 +75,7 @@ record-front head bytes more is =
     front_of-record head (bytes ++ more) p.0
     ∙ rw (p.1, take_at bytes more (length bytes) refl) refl
 
-block-front : (first : Option ℕ) (before : Option Section) (bytes more : List ℕ) → IsBlock before bytes
+pub block-front : (first : Option ℕ) (before : Option Section) (bytes more : List ℕ) → IsBlock before bytes
     → block_unless (unit_fault before (bytes ++ more)) first before (bytes ++ more) ≡ Whole (length bytes) (packets_in before bytes)
     (file_after first before bytes)
 block-front first before bytes more is =

@@ -2,6 +2,7 @@
 pub mod Capture
 pub mod Sequence
 pub mod Reading
+pub mod FirstUnit
 pub mod Source
 pub mod Text
 pub mod Numbering

@@ -4,7 +4,7 @@ use Rattle.std.specs.Prelude.{◌≡◌, ℕ, ◌<◌, ◌≤◌, ◌⊎◌, tru
 use Rattle.cap_octet.specs.{Checks.first_failing, Packet.Captured}
 use Rattle.cap_octet.specs.declared.fault.Fault.{Fault, TheVariants.NoMemory, TheVariants.ReadFailed}
 use Rattle.cap_pcap.specs.{Header.form_in, Record.field_checks, Record.record_size}
-use Rattle.cap_pcapng.specs.{Comment.comment_in, Effect.is_interface, Effect.span_bytes}
+use Rattle.cap_pcapng.specs.{Comment.comment_in, Effect.LieAsSaid, Effect.is_interface, Effect.span_bytes}
 use Rattle.cap_pcapng.specs.{Frame.frame_checks, Frame.most_block, Interface.Described}
 use Rattle.cap_pcapng.specs.Unit.{Section, block_size, order_before, packet_of, parts_after, unit_fault}
 use Rattle.cap_pcapng.specs.declared.effect.PacketSpans.{PacketSpans}
@@ -122,3 +122,13 @@ packet_in_unit (PcapngFile first section) spans block =
     (λ (i : Described). packet_of i spans.time spans.orig (span_bytes spans.bytes block)
     (comment_in section.order (span_bytes spans.options block)))
     (slice_get section.interfaces spans.interface)
+
+-- the interface's number, and the spans of data and options in the unit at the start of these
+-- bytes; a record's data is after its header of 16 bytes, and it has no interface (0) and no
+-- options
+abbrev pub UnitHas : Declared → List ℕ → PacketSpans → Type 0
+UnitHas Nothing text spans = ⊥
+UnitHas (PcapFile head) text spans =
+    (spans.interface ≡ 0) × (spans.bytes.start ≡ 16)
+    × (spans.options ≡ record { start = 16; length = 0 })
+UnitHas (PcapngFile first section) text spans = LieAsSaid (parts_after (Some section) text) spans

@@ -14,7 +14,7 @@ use cap_pcapng::{PacketSpans, Table, begins_section};
 use std::alloc::Allocator;
 
 /// How many bytes the file header of pcap has.
-const FILE_HEADER_LENGTH: usize = 24;
+pub(crate) const FILE_HEADER_LENGTH: usize = 24;
 
 /// Reads the first four bytes of a file, which show its format; `NotACaptureFile` if it has
 /// fewer, `ReadFailed` if the device failed.

@@ -17,7 +17,7 @@ use cap_pcapng::{PacketSpans, Span};
 use std::alloc::Allocator;
 
 /// How many bytes of a record are in front of its data.
-const RECORD_HEADER_LENGTH: usize = 16;
+pub(crate) const RECORD_HEADER_LENGTH: usize = 16;
 
 /// Reads the file header of pcap, whose first four bytes came already. If these aren't a magic
 /// number, the error is `NotACaptureFile`, and no more is read. Otherwise it is `Truncated` or

@@ -8,6 +8,7 @@ ghost use Rattle.cap_io.specs.{Reading.declared_by, Capture.first_link_after};
 ghost use Rattle.cap_io.specs.inside.Reading.{known_order};
 
 use crate::file_state::{FileState, NextUnit};
+use crate::first_unit::block_in;
 use crate::lending::Lending;
 use crate::next_unit::UnitReader;
 use crate::unit::{make_room, read_front, read_rest};
@@ -79,24 +80,18 @@ pub(crate) fn lend_block<I: Input, A: Allocator>(
     ensures nothing { result ≡ false → (input.new.input ≡ input.old.input)
         × (input.new.lent ≡ input.old.lent) × (spans.new ≡ spans.old) }
 {
-    let FileState::Pcapng(order, _) = *file else {
+    let FileState::Pcapng(_, _) = *file else {
         return false;
     };
     let hand = input.next_bytes();
-    let Some(front) = hand.first_chunk::<BLOCK_FRONT>() else {
+    let Ok(found) = block_in(file, table, hand) else {
         return false;
     };
-    let Ok(found) = frame(Some(order), front) else {
+    let BlockEffect::Packet(packet) = found.effect else {
         return false;
     };
-    let size = found.length as usize;
-    if size > room || size > hand.len() {
-        return false;
-    }
-    let Ok(BlockEffect::Packet(packet)) = block_effect(table, &found, &hand[..size]) else {
-        return false;
-    };
-    if !input.lend(size) {
+    let size = found.size;
+    if size > room || !input.lend(size) {
         return false;
     }
     *spans = packet;

@@ -16,7 +16,8 @@ use Rattle.cap_pcapng.specs.declared.interface.Interface.{Interface as PcapngInt
 use Rattle.cap_pcapng.specs.Frame.{length_in, magic_order, most_block}
 use Rattle.cap_pcapng.proofs.Units.{unit_fault-few}
 use Rattle.cap_io.specs.Capture.{Front, unit_unless}
-use Rattle.capkit_c.proofs.{Leaves.declared_after, Leaves.declared_as, Leaves.is_after, Stands.frame_fails}
+use Rattle.cap_io.proofs.FirstUnits.{frame_fails}
+use Rattle.capkit_c.proofs.Leaves.{declared_after, declared_as, is_after}
 use Rattle.capkit_c.specs.Layout.{described_of}
 use Rattle.capkit_c.specs.Skipping.{PastUnit, SkipLeaves, found_at, found_in_front, found_with, goes_past, interface_count, is_cut, offset_of_no_time, past_at}
 use Rattle.capkit_c.specs.Skipping.{past_by, past_front, past_interface, refused_part, stays, unread_interface, with_interface}

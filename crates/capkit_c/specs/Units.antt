@@ -2,9 +2,10 @@
 use Rattle.std.specs.{List.slice_get, Option.option_map}
 use Rattle.std.specs.Prelude.{◌≡◌, ℕ, ◌+◌, ◌<◌, ◌≤◌, List, [], ◌∷◌, ◌++◌, length, take, drop, Option, Some, None}
 use Rattle.cap_octet.specs.{Packet.Captured, declared.fault.Fault.Fault}
-use Rattle.cap_pcapng.specs.{Comment.comment_in, Effect.LieAsSaid, Interface.Described}
-use Rattle.cap_pcapng.specs.{Unit.Section, Unit.parts_after, declared.effect.PacketSpans.PacketSpans}
+use Rattle.cap_pcapng.specs.{Comment.comment_in, Interface.Described, Unit.Section}
+use Rattle.cap_pcapng.specs.declared.effect.PacketSpans.{PacketSpans}
 use Rattle.cap_io.specs.Capture.{Declared, Nothing, PcapFile, PcapngFile, Whole, NoUnit, first_link_of, front_of}
+use Rattle.cap_io.specs.Reading.{UnitHas}
 use Rattle.capkit_c.specs.Layout.{HasLink, declared_in, most_known}
 use Rattle.capkit_c.specs.declared.memory.layout.Interface.{Interface}
 use Rattle.capkit_c.specs.declared.memory.{layout.Packet.Packet, layout.Reader.Reader, reader.Found.Found}
@@ -32,16 +33,6 @@ pub record DeclaresOne (declared : Declared) (text : List ℕ)
   pub interface : Described
   pub front : front_of declared text ≡ Whole size [] (PcapngFile first section)
   pub more : section.interfaces ≡ interfaces ++ interface ∷ []
-
--- the interface's number, and the spans of data and options in the unit at the start of these
--- bytes; a record's data is after its header of 16 bytes, and it has no interface (0) and no
--- options
-abbrev pub UnitHas : Declared → List ℕ → PacketSpans → Type 0
-UnitHas Nothing text spans = ⊥
-UnitHas (PcapFile head) text spans =
-    (spans.interface ≡ 0) × (spans.bytes.start ≡ 16)
-    × (spans.options ≡ record { start = 16; length = 0 })
-UnitHas (PcapngFile first section) text spans = LieAsSaid (parts_after (Some section) text) spans
 
 -- a packet of the unit at this offset of a capture, and the places of its parts
 pub record IsPacketFound (capture : List ℕ) (offset : ℕ) (declared : Declared) (p : Packet)

@@ -1,11 +1,11 @@
 //! Captures in memory, pcap and pcapng, one unit at a time, read and written. What is known of one
 //! that is read, between two units, is the caller's, in C's layout. Nothing here takes memory.
 
-mod block;
 mod layout;
 mod pcap;
 mod reader;
 mod skip;
+mod table;
 mod writer;
 mod writing;
 

@@ -9,7 +9,7 @@ use Rattle.cap_octet.specs.declared.number.Order.{Order}
 use Rattle.cap_pcap.specs.{Header.IsHeader, declared.header.Head.Head, declared.header.RecordHead.RecordHead}
 use Rattle.cap_pcapng.specs.{Frame.is_section, Interface.Described, Interface.FitSection}
 use Rattle.cap_pcapng.specs.{Unit.Section, declared.effect.PacketSpans.PacketSpans}
-use Rattle.cap_io.specs.Capture.{Declared, Nothing, PcapFile, PcapngFile, IsUnit, NoUnit, first_link_after, front_of}
+use Rattle.cap_io.specs.Capture.{Declared, Nothing, PcapFile, PcapngFile, IsUnit, NoUnit, first_link_after, front_of, is_pcapng}
 use Rattle.cap_io.specs.Reading.{most_in_unit, read_failures, IsTaken, TakesMemory, held_length, IsReason, declared_by, packet_in_unit}
 use Rattle.cap_io.specs.declared.file_state.{FileState.FileState, NextUnit.NextUnit}
 use Rattle.cap_io.specs.declared.{lending.Lending.Lending, next_unit.UnitReader.UnitReader}
@@ -205,6 +205,13 @@ abbrev pub BeginsBlock : FileState → List ℕ → Type 0
 BeginsBlock FileState.Unknown front = is_section front ≡ true
 BeginsBlock (FileState.Pcap head) front = ⊥
 BeginsBlock (FileState.Pcapng order first) front = Unit {0}
+
+-- Whether a block may begin here: in pcapng always, in pcap never; before the first unit, if the
+-- bytes begin with the type of a section header.
+abbrev pub BeginsAt : FileState → List ℕ → Type 0
+BeginsAt FileState.Unknown text = is_pcapng text ≡ true
+BeginsAt (FileState.Pcap head) text = ⊥
+BeginsAt (FileState.Pcapng order first) text = Unit {0}
 
 -- The effect of a call that reads a unit of which `front` was read before (often nothing): on the
 -- device, the buffer, the spans of the packet, the table and the state of the file. A fault changes

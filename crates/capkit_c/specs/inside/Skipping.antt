@@ -1,16 +1,15 @@
 -- The steps of skipping a refused unit.
 use Rattle.std.specs.Prelude.{◌≡◌, ℕ, ◌+◌, ◌<◌, ◌≤◌, ◌⊎◌, List, [], length, drop, Option, Some, None}
-use Rattle.cap_octet.specs.declared.{fault.Fault.Fault, number.Order.Order}
+use Rattle.cap_octet.specs.{Checks.first_failing, declared.fault.Fault.Fault, declared.number.Order.Order}
 use Rattle.cap_io.specs.Capture.{first_link_of}
 use Rattle.cap_io.specs.{Reading.declared_by, declared.file_state.FileState.FileState}
-use Rattle.cap_pcapng.specs.{Block.InterfaceParts, Block.parts_in, Interface.description_of}
-use Rattle.cap_pcapng.specs.Unit.{Section, order_before, unit_fault}
+use Rattle.cap_pcapng.specs.{Block.InterfaceParts, Block.parts_in, Frame.frame_checks, Interface.description_of}
+use Rattle.cap_pcapng.specs.Unit.{Section, frame_after, order_before, unit_fault}
 use Rattle.cap_pcapng.specs.declared.{frames.Frame.Frame, interface.Interface.Interface}
 use Rattle.capkit_c.specs.Layout.{HasLink, reader_form}
 use Rattle.capkit_c.specs.Skipping.{past_interface, refused_part, unread_interface}
 use Rattle.capkit_c.specs.declared.memory.{layout.Reader.Reader, reader.Found.Found}
 use Rattle.capkit_c.specs.declared.memory.skip.{RefusedPart.RefusedPart, Skip.Skip}
-use Rattle.capkit_c.specs.inside.Blocks.{IsFramed}
 
 -- the reader is past a unit of this size, and its file is in this state
 pub record HasMoved (capture : List ℕ) (size : ℕ) (form : FileState) (count : ℕ)
@@ -31,6 +30,11 @@ Moves capture size form count r r' (Skip.Not found) =
 abbrev pub RefusesForm : Option Section → List ℕ → Type 0
 RefusesForm before text =
     (fault : Fault) → unit_fault before text ≡ Some fault → refused_part fault ≡ RefusedPart.Form
+
+-- this is the frame of the block at the start of these bytes, which fails none of its checks
+pub record IsFramed (before : Option Section) (text : List ℕ) (frame : Frame) : Type 0 where
+  pub passes : first_failing (frame_checks (order_before before) text) ≡ None
+  pub says : frame_after before text ≡ frame
 
 -- the frame of the complete block at the start of these bytes, in a section of this byte order;
 -- None if its form is refused

@@ -1,21 +1,16 @@
 //! The units of a capture in memory, one at a time.
-ghost use Rattle.std.specs.Prelude.{◌≡◌, ℕ, ◌+◌, ◌^◌, ◌≤◌, ◌<◌, IfOk, IfErr, IsTrue, OnErr, List};
-ghost use Rattle.std.specs.Prelude.{false, drop, length, take};
-ghost use Rattle.cap_pcapng.specs.{Effect.section_of, Interface.Described};
-ghost use Rattle.cap_io.specs.Capture.{first_link_after, is_pcapng};
-ghost use Rattle.capkit_c.specs.inside.Units.{Begins, Counts, IsBare, IsNoUnit, IsAtEnd, IsSomeFor};
+ghost use Rattle.std.specs.Prelude.{◌≡◌, ◌+◌, ◌^◌, ◌≤◌, ◌<◌, IsTrue, List, false, drop, length, take};
+ghost use Rattle.cap_io.specs.{FirstUnit.IsSomeFor, Reading.declared_by};
+ghost use Rattle.cap_io.specs.inside.Reading.{HasInterface};
+ghost use Rattle.capkit_c.specs.inside.Units.{Counts, IsAtEnd, IsBare, IsFull, IsPacketAt};
 ghost use Rattle.capkit_c.specs.Layout.{declared_in, first_interfaces, reader_form};
 ghost use Rattle.capkit_c.specs.Units.{NextLeaves, PacketLeaves, comment_by};
-ghost use Rattle.capkit_c.specs.inside.Units.{BeginsWithUnit, IsFull, placed_packet};
-ghost use Rattle.cap_io.specs.declared.file_state.FileState.TheVariants as form;
 
-use crate::memory::block::{Refusal, UnitPacket, read_block};
 use crate::memory::layout::{Interface, Packet, Reader};
-use crate::memory::pcap::{FILE_HEADER, RECORD_HEADER, header_in, record_header_in};
-use cap_io::FileState;
-use cap_octet::{Fault, Order};
-use cap_pcap::Head;
-use cap_pcapng::{Options, begins_section};
+use crate::memory::table::{KnownInterfaces, enter};
+use cap_io::{FileState, record_in, unit_in};
+use cap_octet::Fault;
+use cap_pcapng::{BlockEffect, Interfaces, Options, PacketSpans};
 
 /// The result of a call.
 #[derive(Clone, Copy)]
@@ -32,19 +27,6 @@ pub enum Found {
     Fault(Fault),
 }
 
-/// A unit that was read.
-#[derive(Clone, Copy)]
-struct ReadUnit {
-    /// In bytes.
-    size: usize,
-    /// The state of the file after it.
-    form: FileState,
-    /// The number of interfaces of the section after it.
-    interfaces: usize,
-    /// Its packet, if it has one.
-    packet: Option<UnitPacket>,
-}
-
 /// The bytes from a place on; none if it is past the end.
 pub(crate) fn bytes_from(text: &[u8], at: usize) -> &[u8]
     ensures { result.now ≡ drop at text.now }
@@ -55,158 +37,39 @@ pub(crate) fn bytes_from(text: &[u8], at: usize) -> &[u8]
     }
 }
 
-/// Whether a file that begins with this text is pcapng: with the type of a section header.
-fn is_pcapng(text: &[u8]) -> bool
-    ensures { result ≡ is_pcapng text.now }
+/// The packet at these spans of the unit at place `at` of a capture, with its places from the
+/// capture's start. Its interface is known, if the file isn't pcap.
+fn packet_at(
+    at: usize,
+    file: &FileState,
+    known: &KnownInterfaces<'_>,
+    spans: &PacketSpans,
+) -> Packet
+    requires bytes { at + spans.now.bytes.start < 2 ^ 64 }
+    requires options { at + spans.now.options.start < 2 ^ 64 }
+    requires known { HasInterface (declared_by file.now (first_interfaces known.now.count
+        known.now.entries.now)) spans.now }
+    ensures { IsPacketAt at (declared_by file.now (first_interfaces known.now.count
+        known.now.entries.now)) spans.now result }
 {
-    match text.first_chunk::<4>() {
-        Some(first) => begins_section(first),
-        None => false,
-    }
-}
-
-/// The first link type that a file has declared once a block is read: `first`, if one was known
-/// before the block, else that of the first of the `count` interfaces that the section has then;
-/// `None` if there is neither. The section's byte order doesn't matter, so the clause holds for
-/// each. `cap_io` has the same over its `Table`.
-pub(crate) fn first_link_type(first: Option<u16>, table: &[Interface], count: usize) -> Option<u16>
-    requires { count ≤ length table.now }
-    ensures { (order : Order) → result ≡ first_link_after first
-        (section_of order (first_interfaces count table.now)) }
-{
-    if count == 0 {
-        return first;
-    }
-    first.or(table.first().map(|interface| interface.link_type))
-}
-
-/// Reads the record that a text begins with, in a pcap file with this header, or the first check
-/// that it fails. `interfaces`, which says nothing in pcap, is handed on as the count after the
-/// record.
-fn read_record_unit(head: &Head, text: &[u8], interfaces: usize) -> Result<ReadUnit, Refusal>
-    ensures ok { IfOk result (λ step. (known : List Described) (table : List Interface)
-        → interfaces ≤ length table → interfaces ≤ 256 → BeginsWithUnit (form.Pcap head.now) known
-        text.now table step) }
-    ensures err { IfErr result (λ why. (known : List Described) (room : ℕ) → 0 < length text.now
-        → IsNoUnit (form.Pcap head.now) known text.now room why) }
-{
-    match record_header_in(head, text) {
-        Ok(record) => Ok(ReadUnit {
-            size: RECORD_HEADER as usize + record.captured as usize,
-            form: FileState::Pcap(*head),
-            interfaces,
-            packet: Some(UnitPacket {
-                start: RECORD_HEADER,
-                length: record.captured,
-                options_start: RECORD_HEADER,
-                options_length: 0,
-                interface: 0,
-                link_type: head.link,
-                snap: head.snap,
-                time: record.time,
-                orig: record.orig,
-            }),
-        }),
-        Err(fault) => Err(Refusal::Fault(fault)),
-    }
-}
-
-/// Reads the block that a text begins with, in a section of this byte order or, if there is none
-/// yet, as the first block of a file. `first` is the file's first link type so far; the first
-/// `count` of `table` are the section's interfaces. `form`, what is declared before the block, is
-/// only for the contract. A refusal leaves the table unchanged; and none is added to a table of
-/// `count`.
-fn read_block_unit(
-    form: FileState,
-    section: Option<Order>,
-    first: Option<u16>,
-    table: &mut [Interface],
-    count: usize,
-    text: &[u8],
-) -> Result<ReadUnit, Refusal>
-    requires known { count ≤ length table.old }
-    requires bounds { count ≤ 256 }
-    requires begins { Begins form section first (first_interfaces count table.old) text.now }
-    ensures ok { IfOk result (BeginsWithUnit form (first_interfaces count table.old)
-        text.now table.new) }
-    ensures same { length table.new ≡ length table.old }
-    ensures err { IfErr result (IsNoUnit form (first_interfaces count table.old) text.now
-        (length table.old)) }
-    ensures kept { OnErr result (table.new ≡ table.old) }
-    ensures full { count ≡ length table.old → table.new ≡ table.old }
-{
-    match read_block(section, table, count, text) {
-        Ok(read) => {
-            let link = first_link_type(first, table, read.effect.interfaces);
-            Ok(ReadUnit {
-                size: read.size,
-                form: FileState::Pcapng(read.order, link),
-                interfaces: read.effect.interfaces,
-                packet: read.effect.packet,
-            })
+    let (link_type, snap) = match *file {
+        FileState::Unknown => (0, 0),
+        FileState::Pcap(head) => (head.link, head.snap),
+        FileState::Pcapng(_, _) => {
+            let interface = known.get(spans.interface).unwrap();
+            (interface.link, interface.snap)
         }
-        Err(why) => Err(why),
-    }
-}
-
-/// Reads the unit that a text begins with, a file header, a record or a block, by what is declared
-/// of the file. The text isn't empty if a unit was read before. A refusal leaves the table
-/// unchanged; and none is added to a table of `count`.
-fn read_unit(
-    form: FileState,
-    table: &mut [Interface],
-    count: usize,
-    text: &[u8],
-) -> Result<ReadUnit, Refusal>
-    requires known { count ≤ length table.old }
-    requires bounds { count ≤ 256 }
-    requires some { IsSomeFor form text.now }
-    requires none { IsBare form count }
-    ensures ok { IfOk result (BeginsWithUnit form (first_interfaces count table.old)
-        text.now table.new) }
-    ensures same { length table.new ≡ length table.old }
-    ensures err { IfErr result (IsNoUnit form (first_interfaces count table.old) text.now
-        (length table.old)) }
-    ensures kept { OnErr result (table.new ≡ table.old) }
-    ensures full { count ≡ length table.old → table.new ≡ table.old }
-{
-    let (section, first) = match form {
-        FileState::Unknown => {
-            if !is_pcapng(text) {
-                return match header_in(text) {
-                    Ok(head) => Ok(ReadUnit {
-                        size: FILE_HEADER,
-                        form: FileState::Pcap(head),
-                        interfaces: 0,
-                        packet: None,
-                    }),
-                    Err(fault) => Err(Refusal::Fault(fault)),
-                };
-            }
-            (None, None)
-        }
-        FileState::Pcap(head) => return read_record_unit(&head, text, count),
-        FileState::Pcapng(order, first) => (Some(order), first),
     };
-    read_block_unit(form, section, first, table, count, text)
-}
-
-/// A packet of the unit at place `at` of a capture, with its places from the capture's start.
-fn packet_at(at: usize, placed: &UnitPacket) -> Packet
-    requires bytes { at + placed.now.start < 2 ^ 64 }
-    requires options { at + placed.now.options_start < 2 ^ 64 }
-    ensures { result ≡ placed_packet at placed.now }
-{
     Packet {
-        time: placed.time,
-        at: at + placed.start as usize,
-        options_at: at + placed.options_start as usize,
-        captured: placed.length,
-        original: placed.orig,
-        options_length: placed.options_length,
-        interface: placed.interface,
-        snap: placed.snap,
-        link_type: placed.link_type,
+        time: spans.time,
+        at: at + spans.bytes.start as usize,
+        options_at: at + spans.options.start as usize,
+        captured: spans.bytes.length,
+        original: spans.orig,
+        options_length: spans.options.length,
+        interface: spans.interface,
+        snap,
+        link_type,
     }
 }
 
@@ -257,21 +120,38 @@ pub fn next_unit(
     if is_at_end(form, text) {
         return Found::End;
     }
-    let at = reader.offset;
-    match read_unit(form, table, count, text) {
-        Ok(step) => {
-            *reader = Reader::new_at(at + step.size, step.form, step.interfaces);
-            match step.packet {
-                Some(placed) => {
-                    *packet = packet_at(at, &placed);
-                    Found::Packet
-                }
-                None => Found::Unit,
+    let known = KnownInterfaces {
+        entries: table,
+        count,
+    };
+    // Apart from the other units, though `unit_in` finds records too: so the compiler knows that each
+    // has a packet.
+    if let FileState::Pcap(head) = form {
+        return match record_in(&head, text) {
+            Ok(spans) => {
+                let at = reader.offset;
+                *packet = packet_at(at, &form, &known, &spans);
+                *reader = Reader::new_at(at + spans.size as usize, form, count);
+                Found::Packet
             }
-        }
-        Err(Refusal::Fault(fault)) => Found::Fault(fault),
-        Err(Refusal::NoRoom) => Found::NoRoom,
+            Err(fault) => Found::Fault(fault),
+        };
     }
+    let unit = match unit_in(&form, &known, text) {
+        Ok(unit) => unit,
+        Err(fault) => return Found::Fault(fault),
+    };
+    let at = reader.offset;
+    if let BlockEffect::Packet(spans) = unit.effect {
+        *packet = packet_at(at, &unit.file, &known, &spans);
+        *reader = Reader::new_at(at + unit.size, unit.file, count);
+        return Found::Packet;
+    }
+    let Some(count) = enter(table, count, unit.effect) else {
+        return Found::NoRoom;
+    };
+    *reader = Reader::new_at(at + unit.size, unit.file, count);
+    Found::Unit
 }
 
 /// Reads on to the next packet, past units without one: never `Unit` is found. The packet is where

@@ -8,14 +8,16 @@ ghost use Rattle.capkit_c.specs.Skipping.{SkipLeaves, past_at, refused_part, wit
 ghost use Rattle.capkit_c.specs.inside.Skipping.{IsUnread, IsWholeFrame, Moves};
 ghost use Rattle.cap_io.specs.declared.file_state.FileState.TheVariants as form;
 
-use crate::memory::block::append_interface;
 use crate::memory::layout::{Interface, Packet, Reader};
 use crate::memory::pcap::{FILE_HEADER, RECORD_HEADER, head_by_low_bits, record_size};
-use crate::memory::reader::{Found, bytes_from, first_link_type, known_interface_count, next_unit};
-use cap_io::FileState;
+use crate::memory::reader::{Found, bytes_from, known_interface_count, next_unit};
+use crate::memory::table::{KnownInterfaces, append_interface};
+use cap_io::{FileState, first_link_with};
 use cap_octet::{Fault, Order, u16_at, u32_at};
 use cap_pcap::Head;
-use cap_pcapng::{BlockType, Clock, Frame, Interface as PcapngInterface, MOST_INTERFACES, frame};
+use cap_pcapng::{
+    BlockEffect, BlockType, Clock, Frame, Interface as PcapngInterface, MOST_INTERFACES, frame,
+};
 
 /// The ticks per second of an interface whose options aren't read.
 const MICROSECONDS: u64 = 1_000_000;
@@ -200,8 +202,12 @@ fn skip_interface(
     if count == table.len() {
         return Skip::Not(Found::NoRoom);
     }
+    let known = KnownInterfaces {
+        entries: table,
+        count,
+    };
+    let link = first_link_with(first, &known, &BlockEffect::Interface(*interface));
     append_interface(table, count, interface);
-    let link = first_link_type(first, table, count + 1);
     let form = FileState::Pcapng(order, link);
     *reader = Reader::new_at(reader.offset + frame.length as usize, form, count + 1);
     Skip::Past

@@ -1,6 +1,8 @@
 -- The effect of the call is that of reading the unit.
-use Rattle.capkit_c.proofs.Common.{length, refl, subst, first_interfaces, IsNoUnit}
+use Rattle.capkit_c.proofs.Common.{◌∙◌, List, length, refl, sym, subst, ap, declared_by, first_interfaces, front_of, BeginsWithUnit, FileState}
 use Rattle.capkit_c.proofs.Leaves.{all_known, ended, found_packet, full, passed, refused}
+use Rattle.cap_pcapng.specs.Interface.{Described}
+use Rattle.cap_pcapng.specs.declared.effect.BlockEffect.{BlockEffect}
 use Rattle.capkit_c.proofs.memory.reader.next_unit.Goals as goal
 
 pub returns-then-is_at_end-clause-left : goal.returns-then-is_at_end-clause-left
@@ -9,44 +11,67 @@ returns-then-is_at_end-clause-left c =
     c.known_interface_count-count.result
     c.file_state-form.ensures c.known_interface_count-count.ensures.counts c.bytes_from-text.ensures (c.if-is_at_end.ensures.over refl)
 
-pub returns-in-Some-clause-left : goal.returns-in-Some-clause-left
-returns-in-Some-clause-left c =
-    found_packet c.args.capture.now c.bytes_from-text.result.now c.args.reader.now c.new_at.result c.args.table.now c.read_unit.new.table
-    c.args.packet.now c.packet_at.result c.file_state-form.result c.known_interface_count-count.result c.in-Ok.step c.in-Some.placed
-    c.file_state-form.ensures c.known_interface_count-count.ensures.counts c.bytes_from-text.ensures c.in-Ok.ensures.ok c.new_at.ensures.form
-    c.new_at.ensures.interfaces c.new_at.ensures.offset c.in-Some.is c.packet_at.ensures c.new_at.ensures.link
+pub returns-in-Ok-clause-left : goal.returns-in-Ok-clause-left
+returns-in-Ok-clause-left c =
+    let f = c.file_state-form.result in
+    let counted = c.known_interface_count-count.ensures in
+    let known : List Described = first_interfaces c.known_interface_count-count.result c.args.table.now in
+    let spans = c.in-Ok.spans in
+    let head : FileState = FileState.Pcap c.in-Pcap.head in
+    let B : FileState → Type 0 = λ g. BeginsWithUnit g known c.bytes_from-text.result.now
+    (record { size = spans.size; file = head; effect = BlockEffect.Packet spans }) in
+    let new = c.new_at.ensures in
+    found_packet c.args.capture.now c.bytes_from-text.result.now c.args.reader.now c.new_at.result c.args.table.now c.args.packet.now c.packet_at.result f head
+    c.known_interface_count-count.result spans.size spans c.file_state-form.ensures counted.counts counted.fits counted.bounds c.bytes_from-text.ensures
+    (subst B (sym c.in-Pcap.is) (c.in-Ok.ensures.ok known)) new.form new.interfaces new.offset c.packet_at.ensures new.link
 
-pub returns-in-None-clause-left : goal.returns-in-None-clause-left
-returns-in-None-clause-left c =
-    passed c.args.capture.now c.bytes_from-text.result.now c.args.reader.now c.new_at.result c.args.table.now c.read_unit.new.table c.args.packet.now
-    c.file_state-form.result c.known_interface_count-count.result c.in-Ok.step
-    c.file_state-form.ensures c.known_interface_count-count.ensures.counts c.bytes_from-text.ensures c.in-Ok.ensures.ok c.new_at.ensures.form
-    c.new_at.ensures.interfaces c.new_at.ensures.offset c.in-None.is c.new_at.ensures.link
-
-pub returns-in-Err-Fault-clause-left : goal.returns-in-Err-Fault-clause-left
-returns-in-Err-Fault-clause-left c =
-    refused c.args.capture.now c.bytes_from-text.result.now c.args.reader.now c.args.table.now c.read_unit.new.table c.args.packet.now
-    c.file_state-form.result c.known_interface_count-count.result c.in-Err-Fault.fault
+pub returns-in-Err-clause-left : goal.returns-in-Err-clause-left
+returns-in-Err-clause-left c =
+    let known : List Described = first_interfaces c.known_interface_count-count.result c.args.table.now in
+    refused c.args.capture.now c.bytes_from-text.result.now c.args.reader.now c.args.table.now c.args.packet.now c.file_state-form.result
+    c.known_interface_count-count.result c.in-Err.fault
     c.file_state-form.ensures c.known_interface_count-count.ensures.counts c.bytes_from-text.ensures
-    (subst (λ w. IsNoUnit c.file_state-form.result (first_interfaces c.known_interface_count-count.result c.args.table.now)
-    c.bytes_from-text.result.now (length c.args.table.now) w) c.in-Err-Fault.field-0-is c.in-Err-Fault.ensures.err) c.in-Err-Fault.ensures.kept
+    (ap (λ g. front_of (declared_by g known) c.bytes_from-text.result.now) c.in-Pcap.is ∙ c.in-Err.ensures.err)
 
-pub returns-in-Err-NoRoom-clause-left : goal.returns-in-Err-NoRoom-clause-left
-returns-in-Err-NoRoom-clause-left c =
-    full c.args.capture.now c.bytes_from-text.result.now c.args.reader.now c.args.table.now c.read_unit.new.table c.args.packet.now
-    c.file_state-form.result c.known_interface_count-count.result
-    c.file_state-form.ensures c.known_interface_count-count.ensures.counts c.known_interface_count-count.ensures.fits c.bytes_from-text.ensures
-    (subst (λ w. IsNoUnit c.file_state-form.result (first_interfaces c.known_interface_count-count.result c.args.table.now)
-    c.bytes_from-text.result.now (length c.args.table.now) w) c.in-Err-NoRoom.field-0-is c.in-Err-NoRoom.ensures.err) c.in-Err-NoRoom.ensures.kept
+pub returns-in-Err-unit_in-clause-left : goal.returns-in-Err-unit_in-clause-left
+returns-in-Err-unit_in-clause-left c =
+    refused c.args.capture.now c.bytes_from-text.result.now c.args.reader.now c.args.table.now c.args.packet.now c.file_state-form.result
+    c.known_interface_count-count.result c.in-Err-unit_in.fault
+    c.file_state-form.ensures c.known_interface_count-count.ensures.counts c.bytes_from-text.ensures c.in-Err-unit_in.ensures.err
 
-pub returns-in-Some-clause-full : goal.returns-in-Some-clause-full
-returns-in-Some-clause-full c =
-    λ filled. c.in-Ok.ensures.full (all_known c.file_state-form.result c.args.reader.now (length c.args.table.now)
-    c.known_interface_count-count.result c.file_state-form.ensures c.known_interface_count-count.ensures.counts
-    c.known_interface_count-count.ensures.bare filled)
+pub returns-in-Packet-clause-left : goal.returns-in-Packet-clause-left
+returns-in-Packet-clause-left c =
+    let f = c.file_state-form.result in
+    let counted = c.known_interface_count-count.ensures in
+    let known : List Described = first_interfaces c.known_interface_count-count.result c.args.table.now in
+    let unit = c.in-Ok-unit_in.unit in
+    let B : BlockEffect → Type 0 = λ e. BeginsWithUnit f known c.bytes_from-text.result.now
+    (record { size = unit.size; file = unit.file; effect = e }) in
+    let new = c.new_at-in-Packet.ensures in
+    found_packet c.args.capture.now c.bytes_from-text.result.now c.args.reader.now c.new_at-in-Packet.result c.args.table.now c.args.packet.now
+    c.packet_at-in-Packet.result f unit.file c.known_interface_count-count.result unit.size c.in-Packet.spans c.file_state-form.ensures counted.counts
+    counted.fits counted.bounds c.bytes_from-text.ensures (subst B c.in-Packet.is c.in-Ok-unit_in.ensures.ok) new.form new.interfaces new.offset
+    c.packet_at-in-Packet.ensures new.link
 
-pub returns-in-None-clause-full : goal.returns-in-None-clause-full
-returns-in-None-clause-full c =
-    λ filled. c.in-Ok.ensures.full (all_known c.file_state-form.result c.args.reader.now (length c.args.table.now)
+pub returns-in_default-enter-clause-left : goal.returns-in_default-enter-clause-left
+returns-in_default-enter-clause-left c =
+    let counted = c.known_interface_count-count.ensures in
+    full c.args.capture.now c.bytes_from-text.result.now c.args.reader.now c.args.table.now c.enter.new.table c.args.packet.now c.file_state-form.result
+    c.known_interface_count-count.result c.in-Ok-unit_in.unit c.file_state-form.ensures counted.counts counted.fits c.bytes_from-text.ensures
+    c.in-Ok-unit_in.ensures.ok (c.in_default-enter.ensures.none refl) (c.in_default-enter.ensures.kept refl)
+
+pub returns-clause-left : goal.returns-clause-left
+returns-clause-left c =
+    let counted = c.known_interface_count-count.ensures in
+    let entered = c.in-Some.ensures in
+    let new = c.new_at-2.ensures in
+    passed c.args.capture.now c.bytes_from-text.result.now c.args.reader.now c.new_at-2.result c.args.table.now c.enter.new.table c.args.packet.now
+    c.file_state-form.result c.known_interface_count-count.result c.in-Some.count c.in-Ok-unit_in.unit c.file_state-form.ensures counted.counts counted.fits
+    counted.bounds c.bytes_from-text.ensures c.in-Ok-unit_in.ensures.ok entered.entered entered.there new.form new.interfaces new.offset
+    c.in_default-effect.not-Packet new.link
+
+pub returns-clause-full : goal.returns-clause-full
+returns-clause-full c =
+    λ filled. c.in-Some.ensures.full (all_known c.file_state-form.result c.args.reader.now (length c.args.table.now)
     c.known_interface_count-count.result c.file_state-form.ensures c.known_interface_count-count.ensures.counts
     c.known_interface_count-count.ensures.bare filled)

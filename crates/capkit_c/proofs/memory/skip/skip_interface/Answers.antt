@@ -36,7 +36,9 @@ returns c =
     let most : count + 1 ≤ 256 = omega (arith, counted.value, fits) in
     goes_past _ c.requires.unit
     (ap (λ (l : List Described). PcapngFile (first_link_after c.args.first (section_of order l)) (section_of order l)) added
-    ∙ ap (λ link. PcapngFile link (section_of order following)) (sym (c.first_link_type-link.ensures order))
-    ∙ declared_after (form.Pcapng order c.first_link_type-link.result) r' t' (count + 1) new.form new.interfaces inside most)
-    (is_after c.args.capture.now c.args.frame.now.length c.args.reader.now r' t' (form.Pcapng order c.first_link_type-link.result) (count + 1)
+    ∙ ap (λ link. PcapngFile link (section_of order following))
+    (ap (λ (l : List Described). first_link_after c.args.first (section_of order l)) c.append_interface.ensures.put
+    ∙ sym (c.first_link_with-link.ensures order))
+    ∙ declared_after (form.Pcapng order c.first_link_with-link.result) r' t' (count + 1) new.form new.interfaces inside most)
+    (is_after c.args.capture.now c.args.frame.now.length c.args.reader.now r' t' (form.Pcapng order c.first_link_with-link.result) (count + 1)
     new.offset there c.requires.some new.form new.link new.interfaces inside most) same

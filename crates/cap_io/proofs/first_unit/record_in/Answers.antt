@@ -1,0 +1,23 @@
+-- The first 16 bytes determine the record's header, and its data is complete or not.
+use Rattle.cap_io.proofs.Common.{rules}
+use Rattle.cap_io.proofs.FirstUnits.{record-begins, record-cut, record-few, record-refused}
+use Rattle.cap_io.proofs.first_unit.record_in.Goals as goal
+
+pub returns-in_default-clause-err : goal.returns-in_default-clause-err
+returns-in_default-clause-err c = record-few c.args.head.now c.args.bytes.now c.requires.some (search rules)
+
+pub returns-in-Err-clause-err : goal.returns-in-Err-clause-err
+returns-in-Err-clause-err c =
+    let first = c.in-Some.ensures.cases in
+    record-refused c.args.head.now c.args.bytes.now c.in-Some.front.now c.in-Err.fault first.enough first.same c.in-Err.ensures.answer
+
+pub returns-then-bytes-record-clause-err : goal.returns-then-bytes-record-clause-err
+returns-then-bytes-record-clause-err c =
+    let first = c.in-Some.ensures.cases in
+    record-cut c.args.head.now c.args.bytes.now c.in-Some.front.now c.in-Ok.record first.enough first.same c.in-Ok.ensures.answer c.if-bytes-record.true
+
+pub returns-clause-ok : goal.returns-clause-ok
+returns-clause-ok c =
+    let first = c.in-Some.ensures.cases in
+    rw c.record_spans.ensures (λ interfaces. record-begins c.args.head.now interfaces c.args.bytes.now c.in-Some.front.now c.in-Ok.record first.same
+    c.in-Ok.ensures.answer c.if-bytes-record.false c.in-Ok.ensures.in_range c.in-Ok.ensures.short)
