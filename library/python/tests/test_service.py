@@ -15,6 +15,7 @@ import shutil
 import signal
 import socket
 import struct
+import subprocess
 import sys
 import tempfile
 import threading
@@ -66,6 +67,16 @@ def few_descriptors(count=64):
         yield
     finally:
         resource.setrlimit(resource.RLIMIT_NOFILE, limits)
+
+
+class ImportTest(unittest.TestCase):
+    def test_an_import_takes_few_modules(self):
+        """A short program's time is that of its imports, so the package needs none of the slow ones."""
+        text = "import sys; had = {*sys.modules}; sys.path[:0] = sys.argv[1:]; import capkit; print(*{*sys.modules} - had)"
+        words = [sys.executable, "-I", "-c", text, pathlib.Path(capkit.__file__).parents[1]]
+        run = subprocess.run(words, capture_output=True, text=True, check=True)
+        slow = {"dataclasses", "inspect", "logging", "pathlib", "socket", "subprocess", "tempfile", "urllib.parse"}
+        self.assertEqual(slow & set(run.stdout.split()), set())
 
 
 class ErrorsTest(FolderTest):
