@@ -665,6 +665,27 @@ class OutputsTest(FolderTest):
         again(writer.close)
         self.assertEqual(list(capkit.packets(output.bytes)), self.PACKETS)
 
+    def test_a_device_that_is_full_for_a_while(self):
+        """A file has each packet whole whose write returned, even if it took a part of another one."""
+        limits = resource.getrlimit(resource.RLIMIT_FSIZE)
+        self.addCleanup(resource.setrlimit, resource.RLIMIT_FSIZE, limits)
+        for size, format, is_own in itertools.product((60, 4060, 20000, 200000), ("pcapng", "pcap"), (True, False)):
+            resource.setrlimit(resource.RLIMIT_FSIZE, (100001, limits[1]))
+            sure, errors = [], 0
+            with open(os.devnull if is_own else self.path, "wb") as file:
+                with capkit.Writer(self.path if is_own else file, format) as writer:
+                    for number in range(10 + 300000 // size):
+                        try:
+                            writer.write(packet(bytes([number % 256]) * size, time=number))
+                            sure.append(number)
+                        except OSError:
+                            errors += 1
+                            resource.setrlimit(resource.RLIMIT_FSIZE, limits)
+            found = [each.data[0] for each in capkit.packets(self.path)]
+            self.assertTrue(errors)
+            self.assertIn(len(found), (len(sure), len(sure) + errors))
+            self.assertLessEqual({number % 256 for number in sure}, set(found))
+
     def test_an_interrupt_in_the_middle_of_a_packet(self):
         class Interrupts(io.RawIOBase):
             """It takes 50 bytes, is interrupted, and takes the rest."""

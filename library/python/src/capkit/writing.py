@@ -22,6 +22,8 @@ _NO_ROOM_IN_BUFFER = 225
 _MOST_INTERFACES, _MOST_OF_A_NAME = 4096, 255
 # How much an output is given at once of what it didn't take.
 _PIECE = 1 << 16
+# What a buffered file takes whole or not at all; an error may be after a part of more.
+_WHOLE = 4096
 # The numbers of native.PutPacket.
 _put_numbers, _batch_put = struct.Struct("@QNNNNIIH").pack_into, native.batch_put
 
@@ -51,7 +53,9 @@ class Writer:
             raise ValueError(f"format {format!r} is none of {', '.join(formats)}")
         self._target, self._format = target, format
         self._is_own = isinstance(target, (str, os.PathLike))
+        # The file, and what units are given to.
         self._file: Any = None
+        self._output: Any = None
         self._put: Any = native.BatchWriter()
         self._put.state.is_pcapng = format == "pcapng"
         self._put.state.nanoseconds = format == "nsecpcap"
@@ -96,7 +100,7 @@ class Writer:
                 try:
                     length = self._made(packet)
                     # Its own file takes all; another may keep what it is given, and the buffer changes.
-                    if self._is_own and self._is_begun:
+                    if self._is_own and self._is_begun and length <= _WHOLE:
                         self._file.write(self._view[:length])
                         self._is_put = False
                     else:
@@ -197,6 +201,10 @@ class Writer:
         """Gives the output units, whole or not at all: what it doesn't take is kept."""
         if self._file is None:
             self._file = self._opened()
+        self._output = self._file
+        if type(self._file) is io.BufferedWriter and len(units) > _WHOLE:
+            self._file.flush()
+            self._output = self._file.raw
         self._is_put, self._rest = True, memoryview(units)
         try:
             self._give(units)
@@ -223,7 +231,7 @@ class Writer:
         """Gives the output the first units of the rest, which is then what it didn't take."""
         try:
             # By one call, after which a signal's handler may raise an error.
-            self._taken.extend(map(self._file.write, (units,)))
+            self._taken.extend(map(self._output.write, (units,)))
         except BlockingIOError as error:
             self._taken = [getattr(error, "characters_written", 0)]
         self._count()
@@ -237,7 +245,7 @@ class Writer:
         taken = self._taken[0]
         if taken is None:
             # What a raw file says if it is full, and what some other outputs always say.
-            taken = 0 if isinstance(self._file, io.RawIOBase) else most
+            taken = 0 if isinstance(self._output, io.RawIOBase) else most
         if not 0 <= taken <= most:
             self._taken = []
             raise ValueError(f"the output took {taken} of {most} bytes")
@@ -280,7 +288,7 @@ def _is_read(target: Any) -> WriteError:
 def _opened(target: Path) -> Any:
     """A file that is empty now; WriteError if a capture reads it."""
     descriptor = os.open(target, os.O_WRONLY | os.O_CREAT | os.O_CLOEXEC, 0o666)
-    file = open(descriptor, "wb")
+    file = open(descriptor, "wb", io.DEFAULT_BUFFER_SIZE)
     try:
         if is_being_read(descriptor):
             raise _is_read(target)
