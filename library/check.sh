@@ -103,6 +103,13 @@ wait $! || bad=1
 # A fault is reported at once, though more bytes may come.
 { cat ../samples/damaged.pcap && sleep 10; } | timeout 8 out/stream >/dev/null 2>out/stream.txt || true
 test "$(cat out/stream.txt)" = 'stream: -: offset 2631: too long' || { echo 'stream: a fault after the end'; bad=1; }
+# What can't be printed is an error.
+for words in 'compile tcp 1' 'explain tcp' stream; do
+    # shellcheck disable=SC2086  # words
+    status=0 && out/$words <../samples/day.pcap >/dev/full 2>out/full.txt || status=$?
+    { test $status = 1 && grep -q "^${words%% *}: No space left on device$" out/full.txt; } ||
+        { echo "$words: a full output: $status"; bad=1; }
+done
 # What an expression means; and a refused one.
 meaning='((tcp src or dst port 80) or (tcp src or dst port 443)) and (src or dst host 10.0.0.1)'
 for text in 'tcp port 80 or 443 and host 10.0.0.1' "$meaning"; do
