@@ -686,6 +686,26 @@ class OutputsTest(FolderTest):
             self.assertIn(len(found), (len(sure), len(sure) + errors))
             self.assertLessEqual({number % 256 for number in sure}, set(found))
 
+    def test_a_fork_with_packets_in_a_buffer(self):
+        """Neither process writes them again, whichever goes on with the writer."""
+        for format, is_child in itertools.product(("pcapng", "pcap"), (False, True)):
+            text = f"""if True:
+                import os, sys
+                sys.path[:0] = sys.argv[2:]
+                import capkit
+                writer = capkit.Writer(sys.argv[1], {format!r})
+                for number in range(3):
+                    writer.write(capkit.Packet(number, 1, b"text"))
+                child = os.fork()
+                if child:
+                    os.waitpid(child, 0)
+                if {is_child} == (child == 0):
+                    writer.write(capkit.Packet(3, 1, b"text"))
+                """
+            words = [sys.executable, "-I", "-c", text, self.path, pathlib.Path(capkit.__file__).parents[1]]
+            subprocess.run(words, check=True)
+            self.assertEqual(len(list(capkit.packets(self.path))), 4)
+
     def test_an_interrupt_in_the_middle_of_a_packet(self):
         class Interrupts(io.RawIOBase):
             """It takes 50 bytes, is interrupted, and takes the rest."""

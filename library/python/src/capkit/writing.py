@@ -8,6 +8,7 @@ import io
 import os
 import stat
 import struct
+import weakref
 from typing import Any, List, Literal, Optional, Protocol, Union, get_args
 
 from . import native
@@ -272,6 +273,21 @@ class Writer:
         self._is_closed = True
 
 
+# Files that writers opened, each by its descriptor.
+_files: weakref.WeakValueDictionary[int, Any] = weakref.WeakValueDictionary()
+
+
+def _flush_files() -> None:
+    for file in [reference() for reference in _files.valuerefs()]:
+        with contextlib.suppress(OSError, RuntimeError, ValueError):
+            if file is not None:
+                file.flush()
+
+
+# What a buffer has at a fork, two processes have, and each writes at its exit.
+os.register_at_fork(before=_flush_files)
+
+
 def _is_in_a_call() -> RuntimeError:
     return RuntimeError("a writer is called in the middle of its own call")
 
@@ -288,7 +304,7 @@ def _is_read(target: Any) -> WriteError:
 def _opened(target: Path) -> Any:
     """A file that is empty now; WriteError if a capture reads it."""
     descriptor = os.open(target, os.O_WRONLY | os.O_CREAT | os.O_CLOEXEC, 0o666)
-    file = open(descriptor, "wb", io.DEFAULT_BUFFER_SIZE)
+    file = _files[descriptor] = open(descriptor, "wb", io.DEFAULT_BUFFER_SIZE)
     try:
         if is_being_read(descriptor):
             raise _is_read(target)
