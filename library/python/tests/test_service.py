@@ -929,6 +929,22 @@ class OutputsTest(FolderTest):
         self.assertEqual(list(capkit.packets(self.path)), [packet(UDP)])
         del capture
 
+    def test_a_file_that_another_writer_has_open_is_no_output(self):
+        other = self.folder / "other"
+        for link in (os.link, os.symlink):
+            with capkit.Writer(self.path) as first:
+                first.write(packet())
+                with contextlib.suppress(FileNotFoundError):
+                    os.remove(other)
+                link(self.path, other)
+                with self.assertRaisesRegex(capkit.WriteError, "is being written"), capkit.Writer(other) as second:
+                    second.write(packet(UDP))
+                first.write(packet())
+            self.assertEqual(len(list(capkit.packets(self.path))), 2)
+            with capkit.Writer(other) as second:
+                second.write(packet(UDP))
+            self.assertEqual(list(capkit.packets(self.path)), [packet(UDP)])
+
     def test_a_packet_takes_few_calls(self):
         """So writing is fast: what Python's profiler sees of it."""
         for format in ("pcapng", "pcap"):

@@ -14,7 +14,7 @@ from typing import Any, List, Literal, Optional, Protocol, Union, get_args
 from . import native
 from .errors import Check, WriteError
 from .reading import Packet
-from .sources import Path, add_lock, descriptor_of, is_being_read
+from .sources import Path, add_lock, descriptor_of, identity_of, is_being_read
 
 Format = Literal["pcapng", "pcap", "nsecpcap"]
 
@@ -82,9 +82,9 @@ class Writer:
     def write(self, packet: Packet) -> None:
         """Appends a packet, or raises an error and writes nothing of it.
 
-        WriteError if the format can't hold it, or if a Capture reads the file, by its path or as an
-        open file. BlockingIOError if an output takes no bytes now: write the packet again. A pcap file
-        keeps neither comments nor names of interfaces.
+        WriteError if the format can't hold it, if a Capture reads the file, by its path or as an open
+        file, or if another Writer opened it. BlockingIOError if an output takes no bytes now: write
+        the packet again. A pcap file keeps neither comments nor names of interfaces.
         """
         with self._lock:
             if self._is_busy:
@@ -261,7 +261,7 @@ class Writer:
             return _opened(target)
         descriptor = descriptor_of(target)
         if descriptor is not None and is_being_read(descriptor):
-            raise _is_read(target)
+            raise _is_used(target, "read")
         return target
 
     def _end(self) -> None:
@@ -273,8 +273,8 @@ class Writer:
         self._is_closed = True
 
 
-# Files that writers opened, each by its descriptor.
-_files: weakref.WeakValueDictionary[int, Any] = weakref.WeakValueDictionary()
+# Files that writers opened, each by what it is, or its descriptor.
+_files: weakref.WeakValueDictionary[Any, Any] = weakref.WeakValueDictionary()
 
 
 def _flush_files() -> None:
@@ -296,18 +296,22 @@ def _blocked() -> BlockingIOError:
     return BlockingIOError(errno.EAGAIN, "the output takes no bytes now")
 
 
-def _is_read(target: Any) -> WriteError:
+def _is_used(target: Any, how: str) -> WriteError:
     name = os.fspath(target) if isinstance(target, (str, os.PathLike)) else repr(target)
-    return WriteError(f"{name} is a capture that is being read")
+    return WriteError(f"{name} is a capture that is being {how}")
 
 
 def _opened(target: Path) -> Any:
-    """A file that is empty now; WriteError if a capture reads it."""
+    """A file that is empty now; WriteError if a capture reads it, or another writer writes it."""
     descriptor = os.open(target, os.O_WRONLY | os.O_CREAT | os.O_CLOEXEC, 0o666)
-    file = _files[descriptor] = open(descriptor, "wb", io.DEFAULT_BUFFER_SIZE)
+    file = open(descriptor, "wb", io.DEFAULT_BUFFER_SIZE)
     try:
         if is_being_read(descriptor):
-            raise _is_read(target)
+            raise _is_used(target, "read")
+        key = identity_of(os.fstat(descriptor)) or descriptor
+        if not getattr(_files.get(key), "closed", True):
+            raise _is_used(target, "written")
+        _files[key] = file
         if stat.S_ISREG(os.fstat(descriptor).st_mode):
             file.truncate(0)
     except BaseException:
