@@ -45,6 +45,8 @@ grep -q "CAPKIT_VERSION_NUMBER $(printf '0x%02x%02x%02x' $(tr . ' ' <../packagin
 sed -n '/^    #include <capkit.h>/,/^    }/s/^    //p' ../docs/LIBRARY.md >out/count.c
 cc -O2 -Wall -Wextra -Iinclude -o out/count out/count.c out/libcapkit.a || bad=1
 test "$(out/count 'tcp port 80' <../samples/day.pcap)" = '9 packets match' || { echo 'the page: count'; bad=1; }
+status=0 && out/count tcp <../samples/day.pcap >/dev/full || status=$?
+test $status = 1 || { echo 'the page: a full output'; bad=1; }
 test "$(out/count tcp 2>&1 >/dev/null </dev/null)" = 'count: not a capture file' ||
     { echo 'the page: no reason'; bad=1; }
 sed -n '/^    static uint32_t keep(/,/^    }/s/^    //p' ../docs/LIBRARY.md >out/page.c
