@@ -14,7 +14,7 @@ from typing import Any, List, Literal, Optional, Protocol, Union, get_args
 from . import native
 from .errors import Check, WriteError
 from .reading import Packet
-from .sources import Path, add_lock, descriptor_of, identity_of, is_being_read
+from .sources import Identity, Path, add_lock, descriptor_of, identity_of, is_being_read
 
 Format = Literal["pcapng", "pcap", "nsecpcap"]
 
@@ -273,8 +273,8 @@ class Writer:
         self._is_closed = True
 
 
-# Files that writers opened, each by what it is, or its descriptor.
-_files: weakref.WeakValueDictionary[Any, Any] = weakref.WeakValueDictionary()
+# Files that writers opened, each by what it is. A pipe isn't one of them: a fork would wait until it takes bytes.
+_files: weakref.WeakValueDictionary[Identity, Any] = weakref.WeakValueDictionary()
 
 
 def _flush_files() -> None:
@@ -308,11 +308,13 @@ def _opened(target: Path) -> Any:
     try:
         if is_being_read(descriptor):
             raise _is_used(target, "read")
-        key = identity_of(os.fstat(descriptor)) or descriptor
-        if not getattr(_files.get(key), "closed", True):
-            raise _is_used(target, "written")
-        _files[key] = file
-        if stat.S_ISREG(os.fstat(descriptor).st_mode):
+        status = os.fstat(descriptor)
+        identity = identity_of(status)
+        if identity:
+            if not getattr(_files.get(identity), "closed", True):
+                raise _is_used(target, "written")
+            _files[identity] = file
+        if stat.S_ISREG(status.st_mode):
             file.truncate(0)
     except BaseException:
         file.close()
