@@ -316,10 +316,10 @@ def _opened(target: Path) -> Any:
             _files[identity] = file
         if stat.S_ISREG(status.st_mode):
             file.truncate(0)
+        return file
     except BaseException:
         file.close()
         raise
-    return file
 
 
 def _has_bytes(packet: Packet) -> bool:
