@@ -42,6 +42,14 @@ def need(holds, reason):
         raise ValueError(reason)
 
 
+def take(stream, size):
+    """Returns the next bytes of a file, fewer only at its end."""
+    data = stream.read(size)
+    # A pipe that doesn't wait may end later.
+    need(data is not None, "no bytes have come yet")
+    return data
+
+
 class Capture:
     """A pcapng file that is read block by block, with the counts of what is left out of it."""
 
@@ -51,7 +59,7 @@ class Capture:
 
     def read(self, stream):
         """Reads the blocks of a file up to its end or the first fault."""
-        while (head := stream.read(12)) or not self.at:
+        while (head := take(stream, 12)) or not self.at:
             if head[:4] == b"\n\r\r\n":
                 self.order = ORDERS.get(head[8:])
             need(self.order, "bad byte-order magic" if self.at else "not a pcapng file")
@@ -59,7 +67,7 @@ class Capture:
             kind, size = struct.unpack_from(self.order + "II", head)
             need(size % 4 == 0 and size >= 12 + SHORTEST_BODY.get(kind, 0), "bad block length")
             need(size <= LONGEST_BLOCK, "too long")
-            block = head + stream.read(size - 12)
+            block = head + take(stream, size - 12)
             need(len(block) == size, "truncated")
             need(block[-4:] == block[4:8], "bad block length")
             self.look(kind, block[8:-4])

@@ -45,6 +45,8 @@ grep -q "CAPKIT_VERSION_NUMBER $(printf '0x%02x%02x%02x' $(tr . ' ' <../packagin
 sed -n '/^    #include <capkit.h>/,/^    }/s/^    //p' ../docs/LIBRARY.md >out/count.c
 cc -O2 -Wall -Wextra -Iinclude -o out/count out/count.c out/libcapkit.a || bad=1
 test "$(out/count 'tcp port 80' <../samples/day.pcap)" = '9 packets match' || { echo 'the page: count'; bad=1; }
+status=0 && out/count tcp <../samples/day.pcap >/dev/full || status=$?
+test $status = 1 || { echo 'the page: a full output'; bad=1; }
 test "$(out/count tcp 2>&1 >/dev/null </dev/null)" = 'count: not a capture file' ||
     { echo 'the page: no reason'; bad=1; }
 sed -n '/^    static uint32_t keep(/,/^    }/s/^    //p' ../docs/LIBRARY.md >out/page.c
@@ -103,6 +105,13 @@ wait $! || bad=1
 # A fault is reported at once, though more bytes may come.
 { cat ../samples/damaged.pcap && sleep 10; } | timeout 8 out/stream >/dev/null 2>out/stream.txt || true
 test "$(cat out/stream.txt)" = 'stream: -: offset 2631: too long' || { echo 'stream: a fault after the end'; bad=1; }
+# What can't be printed is an error.
+for words in 'compile tcp 1' 'explain tcp' stream; do
+    # shellcheck disable=SC2086  # words
+    status=0 && out/$words <../samples/day.pcap >/dev/full 2>out/full.txt || status=$?
+    { test $status = 1 && grep -q "^${words%% *}: No space left on device$" out/full.txt; } ||
+        { echo "$words: a full output: $status"; bad=1; }
+done
 # What an expression means; and a refused one.
 meaning='((tcp src or dst port 80) or (tcp src or dst port 443)) and (src or dst host 10.0.0.1)'
 for text in 'tcp port 80 or 443 and host 10.0.0.1' "$meaning"; do

@@ -17,6 +17,7 @@ import os
 import pathlib
 import pty
 import resource
+import shlex
 import subprocess
 import sys
 import tempfile
@@ -32,7 +33,19 @@ FIRST = "(read -t 1 -r line && echo 1)"
 TWICE = "capkit: usage: name used twice\n"
 CLOSED = ["", "<&-", ">&-", "2>&-", "<&- >&-", "<&- 2>&-", ">&- 2>&-", "<&- >&- 2>&-"]
 
+
+
+def hasty(script, sample, size):
+    """A line whose script reads a pipe that has the first bytes of a sample so far, and doesn't wait for more."""
+    return (f"mkfifo ends; {{ head -c {size} {sample}; cat ends; }} | {{ "
+            f"python3 -c 'import os; os.set_blocking(0, False)'; python3 {shlex.quote(str(ROOT))}/examples/{script}; "
+            "s=$?; : > ends; exit $s; }")
+
+
 CASES = [
+    # What hasn't come yet isn't the end of an input.
+    (hasty("salvage.py - out", "day.pcap", 1215), 1, "salvage.py: -: Resource temporarily unavailable\n", {"out": None}),
+    (hasty("lost.py -", "comments.pcapng", 48), 2, "lost.py: -: offset 48: no bytes have come yet\n", {}),
     # What an output held before stays until something is written, and goes then.
     ("printf keep > out; capkit print -w out day.pcap 'prot 80'", 2,
      "capkit: expression: unknown word at 1\n", {"out": b"keep"}),

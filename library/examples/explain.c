@@ -1,7 +1,8 @@
 /* Prints what an expression means, as an expression: in parentheses by its tree, with every
  * qualifier written out.
  *
- * The status is 2 if the command line or the expression is refused. */
+ * The status is 2 if the command line or the expression is refused, and 1 if nothing can be
+ * printed. */
 #define _POSIX_C_SOURCE 200809L
 #include "example.h"
 
@@ -23,5 +24,5 @@ int main(int argc, char **argv)
         return report_status("explain", status, length), free(meaning), 1;
     puts(meaning);
     free(meaning);
-    return 0;
+    return fflush(stdout) ? perror("explain"), 1 : 0;
 }

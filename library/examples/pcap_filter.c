@@ -44,7 +44,7 @@ static int count(pcap_t *capture, struct bpf_program *program)
         matching++;
     printf("%lu packets match\n", matching);
     if (result == PCAP_ERROR_BREAK) /* the end of the file */
-        return 0;
+        return fflush(stdout) ? perror("pcap_filter"), 1 : 0;
     pcap_perror(capture, "pcap_filter");
     return 1;
 }

@@ -68,8 +68,8 @@ int main(int argc, char **argv)
     for (left = atoi(argv[3]); left > 0; left--) {
         if ((length = recv(file, packet, sizeof packet, 0)) < 0)
             return perror("socket_filter"), 1;
-        printf("%zd bytes\n", length);
-        fflush(stdout);
+        if (printf("%zd bytes\n", length) < 0 || fflush(stdout))
+            return perror("socket_filter"), 1;
     }
     close(file);
     return 0;

@@ -1,7 +1,8 @@
 /* Prints the time and the length of each packet of a capture on its standard input, as it comes.
  *
  * The input is read through a buffer with room for two units. A fault is reported at once, though
- * more bytes may come. The statuses are those of capkit: 1 after a fault or a failed read. */
+ * more bytes may come. The statuses are those of capkit: 1 after a fault, or if it can't be read or
+ * printed. */
 #define _POSIX_C_SOURCE 200809L
 #include "example.h"
 
@@ -21,7 +22,8 @@ int main(void)
         got = read_on(0, &reader, buffer, sizeof buffer, &size);
         while ((found = capkit_next(&reader, interfaces, CAPKIT_MOST_INTERFACES, buffer, size,
                                     &p)) == CAPKIT_PACKET)
-            printf("%llu %u\n", (unsigned long long)p.time, p.original), fflush(stdout);
+            if (printf("%llu %u\n", (unsigned long long)p.time, p.original) < 0 || fflush(stdout))
+                return perror("stream"), 1;
         can_go_on = found == CAPKIT_END || found == CAPKIT_TRUNCATED || size - reader.offset < 4;
     } while (got > 0 && can_go_on);
     before += reader.offset;

@@ -158,6 +158,7 @@ class FilterTest(unittest.TestCase):
             ("prt 80", 1, r"unknown word \(at byte 1\)"),
             ("tcp ?", 5, r"unknown character \(at byte 5\)"),
             ("tcp \udcff", 5, r"not UTF-8 \(at byte 5\)"),
+            ("tcp \ud800", 5, r"not UTF-8 \(at byte 5\)"),
             ("tcp port", None, "not an expression$"),
             ("tcp " * 20000, None, "longer than 65536 bytes"),
         ]:

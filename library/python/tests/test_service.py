@@ -15,6 +15,7 @@ import shutil
 import signal
 import socket
 import struct
+import subprocess
 import sys
 import tempfile
 import threading
@@ -66,6 +67,16 @@ def few_descriptors(count=64):
         yield
     finally:
         resource.setrlimit(resource.RLIMIT_NOFILE, limits)
+
+
+class ImportTest(unittest.TestCase):
+    def test_an_import_takes_few_modules(self):
+        """A short program's time is that of its imports, so the package needs none of the slow ones."""
+        text = "import sys; had = {*sys.modules}; sys.path[:0] = sys.argv[1:]; import capkit; print(*{*sys.modules} - had)"
+        words = [sys.executable, "-I", "-c", text, pathlib.Path(capkit.__file__).parents[1]]
+        run = subprocess.run(words, capture_output=True, text=True, check=True)
+        slow = {"dataclasses", "inspect", "logging", "pathlib", "socket", "subprocess", "tempfile", "urllib.parse"}
+        self.assertEqual(slow & set(run.stdout.split()), set())
 
 
 class ErrorsTest(FolderTest):
@@ -654,6 +665,47 @@ class OutputsTest(FolderTest):
         again(writer.close)
         self.assertEqual(list(capkit.packets(output.bytes)), self.PACKETS)
 
+    def test_a_device_that_is_full_for_a_while(self):
+        """A file has each packet whole whose write returned, even if it took a part of another one."""
+        limits = resource.getrlimit(resource.RLIMIT_FSIZE)
+        self.addCleanup(resource.setrlimit, resource.RLIMIT_FSIZE, limits)
+        for size, format, is_own in itertools.product((60, 4060, 20000, 200000), ("pcapng", "pcap"), (True, False)):
+            resource.setrlimit(resource.RLIMIT_FSIZE, (100001, limits[1]))
+            sure, errors = [], 0
+            with open(os.devnull if is_own else self.path, "wb") as file:
+                with capkit.Writer(self.path if is_own else file, format) as writer:
+                    for number in range(10 + 300000 // size):
+                        try:
+                            writer.write(packet(bytes([number % 256]) * size, time=number))
+                            sure.append(number)
+                        except OSError:
+                            errors += 1
+                            resource.setrlimit(resource.RLIMIT_FSIZE, limits)
+            found = [each.data[0] for each in capkit.packets(self.path)]
+            self.assertTrue(errors)
+            self.assertIn(len(found), (len(sure), len(sure) + errors))
+            self.assertLessEqual({number % 256 for number in sure}, set(found))
+
+    def test_a_fork_with_packets_in_a_buffer(self):
+        """Neither process writes them again, whichever goes on with the writer."""
+        for format, is_child in itertools.product(("pcapng", "pcap"), (False, True)):
+            text = f"""if True:
+                import os, sys
+                sys.path[:0] = sys.argv[2:]
+                import capkit
+                writer = capkit.Writer(sys.argv[1], {format!r})
+                for number in range(3):
+                    writer.write(capkit.Packet(number, 1, b"text"))
+                child = os.fork()
+                if child:
+                    os.waitpid(child, 0)
+                if {is_child} == (child == 0):
+                    writer.write(capkit.Packet(3, 1, b"text"))
+                """
+            words = [sys.executable, "-I", "-c", text, self.path, pathlib.Path(capkit.__file__).parents[1]]
+            subprocess.run(words, check=True)
+            self.assertEqual(len(list(capkit.packets(self.path))), 4)
+
     def test_an_interrupt_in_the_middle_of_a_packet(self):
         class Interrupts(io.RawIOBase):
             """It takes 50 bytes, is interrupted, and takes the rest."""
@@ -876,6 +928,22 @@ class OutputsTest(FolderTest):
             writer.write(packet(UDP))
         self.assertEqual(list(capkit.packets(self.path)), [packet(UDP)])
         del capture
+
+    def test_a_file_that_another_writer_has_open_is_no_output(self):
+        other = self.folder / "other"
+        for link in (os.link, os.symlink):
+            with capkit.Writer(self.path) as first:
+                first.write(packet())
+                with contextlib.suppress(FileNotFoundError):
+                    os.remove(other)
+                link(self.path, other)
+                with self.assertRaisesRegex(capkit.WriteError, "is being written"), capkit.Writer(other) as second:
+                    second.write(packet(UDP))
+                first.write(packet())
+            self.assertEqual(len(list(capkit.packets(self.path))), 2)
+            with capkit.Writer(other) as second:
+                second.write(packet(UDP))
+            self.assertEqual(list(capkit.packets(self.path)), [packet(UDP)])
 
     def test_a_packet_takes_few_calls(self):
         """So writing is fast: what Python's profiler sees of it."""

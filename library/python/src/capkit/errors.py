@@ -124,7 +124,7 @@ class CaptureError(_Error):
 
 
 class WriteError(_Error):
-    """A packet doesn't fit the format, or the capture is being read; nothing was written."""
+    """A packet doesn't fit the format, or the capture is being read or written; nothing was written."""
 
     def __init__(self, reason: str) -> None:
         self._made_of = (reason,)

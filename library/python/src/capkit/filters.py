@@ -59,8 +59,8 @@ def _number_of(call: Any, text: bytes, *arguments: Any) -> int:
 def _encoded(text: str, name: str = "an expression") -> bytes:
     if not isinstance(text, str):
         raise TypeError(f"{name} is a str, not {type(text).__name__}")
-    # What isn't UTF-8 on a command line comes as lone surrogates, and is given back.
-    return text.encode(errors="surrogateescape")
+    # Lone surrogates, as what isn't UTF-8 on a command line has, are refused by the call.
+    return text.encode(errors="surrogatepass")
 
 
 def explain(expression: str) -> str:

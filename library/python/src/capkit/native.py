@@ -4,7 +4,6 @@ ctypes and not cffi: any Python has it, and one call reads many packets.
 """
 import ctypes as c
 import os
-import pathlib
 from typing import Any, List, Sequence, Tuple
 
 MOST_INSNS = 32768
@@ -55,8 +54,8 @@ BatchWriter = _struct("BatchWriter", [
 ])  # fmt: skip
 
 # It has the calls of libcapkit.so.0 too, which it is linked to.
-_inside = pathlib.Path(__file__).with_name("libcapkit_batch.so")
-_library = c.CDLL(os.environ.get("CAPKIT_LIBRARY") or str(_inside))
+_inside = os.path.join(os.path.dirname(__file__), "libcapkit_batch.so")
+_library = c.CDLL(os.environ.get("CAPKIT_LIBRARY") or _inside)
 
 
 def declare(name: str, result: Any, *arguments: Any) -> Any:

@@ -50,7 +50,7 @@ os.register_at_fork(after_in_child=_free_locks)
 
 def is_being_read(descriptor: int) -> bool:
     """Whether a file is one that a capture reads."""
-    identity = _identity_of(os.fstat(descriptor))
+    identity = identity_of(os.fstat(descriptor))
     if identity is None:
         return False
     sources = [reference() for reference in _sources.valuerefs()]
@@ -67,7 +67,7 @@ def descriptor_of(file: Any) -> Optional[int]:
     return int(descriptor)
 
 
-def _identity_of(status: os.stat_result) -> Optional[Identity]:
+def identity_of(status: os.stat_result) -> Optional[Identity]:
     """Which file it is, if what is written to it is read from it."""
     is_kept = stat.S_ISREG(status.st_mode) or stat.S_ISBLK(status.st_mode)
     return (status.st_dev, status.st_ino) if is_kept else None
@@ -210,7 +210,7 @@ class Stream:
     def __init__(self, file: Any, is_own: bool) -> None:
         self._file, self._is_own, self._is_closed = file, is_own, False
         descriptor = descriptor_of(file)
-        self._identity = None if descriptor is None else _identity_of(os.fstat(descriptor))
+        self._identity = None if descriptor is None else identity_of(os.fstat(descriptor))
         if self._identity:
             _sources[id(self)] = self
 

@@ -8,12 +8,13 @@ import io
 import os
 import stat
 import struct
+import weakref
 from typing import Any, List, Literal, Optional, Protocol, Union, get_args
 
 from . import native
 from .errors import Check, WriteError
 from .reading import Packet
-from .sources import Path, add_lock, descriptor_of, is_being_read
+from .sources import Identity, Path, add_lock, descriptor_of, identity_of, is_being_read
 
 Format = Literal["pcapng", "pcap", "nsecpcap"]
 
@@ -22,6 +23,8 @@ _NO_ROOM_IN_BUFFER = 225
 _MOST_INTERFACES, _MOST_OF_A_NAME = 4096, 255
 # How much an output is given at once of what it didn't take.
 _PIECE = 1 << 16
+# What a buffered file takes whole or not at all; an error may be after a part of more.
+_WHOLE = 4096
 # The numbers of native.PutPacket.
 _put_numbers, _batch_put = struct.Struct("@QNNNNIIH").pack_into, native.batch_put
 
@@ -51,7 +54,9 @@ class Writer:
             raise ValueError(f"format {format!r} is none of {', '.join(formats)}")
         self._target, self._format = target, format
         self._is_own = isinstance(target, (str, os.PathLike))
+        # The file, and what units are given to.
         self._file: Any = None
+        self._output: Any = None
         self._put: Any = native.BatchWriter()
         self._put.state.is_pcapng = format == "pcapng"
         self._put.state.nanoseconds = format == "nsecpcap"
@@ -77,9 +82,9 @@ class Writer:
     def write(self, packet: Packet) -> None:
         """Appends a packet, or raises an error and writes nothing of it.
 
-        WriteError if the format can't hold it, or if a Capture reads the file, by its path or as an
-        open file. BlockingIOError if an output takes no bytes now: write the packet again. A pcap file
-        keeps neither comments nor names of interfaces.
+        WriteError if the format can't hold it, if a Capture reads the file, by its path or as an open
+        file, or if another Writer opened it. BlockingIOError if an output takes no bytes now: write
+        the packet again. A pcap file keeps neither comments nor names of interfaces.
         """
         with self._lock:
             if self._is_busy:
@@ -96,7 +101,7 @@ class Writer:
                 try:
                     length = self._made(packet)
                     # Its own file takes all; another may keep what it is given, and the buffer changes.
-                    if self._is_own and self._is_begun:
+                    if self._is_own and self._is_begun and length <= _WHOLE:
                         self._file.write(self._view[:length])
                         self._is_put = False
                     else:
@@ -197,6 +202,10 @@ class Writer:
         """Gives the output units, whole or not at all: what it doesn't take is kept."""
         if self._file is None:
             self._file = self._opened()
+        self._output = self._file
+        if type(self._file) is io.BufferedWriter and len(units) > _WHOLE:
+            self._file.flush()
+            self._output = self._file.raw
         self._is_put, self._rest = True, memoryview(units)
         try:
             self._give(units)
@@ -223,7 +232,7 @@ class Writer:
         """Gives the output the first units of the rest, which is then what it didn't take."""
         try:
             # By one call, after which a signal's handler may raise an error.
-            self._taken.extend(map(self._file.write, (units,)))
+            self._taken.extend(map(self._output.write, (units,)))
         except BlockingIOError as error:
             self._taken = [getattr(error, "characters_written", 0)]
         self._count()
@@ -237,7 +246,7 @@ class Writer:
         taken = self._taken[0]
         if taken is None:
             # What a raw file says if it is full, and what some other outputs always say.
-            taken = 0 if isinstance(self._file, io.RawIOBase) else most
+            taken = 0 if isinstance(self._output, io.RawIOBase) else most
         if not 0 <= taken <= most:
             self._taken = []
             raise ValueError(f"the output took {taken} of {most} bytes")
@@ -252,7 +261,7 @@ class Writer:
             return _opened(target)
         descriptor = descriptor_of(target)
         if descriptor is not None and is_being_read(descriptor):
-            raise _is_read(target)
+            raise _is_used(target, "read")
         return target
 
     def _end(self) -> None:
@@ -264,6 +273,21 @@ class Writer:
         self._is_closed = True
 
 
+# Files that writers opened, each by what it is. A pipe isn't one of them: a fork would wait until it takes bytes.
+_files: weakref.WeakValueDictionary[Identity, Any] = weakref.WeakValueDictionary()
+
+
+def _flush_files() -> None:
+    for file in [reference() for reference in _files.valuerefs()]:
+        with contextlib.suppress(OSError, RuntimeError, ValueError):
+            if file is not None:
+                file.flush()
+
+
+# What a buffer has at a fork, two processes have, and each writes at its exit.
+os.register_at_fork(before=_flush_files)
+
+
 def _is_in_a_call() -> RuntimeError:
     return RuntimeError("a writer is called in the middle of its own call")
 
@@ -272,24 +296,30 @@ def _blocked() -> BlockingIOError:
     return BlockingIOError(errno.EAGAIN, "the output takes no bytes now")
 
 
-def _is_read(target: Any) -> WriteError:
+def _is_used(target: Any, how: str) -> WriteError:
     name = os.fspath(target) if isinstance(target, (str, os.PathLike)) else repr(target)
-    return WriteError(f"{name} is a capture that is being read")
+    return WriteError(f"{name} is a capture that is being {how}")
 
 
 def _opened(target: Path) -> Any:
-    """A file that is empty now; WriteError if a capture reads it."""
+    """A file that is empty now; WriteError if a capture reads it, or another writer writes it."""
     descriptor = os.open(target, os.O_WRONLY | os.O_CREAT | os.O_CLOEXEC, 0o666)
-    file = open(descriptor, "wb")
+    file = open(descriptor, "wb", io.DEFAULT_BUFFER_SIZE)
     try:
         if is_being_read(descriptor):
-            raise _is_read(target)
-        if stat.S_ISREG(os.fstat(descriptor).st_mode):
+            raise _is_used(target, "read")
+        status = os.fstat(descriptor)
+        identity = identity_of(status)
+        if identity:
+            if not getattr(_files.get(identity), "closed", True):
+                raise _is_used(target, "written")
+            _files[identity] = file
+        if stat.S_ISREG(status.st_mode):
             file.truncate(0)
+        return file
     except BaseException:
         file.close()
         raise
-    return file
 
 
 def _has_bytes(packet: Packet) -> bool:
