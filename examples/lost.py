@@ -45,7 +45,7 @@ def need(holds, reason):
 def take(stream, size):
     """Returns the next bytes of a file, fewer only at its end."""
     data = stream.read(size)
-    # A pipe that doesn't wait may end later.
+    # A pipe that doesn't wait gives None while it has no bytes: it hasn't ended.
     need(data is not None, "no bytes have come yet")
     return data
 

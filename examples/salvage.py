@@ -572,7 +572,7 @@ class Blocks(Reader):
 def copied(held, is_text=False):
     """A copy of a file, without a name; after text mode, without what that has added."""
     copy = tempfile.TemporaryFile()
-    while part := os.read(held.fileno(), ZONE):  # an error if a pipe doesn't wait for its bytes
+    while part := os.read(held.fileno(), ZONE):  # raises an error if a pipe that doesn't wait has no bytes
         if is_text and part.endswith(b"\r") and len(part) > 1:
             held.seek(-1, os.SEEK_CUR)
             part = part[:-1]

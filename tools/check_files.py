@@ -36,7 +36,7 @@ CLOSED = ["", "<&-", ">&-", "2>&-", "<&- >&-", "<&- 2>&-", ">&- 2>&-", "<&- >&- 
 
 
 def hasty(script, sample, size):
-    """A line whose script reads a pipe that has the first bytes of a sample so far, and doesn't wait for more."""
+    """A line whose script reads a pipe without waiting. So far the pipe has the first bytes of a sample."""
     return (f"mkfifo ends; {{ head -c {size} {sample}; cat ends; }} | {{ "
             f"python3 -c 'import os; os.set_blocking(0, False)'; python3 {shlex.quote(str(ROOT))}/examples/{script}; "
             "s=$?; : > ends; exit $s; }")

@@ -59,7 +59,7 @@ def _number_of(call: Any, text: bytes, *arguments: Any) -> int:
 def _encoded(text: str, name: str = "an expression") -> bytes:
     if not isinstance(text, str):
         raise TypeError(f"{name} is a str, not {type(text).__name__}")
-    # Lone surrogates, as what isn't UTF-8 on a command line has, are refused by the call.
+    # The call refuses lone surrogates, by which Python shows bytes of a command line that aren't UTF-8.
     return text.encode(errors="surrogatepass")
 
 

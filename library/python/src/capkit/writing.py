@@ -23,7 +23,7 @@ _NO_ROOM_IN_BUFFER = 225
 _MOST_INTERFACES, _MOST_OF_A_NAME = 4096, 255
 # How much an output is given at once of what it didn't take.
 _PIECE = 1 << 16
-# What a buffered file takes whole or not at all; an error may be after a part of more.
+# The most bytes that a buffered file takes whole or not at all. An error may follow a part of a longer unit.
 _WHOLE = 4096
 # The numbers of native.PutPacket.
 _put_numbers, _batch_put = struct.Struct("@QNNNNIIH").pack_into, native.batch_put
@@ -54,7 +54,7 @@ class Writer:
             raise ValueError(f"format {format!r} is none of {', '.join(formats)}")
         self._target, self._format = target, format
         self._is_own = isinstance(target, (str, os.PathLike))
-        # The file, and what units are given to.
+        # The file, and what takes the units: the file, or the raw file below its buffer.
         self._file: Any = None
         self._output: Any = None
         self._put: Any = native.BatchWriter()
@@ -273,7 +273,7 @@ class Writer:
         self._is_closed = True
 
 
-# Files that writers opened, each by what it is. A pipe isn't one of them: a fork would wait until it takes bytes.
+# Files that writers opened, by identity. Pipes aren't among them: a fork would wait until they take bytes.
 _files: weakref.WeakValueDictionary[Identity, Any] = weakref.WeakValueDictionary()
 
 
@@ -284,7 +284,7 @@ def _flush_files() -> None:
                 file.flush()
 
 
-# What a buffer has at a fork, two processes have, and each writes at its exit.
+# After a fork two processes have the bytes of a buffer, and each would write them at its exit.
 os.register_at_fork(before=_flush_files)
 
 
