@@ -44,9 +44,14 @@ def need(holds, reason):
 
 def take(stream, size):
     """Returns the next bytes of a file, fewer only at its end."""
-    data = stream.read(size)
-    # A pipe that doesn't wait gives None while it has no bytes: it hasn't ended.
-    need(data is not None, "no bytes have come yet")
+    data = b""
+    while len(data) < size:
+        more = stream.read(size - len(data))
+        # A pipe that doesn't wait gives None while it has no bytes: it hasn't ended.
+        need(more is not None, "no more bytes have come yet")
+        if not more:
+            break
+        data += more
     return data
 
 

@@ -34,7 +34,6 @@ TWICE = "capkit: usage: name used twice\n"
 CLOSED = ["", "<&-", ">&-", "2>&-", "<&- >&-", "<&- 2>&-", ">&- 2>&-", "<&- >&- 2>&-"]
 
 
-
 def hasty(script, sample, size):
     """A line whose script reads a pipe without waiting. So far the pipe has the first bytes of a sample."""
     return (f"mkfifo ends; {{ head -c {size} {sample}; cat ends; }} | {{ "
@@ -45,7 +44,8 @@ def hasty(script, sample, size):
 CASES = [
     # What hasn't come yet isn't the end of an input.
     (hasty("salvage.py - out", "day.pcap", 1215), 1, "salvage.py: -: Resource temporarily unavailable\n", {"out": None}),
-    (hasty("lost.py -", "comments.pcapng", 48), 2, "lost.py: -: offset 48: no bytes have come yet\n", {}),
+    *((hasty("lost.py -", "comments.pcapng", size), 2, "lost.py: -: offset 48: no more bytes have come yet\n", {})
+      for size in (48, 50, 70)),
     # What an output held before stays until something is written, and goes then.
     ("printf keep > out; capkit print -w out day.pcap 'prot 80'", 2,
      "capkit: expression: unknown word at 1\n", {"out": b"keep"}),
