@@ -207,7 +207,7 @@ fn allows_window(window: Option<u32>) -> bool
 }
 
 impl<A: Allocator> Edit<A> {
-    /// The edit with these ranges in place of its own; they may be in other memory.
+    /// The same edit with these ranges, which another allocator may have made.
     pub fn with_ranges<B: Allocator>(&self, ranges: Vec<(u64, u64), B>) -> Edit<B>
         ensures ranges { result.ranges ≡ ranges }
         ensures others { HasSameOptions self.now result }

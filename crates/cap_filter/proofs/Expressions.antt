@@ -1,10 +1,10 @@
 -- The lexer, the parser and the checks together decide whether a text is an expression, and why it
 -- is refused.
-use Rattle.cap_filter.proofs.Common.{◌≡◌, ◌≢◌, ◌↔◌, ◌⊎◌, inl, inr, List, ℕ, None, Some, Result, Ok, Err, ◌∙◌, sym, ap, Token, Tokens, Expression}
+use Rattle.std.proofs.Common.{◌≡◌, ◌≢◌, ◌↔◌, ◌⊎◌, inl, inr, List, ℕ, None, Some, Result, Ok, Err, ◌∙◌, sym, ap}
 use Rattle.std.specs.Result.{IfOk, IfErr}
-use Rattle.flt_words.specs.declared.fault.ExprFault.{ExprFault}
+use Rattle.flt_words.specs.{declared.token.Token.Token, Tokens.Tokens, declared.fault.ExprFault.ExprFault}
+use Rattle.flt_ast.specs.{Tree.Expression, Checks.check_fault, Filled.fill_expression, Resolved.fill_fault}
 use Rattle.flt_lang.specs.{Grammar.IsReadAs, Grammar.kinds_of, Nesting.IsTooDeep}
-use Rattle.flt_ast.specs.{Checks.check_fault, Filled.fill_expression, Resolved.fill_fault}
 use Rattle.cap_filter.specs.Expressions.{HasTree, IsSettled, HasFault, IsExpression, IsTextRefused, by_tokens, too_deep, no_tree, by_tree, IsTextFault}
 
 pub reason : (text : List ℕ) (refusal : ExprFault) → IsTextRefused text refusal → IsTextFault text refusal
@@ -13,14 +13,14 @@ reason text refusal refused = refused
 
 pub lexed-reason : (text : List ℕ) (refusal : ExprFault) → (refusal ≢ ExprFault.Memory → Tokens text (Err refusal)) → IsTextFault text refusal
 lexed-reason text ExprFault.Memory tells = tt
-lexed-reason text refusal tells = by_tokens (tells (λ same. (cc)))
+lexed-reason text refusal tells = by_tokens (tells (λ same. cc))
 
 pub parsed-reads : (text : List ℕ) (tokens : List Token) (r : Result Expression ExprFault) → Tokens text (Ok tokens)
     → (r ≡ Err ExprFault.NestedTooDeep) ↔ IsTooDeep tokens → IfOk r (λ tree. IsReadAs (kinds_of tokens) tree) → IfOk r (λ tree. HasTree text tree)
 parsed-reads text tokens (Ok tree) lexed deep reads = record {
   tokens = tokens;
   lexed = lexed;
-  shallow = λ d. let same : Ok tree ≡ Err ExprFault.NestedTooDeep = deep.1 d in absurd (cc);
+  shallow = λ d. cc (deep.1 d);
   reads = reads;
 }
 parsed-reads text tokens (Err refusal) lexed deep reads = tt
@@ -34,7 +34,7 @@ parsed-refused text tokens (Ok tree) lexed deep none why = tt
 parsed-refused text tokens (Err refusal) lexed deep none why =
     elim why [
       | inl is ↦ rw is (too_deep lexed (deep.0 (ap Err is)))
-      | inr (inl is) ↦ rw is (no_tree lexed (λ d. let same : Err refusal ≡ Err ExprFault.NestedTooDeep = deep.1 d in absurd (cc)) (none (ap Err is)))
+      | inr (inl is) ↦ rw is (no_tree lexed (λ d. cc (is, deep.1 d)) (none (ap Err is)))
       | inr (inr is) ↦ rw is tt
     ]
 

@@ -1,19 +1,20 @@
 -- What a filter's programs return, and how many instructions they execute, run by run.
-use Rattle.cap_filter.proofs.Common.{◌≡◌, ◌≢◌, ◌↔◌, ◌<◌, All, ℕ, zero, suc, ◌+◌, ◌-◌, ◌^◌, Bool, cond, not, nat_eq, nat_lt, ◌==◌, true, false, List, [], ◌∷◌}
-use Rattle.cap_filter.proofs.Common.{◌++◌, length, get_or, set, slice_get, take, drop, min, Option, None, Some, Ok, Err, refl, sym, ◌∙◌, ap, arith, subst}
-use Rattle.cap_filter.proofs.Common.{Captured, Content, machine, Answered, Expression, empty, truth, Link, Ether, AreMade, IsMade, steps_of_run, met_on, ran_at}
-use Rattle.cap_filter.proofs.Common.{ran_if, ran_on, HasPrograms, all_links, link_of, link_type, by_reading, expression_decides, decision_of, read_on}
-use Rattle.cap_filter.proofs.Common.{program_place, spent_on, ◌≤◌, spent_in, most_cost}
+use Rattle.std.proofs.Common.{◌≡◌, ◌≢◌, ◌↔◌, ◌<◌, All, ℕ, zero, suc, ◌+◌, ◌-◌, ◌^◌, Bool, cond, not, nat_eq, nat_lt, ◌==◌, true, false, List, [], ◌∷◌, ◌++◌}
+use Rattle.std.proofs.Common.{length, get_or, set, slice_get, take, drop, min, Option, None, Some, Ok, Err, refl, sym, ◌∙◌, ap, arith, subst, ◌≤◌}
 use Rattle.std.proofs.Math.Seq.{take-append_seam}
-use Rattle.std.proofs.lemmas.{Bool.ltb-true, Bool.ne_eqb, Bool.Decides.nat_tests, List.Elements.All-append}
-use Rattle.std.proofs.lemmas.{List.Folds.find_at, Option.slice_get-get_or, Option.slice_get_past}
 use Rattle.std.specs.List.{find, position, position_or_len}
-use Rattle.cap_octet.specs.declared.fault.Fault.TheVariants.{LinkTypeNotFiltered}
-use Rattle.flt_bpf.specs.declared.insn.Insn.{Insn}
-use Rattle.flt_gen.specs.Correct.{IsProgramOf}
-use Rattle.flt_gen.specs.{Elementary.MatchResult, Elementary.Yes, Elementary.No, Elementary.Rejected, Reading.holds}
-use Rattle.cap_filter.specs.FilterRules.{ReturnsDecision}
-use Rattle.flt_ast.specs.Counts.{bound_of}
+use Rattle.std.proofs.lemmas.{Bool.ltb-true, Bool.ne_eqb, Bool.Decides.nat_tests, List.Elements.All-append, List.Folds.find_at, Option.slice_get-get_or}
+use Rattle.std.proofs.lemmas.{Option.slice_get_past}
+use Rattle.cap_octet.specs.{Packet.Captured, Link.all_links, Link.link_of, Link.link_type, declared.link.Link.Link, declared.link.Link.TheVariants.Ether}
+use Rattle.cap_octet.specs.{declared.fault.Fault.TheVariants.LinkTypeNotFiltered}
+use Rattle.flt_bpf.specs.{Content.Content, Machine.machine, Machine.Answered, declared.insn.Insn.Insn}
+use Rattle.flt_ast.specs.{Tree.Expression, Tree.empty, Tree.truth, Counts.bound_of}
+use Rattle.cap_filter.specs.Programs.{AreMade, IsMade, steps_of_run, met_on, ran_at, ran_if, ran_on, spent_in}
+use Rattle.cap_filter.specs.FilterRules.{by_reading, expression_decides, decision_of, ReturnsDecision}
+use Rattle.cap_filter.specs.inside.Programs.{HasPrograms}
+use Rattle.cap_filter.specs.Filters.{program_place, spent_on, most_cost}
+use Rattle.flt_gen.specs.Elementary.{MatchResult, Yes, No, Rejected}
+use Rattle.flt_gen.specs.{Correct.IsProgramOf, Reading.holds}
 
 -- ---- the result
 
@@ -26,8 +27,8 @@ zero-unless (suc a) never = absurd (never (λ (same : suc a ≡ 0). absurd (omeg
 
 answers-by : (r : MatchResult) (a : ℕ) → (a ≢ 0) ↔ (r ≡ Yes) → ReturnsDecision (decision_of r) (Ok (not (nat_eq a 0)))
 answers-by Yes a right = nonzero a (right.1 refl)
-answers-by No a right = zero-unless a (λ other. let same : No ≡ Yes = right.0 other in absurd (cc))
-answers-by Rejected a right = zero-unless a (λ other. let same : Rejected ≡ Yes = right.0 other in absurd (cc))
+answers-by No a right = zero-unless a (λ other. cc (right.0 other))
+answers-by Rejected a right = zero-unless a (λ other. cc (right.0 other))
 
 -- a program for an expression accepts a packet if and only if the packet is kept
 pub run-answers : (prog : List Insn) (e : Expression) (link : Link) (p : List ℕ) (n answer count : ℕ) → IsProgramOf prog e link
@@ -35,27 +36,23 @@ pub run-answers : (prog : List Insn) (e : Expression) (link : Link) (p : List �
     → ReturnsDecision (decision_of (holds e link p n)) (Ok (not (nat_eq answer 0)))
 run-answers prog e link p n answer count is met =
     let d = is.decides p n in
-    let both : Answered d.answer d.count ≡ Answered answer count = sym d.answered ∙ met in
-    let same : d.answer ≡ answer = (cc both) in
-    let P : ℕ → Type 0 = λ a. (a ≢ 0) ↔ (holds e link p n ≡ Yes) in
-    answers-by (holds e link p n) answer (subst P same d.right)
+    let same : d.answer ≡ answer = cc (sym d.answered ∙ met) in
+    answers-by (holds e link p n) answer (rw same at d.right)
 
 -- ---- the programs of a table
 
 pub made-length : (e : Expression) (links : List Link) (programs : List Content) → AreMade e links programs → length programs ≡ length links
 made-length e [] [] made = refl
-made-length e [] (program ∷ programs) made = absurd made
-made-length e (link ∷ links) [] made = absurd made
 made-length e (link ∷ links) (program ∷ programs) made = ap (λ n. suc n) (made-length e links programs made.1)
+made-length e _ _ made = absurd made
 
 -- one program more
 pub made-put : (e : Expression) (links : List Link) (programs : List Content) (link : Link) (program : Content) → AreMade e links programs
     → IsMade program e link
     → AreMade e (links ++ link ∷ []) (programs ++ program ∷ [])
 made-put e [] [] link program made is = (is, tt)
-made-put e [] (other ∷ programs) link program made is = absurd made
-made-put e (first ∷ links) [] link program made is = absurd made
 made-put e (first ∷ links) (other ∷ programs) link program made is = (made.0, made-put e links programs link program made.1 is)
+made-put e _ _ link program made is = absurd made
 
 fresh-one : (program : Content) → program.spent ≡ 0 → All (λ (c : Content). c.spent ≡ 0) (program ∷ [])
 fresh-one program is zero d within = is
@@ -72,29 +69,23 @@ pub made-at : (e : Expression) (links : List Link) (programs : List Content) (i 
     → IsMade (get_or programs i d) e link
 made-at e [] programs i link d made is = (cc)
 made-at e (first ∷ links) [] i link d made is = absurd made
-made-at e (first ∷ links) (program ∷ programs) zero link d made is =
-    let same : first ≡ link = (cc is) in
-    subst (IsMade program e) same made.0
+made-at e (first ∷ links) (program ∷ programs) zero link d made is = subst (IsMade program e) (cc is) made.0
 made-at e (first ∷ links) (program ∷ programs) (suc i) link d made is = made-at e links programs i link d made.1 is
 
 -- programs keep their instructions when they run
 pub made-ran : (e : Expression) (links : List Link) (programs : List Content) (i : ℕ) (p : Captured) → AreMade e links programs
     → AreMade e links (ran_at i p programs)
 made-ran e [] [] i p made = tt
-made-ran e [] (program ∷ programs) i p made = absurd made
-made-ran e (link ∷ links) [] i p made = absurd made
 made-ran e (link ∷ links) (program ∷ programs) zero p made = (record { valid = made.0.valid; right = made.0.right }, made.1)
 made-ran e (link ∷ links) (program ∷ programs) (suc i) p made = (made.0, made-ran e links programs i p made.1)
+made-ran e _ _ i p made = absurd made
 
 -- ---- the cost
 
 -- a program after a run
 ran : (p : Captured) (before after : Content) (answer count : ℕ) → met_on p before.insns ≡ Answered answer count → after.insns ≡ before.insns
     → after.spent ≡ min (before.spent + count) (2 ^ 128 - 1) → after ≡ ran_on p before
-ran p before after answer count met same spent =
-    let cost : steps_of_run (met_on p before.insns) ≡ count = ap steps_of_run met in
-    let made : List Insn → ℕ → Content = λ insns spent. record { insns = insns; spent = spent } in
-    ap (λ l. made l after.spent) same ∙ ap (λ n. made before.insns n) (spent ∙ ap (λ n. min (before.spent + n) (2 ^ 128 - 1)) (sym cost))
+ran p before after answer count met same spent = rw met (λ i. record { insns = same i; spent = spent i })
 
 put : (i : ℕ) (p : Captured) (programs : List Content) (d after : Content) → i < length programs → after ≡ ran_on p (get_or programs i d)
     → set programs i after ≡ ran_at i p programs
@@ -168,7 +159,7 @@ answers-at (truth a) programs p i answer count sound is met =
     let linked : link_of p.link ≡ Some link = found-at test all_links i is ∙ here in
     let none : Content = record { insns = []; spent = 0 } in
     let program : Content = get_or programs i none in
-    subst (λ (l : Option Link). ReturnsDecision (read_on (truth a) l p) (Ok (not (nat_eq answer 0)))) (sym linked)
+    rw linked
     (run-answers program.insns (truth a) link p.bytes p.orig answer count (made-at (truth a) all_links programs i link none sound.made here).right (met none))
 
 pub sound-ran : (e : Expression) (programs : List Content) (p : Captured) (i : ℕ) → HasPrograms e programs → HasPrograms e (ran_at i p programs)

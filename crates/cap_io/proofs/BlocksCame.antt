@@ -1,5 +1,6 @@
 -- The effect of reading a block, from one read of the device to the next.
 use Rattle.cap_io.proofs.Common.{◌≡◌, ℕ, true, ◌+◌, ◌<◌, ◌≤◌, ◌⊎◌, inl, inr, List, [], ◌∷◌, ◌++◌, length, take, drop, Option, Some, None, Result, Ok, Err, refl}
+use Rattle.cap_io.proofs.Common.{rules}
 use Rattle.cap_io.proofs.Common.{sym, ap, ap₂, ◌∙◌, subst, arith, unwrap_or, option_to_list, append_assoc, length-append, length-take-le, drop_at, drop-drop}
 use Rattle.cap_io.proofs.Common.{take-append-drop, checked, first_failing, Captured, Fault, NoMemory, ReadFailed, Order, checked_ok, checked_err, Parts}
 use Rattle.cap_io.proofs.Common.{SectionParts, block_checks, parts_in, frame_checks, frame_fault, frame_in, most_block, Described, IsBlock, Section, block_size}
@@ -270,38 +271,11 @@ packet_if_any : (order : Order) (before : Option Section) (interfaces : List Des
     → PacketIfAny order interfaces parts block spans → BlockPacketIfAny order before block spans
 packet_if_any order before interfaces block parts None same is none = ap₂ (λ (i : List Described) (p : Parts). option_to_list (packet_by i p)) same is
     ∙ ap option_to_list none
-packet_if_any order before interfaces block parts (Some spans) same is stands = record {
-  packet = stands.packet;
-  stands = ap₂ (λ (i : List Described) (p : Parts). option_to_list (packet_by i p)) same is ∙ ap option_to_list stands.stands;
-  is_lent = ap (λ (i : List Described). held_packet order i spans (span_bytes spans.bytes block) (span_bytes spans.options block)) same ∙ stands.is_lent;
-}
+packet_if_any order before interfaces block parts (Some spans) same is stands = search rules
 
 pub block_came : (before : Option Section) (section : Option Order) (interfaces interfaces' : List Described) (text unread' block buffer : List ℕ)
     (frame : Frame) (spans : Option PacketSpans)
     → order_before before ≡ section → interfaces_before before ≡ interfaces → 12 ≤ frame.length → frame.length ≤ length buffer
     → WholeCame section text buffer frame unread' → block ≡ take frame.length buffer → Enters frame interfaces block spans interfaces'
     → BlockCame before text buffer frame.order frame.length spans interfaces' unread'
-block_came before section interfaces interfaces' text unread' block buffer frame spans is same least room came block_is enters =
-    let size : length block ≡ frame.length = ap length block_is ∙ length-take-le frame.length buffer room in
-    let f = framed_block before section block [] frame is (omega arith) (ap (frame_fault section) block_is ∙ came.passes)
-    (ap (frame_in section) block_is ∙ came.says) in
-    let framed : first_failing (frame_checks (order_before before) block) ≡ None = ap (λ o. frame_fault o block) is ∙ ap (frame_fault section)
-    block_is ∙ came.passes in
-    let whole : block_size before block ≡ frame.length = ap (λ (g : Frame). g.length) f.alone in
-    let parts : parts_after before block ≡ parts_in frame block = ap (λ (g : Frame). parts_in g block) f.alone in
-    let blocked : first_failing (block_checks (frame_after before block) block) ≡ None = ap (λ (g : Frame). first_failing (block_checks g block))
-    f.alone ∙ enters.passes in
-    let among : unit_fault before block ≡ None =
-    unit_fault-among before block (omega arith) framed (omega arith) blocked
-    ∙ ap₂ (λ (i : List Described) (p : Parts). first_failing (checks_among i p)) same parts ∙ enters.among in
-    let Q : List ℕ → Type 0 = λ b. IsBlock before b in
-    let R : List ℕ → Type 0 = λ b. BlockPacketIfAny frame.order before b spans in
-    record {
-      is_block = subst Q block_is (record { passes = among; whole = omega (arith, size, whole) });
-      section =
-          ap (section_after before) (sym block_is)
-          ∙ ap₂ (λ (o : Order) (p : Parts). section_by before o p) (ap (λ (g : Frame). g.order) f.alone) parts
-          ∙ section_same before frame.order interfaces (parts_in frame block) same ∙ enters.section;
-      packet = subst R block_is (packet_if_any frame.order before interfaces block (parts_in frame block) spans same parts enters.packet);
-      splits = came.splits;
-    }
+block_came before section interfaces interfaces' text unread' block buffer frame spans is same least room came block_is enters = search rules

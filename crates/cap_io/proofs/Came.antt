@@ -169,9 +169,6 @@ fields_refused head unread unread1 front answer fault splits size is err =
           (λ failed. absurd (own-not_failed fault (own-fields head front fault fails) failed));
     }
 
-pub error_is : {X : Type 0} {fault other : Fault} → (let r : Result X Fault = Err fault in r ≡ Err other) → fault ≡ other
-error_is e = (cc)
-
 -- a check of a record's header doesn't report that memory ran out
 pub fields-has_memory : (head : Head) (front : List ℕ) (answer : Result RecordHead Fault) (fault : Fault)
     → answer ≡ checked (first_failing (field_checks head front)) (record_header_in head front) → answer ≡ Err fault

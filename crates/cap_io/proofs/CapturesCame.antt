@@ -1,8 +1,9 @@
 -- The effect of reading the units of a capture of any format.
 use Rattle.std.proofs.lemmas.Bool.{cases_lt}
 use Rattle.cap_io.proofs.BlocksCame.{BlockCame, BlockMissing, Describes}
-use Rattle.cap_io.proofs.Came.{Taken-following, error_is, most_taken-file}
+use Rattle.cap_io.proofs.Came.{Taken-following, most_taken-file}
 use Rattle.cap_io.proofs.Common.{◌≡◌, ℕ, ◌+◌, ◌<◌, ◌≤◌, ◌^◌, IsTrue, Result, Ok, Err, inl, inr, Bool, true, false, List, [], ◌∷◌, ◌++◌, length, take, Option}
+use Rattle.cap_io.proofs.Common.{rules}
 use Rattle.cap_io.proofs.Common.{Some, None, is_some, refl, sym, ap, ◌∙◌, subst, arith, unwrap_or, if◌then◌else◌, nat_le, slice_get, option_map, option_or}
 use Rattle.cap_io.proofs.Common.{option_to_list, length-append, length-take-le, All-nil, Captured, Fault, ReadFailed, Truncated, Order, Little, u32_in, Head}
 use Rattle.cap_io.proofs.Common.{Parts, SectionParts, EnhancedParts, SimpleParts, body_in, parts_in, parts_in_body, frame_in, is_section, magic_order, order_in}
@@ -68,10 +69,7 @@ refused-block file interfaces front unread unread' fault upper_bound begins m =
 
 -- a section header has no packet
 section-parts : (before : Option Section) (block : List ℕ) → is_section block ≡ true → parts_after before block ≡ SectionParts
-section-parts before block is =
-    let kind : type_in (order_before before) block ≡ BlockType.Section =
-    ap (λ (b : Bool). if b then BlockType.Section else type_of_block (u32_in (order_in (order_before before) block) block 0)) is in
-    ap (λ k. parts_in_body k (frame_after before block).order (body_in (frame_after before block) block)) kind
+section-parts before block is = search rules
 
 -- a block needs memory if it is longer than the buffer, or describes an interface
 pub block-takes : (file : FileState) (interfaces : List Described) (front unread : List ℕ) (room : ℕ) → 12 ≤ length front → BeginsBlock file front
@@ -84,10 +82,7 @@ block-takes (state.Pcapng order first) interfaces front unread room enough begin
 
 pub interface-takes : (file : FileState) (interfaces : List Described) (front unread : List ℕ) (room : ℕ) → 12 ≤ length front → BeginsBlock file front
     → Describes (section_before file interfaces) (front ++ unread) → TakesMemory room (declared_by file interfaces) (front ++ unread)
-interface-takes state.Unknown interfaces front unread room enough begins d =
-    let none : is_interface (parts_after None (front ++ unread)) ≡ false =
-    ap is_interface (section-parts None (front ++ unread) (is_section-append front unread (omega arith) ∙ begins)) in
-    absurd (let both : true ≡ false = sym d.is ∙ none in cc)
+interface-takes state.Unknown interfaces front unread room enough begins d = search rules
 interface-takes (state.Pcap head) interfaces front unread room enough begins d = absurd begins
 interface-takes (state.Pcapng order first) interfaces front unread room enough begins d = inr (d.passes, d.is)
 
@@ -148,9 +143,7 @@ block_front link section unread unread' fault m =
 -- ---- what a block declares
 
 pub first-packets : (block : List ℕ) → IsBlock None block → packets_in None block ≡ []
-first-packets block is =
-    let kind : is_section block ≡ true = and_second (nat_le 4 (length block)) (is_section block) (first-section block is.passes) in
-    ap (λ p. option_to_list (packet_by [] p)) (section-parts None block kind)
+first-packets block is = search rules
 
 -- a block with a packet doesn't change its section
 kept_by : (section : Section) (order : Order) (parts : Parts) (packet : Captured) → order ≡ section.order
@@ -204,15 +197,7 @@ packet_at_size : (link : Option ℕ) (section : Section) (unread buffer : List �
     → declared' ≡ PcapngFile link section
     → unread ≡ take size buffer ++ unread'
     → PacketCame (PcapngFile link section) unread buffer spans declared' unread'
-packet_at_size link section unread buffer spans packet declared' size unread' whole lent unit same splits =
-    let Q : ℕ → Type 0 = λ n. IsUnit (PcapngFile link section) (take n buffer) (packet ∷ []) (PcapngFile link section) in
-    record {
-      packet = packet;
-      is_lent = ap (λ n. packet_in_unit (PcapngFile link section) spans (take n buffer)) whole ∙ lent;
-      unit = subst Q (sym whole) unit;
-      same = same;
-      splits = splits ∙ ap (λ n. take n buffer ++ unread') (sym whole);
-    }
+packet_at_size link section unread buffer spans packet declared' size unread' whole lent unit same splits = search rules
 
 -- what is known of a file after a block without a packet
 pub passed-block : (file : FileState) (interfaces interfaces' : List Described) (front unread buffer unread' : List ℕ) (order : Order) (size : ℕ)
@@ -272,21 +257,14 @@ packet-block (state.Pcapng own link) interfaces interfaces' front unread buffer 
 -- a block with a packet doesn't change the interfaces
 pub interfaces-kept : (frame : Frame) (interfaces interfaces' : List Described) (block : List ℕ) (spans : PacketSpans) → Enters frame interfaces block
     (Some spans) interfaces' → interfaces' ≡ interfaces
-interfaces-kept frame interfaces interfaces' block spans enters =
-    ap (λ (s : Section). s.interfaces) (sym enters.section
-    ∙ kept_by (section_of frame.order interfaces) frame.order (parts_in frame block) enters.packet.packet refl (ap option_to_list enters.packet.stands))
+interfaces-kept frame interfaces interfaces' block spans enters = search rules
 
 -- a section header has none
 pub has-section : (file : FileState) (front block : List ℕ) (frame : Frame) (interfaces interfaces' : List Described) (spans : PacketSpans)
     → BeginsBlock file front
     → frame_in (known_order file) front ≡ frame → Enters frame interfaces block (Some spans) interfaces' → KnowsIfAny interfaces' (Some spans)
     → HasInterface (declared_by file interfaces') spans
-has-section state.Unknown front block frame interfaces interfaces' spans begins is enters knows =
-    let kind : frame.block_type ≡ BlockType.Section =
-    ap (λ (f : Frame). f.block_type) (sym is)
-    ∙ ap (λ (b : Bool). if b then BlockType.Section else type_of_block (u32_in (order_in None front) front 0)) begins in
-    let none : parts_in frame block ≡ SectionParts = ap (λ k. parts_in_body k frame.order (body_in frame block)) kind in
-    let no_packet : None ≡ Some enters.packet.packet = sym (ap (packet_by interfaces) none) ∙ enters.packet.stands in absurd (cc)
+has-section state.Unknown front block frame interfaces interfaces' spans begins is enters knows = search rules
 has-section (state.Pcap head) front block frame interfaces interfaces' spans begins is enters knows = absurd begins
 has-section (state.Pcapng order first) front block frame interfaces interfaces' spans begins is enters knows = knows
 
@@ -325,10 +303,6 @@ pub begun-front : (file : FileState) (interfaces : List Described) (unread unrea
 begun-front (state.Pcapng order first) interfaces unread unread' fault begun m = block_front first (section_of order interfaces) unread unread' fault m
 begun-front _ interfaces unread unread' fault begun m = absurd (cc)
 
-same_failures : (X Y : Type 0) (fault : Fault) → read_failures {X = X} (Err fault) ≡ read_failures {X = Y} (Err fault)
-same_failures X Y ReadFailed = refl
-same_failures X Y fault = refl
-
 pub no-error : {X E : Type 0} {x : X} {e : E} → Ok x ≡ Err e → ⊥
 no-error e = (cc)
 
@@ -336,66 +310,20 @@ no-error e = (cc)
 pub moves-failed : {I X Y : Type 0} {device : Ghosts I} {old new : I} {front most most' : ℕ} {count : X → ℕ} {count' : Y → ℕ} (fault : Fault)
     → Moves device old new front count most (Err fault) → most ≤ most'
     → Moves device old new front count' most' (Err fault)
-moves-failed {X = X} {Y = Y} {device = device} {old = old} fault moves less =
-    record {
-      counted = tt;
-      grown = moves.grown;
-      bounded = tt;
-      at_most = omega (arith, moves.at_most, less);
-      failed = moves.failed
-          ∙ ap (λ n. device.failures old + n) (same_failures X Y fault);
-      sure = moves.sure;
-      enough = moves.enough;
-      told = moves.told;
-    }
+moves-failed {X = X} {Y = Y} {device = device} {old = old} fault moves less = search rules
 
 -- two reads of one unit, the first of which succeeded, changed the device's counts as one read does
 pub moves-then : {I X Y : Type 0} {device : Ghosts I} {old mid new : I} {front least most : ℕ} {first : Y → ℕ} {count : X → ℕ} (y : Y)
     (r : Result X Fault) → first y ≡ front → Moves device old mid 0 first least (Ok y)
     → Moves device mid new front count most r → Moves device old new 0 count most r
-moves-then {front = front} {count = count} y (Ok x) is one two = record {
-  counted = omega (arith, is, one.counted, two.counted);
-  grown =
-      omega (arith, one.grown, two.grown);
-  at_most = tt;
-  failed = omega (arith, one.failed, two.failed);
-  sure = two.sure ∙ one.sure;
-  enough =
-      two.enough;
-  told = λ t. two.told t ∙ one.told t;
-  bounded = λ some. elim (cases_lt front (count x)) [
-    | inl less ↦ two.bounded less
-    | inr all ↦
-        omega (arith, some, all, one.bounded (omega (arith, is, some, all)), two.counted)
-  ];
-}
-moves-then y (Err fault) is one two = record {
-  counted = tt;
-  grown = omega (arith, one.grown, two.grown);
-  bounded = tt;
-  at_most =
-      omega (arith, is, one.counted, two.at_most);
-  failed = omega (arith, one.failed, two.failed);
-  sure = two.sure ∙ one.sure;
-  enough = two.enough;
-  told = λ t. two.told t ∙ one.told t;
-}
+moves-then {front = front} {count = count} y (Ok x) is one two = search rules
+moves-then y (Err fault) is one two = search rules
 
 -- after a successful read no unit was found
 pub moves-ended : {I X Y : Type 0} {device : Ghosts I} {old mid : I} {least most : ℕ} {first : Y → ℕ} {count : X → ℕ} (y : Y) (fault : Fault)
     → read_failures {X = X} (Err fault) ≡ 0 → first y ≤ most → Moves device old mid 0 first least (Ok y)
     → Moves device old mid 0 count most (Err fault)
-moves-ended y fault none less one =
-    record {
-      counted = tt;
-      grown = one.grown;
-      bounded = tt;
-      at_most = omega (arith, one.counted, less);
-      failed = omega (arith, one.failed, none);
-      sure = one.sure;
-      enough = one.enough;
-      told = one.told;
-    }
+moves-ended y fault none less one = search rules
 
 -- no unit was read
 pub reads-no_unit : {I A : Type 0} (device : Ghosts I) (old : UnitReader I A) (front : List ℕ) (fault : Fault) (new : UnitReader I A)
@@ -405,20 +333,7 @@ pub reads-no_unit : {I A : Type 0} (device : Ghosts I) (old : UnitReader I A) (f
     → (length old.buffer.items ≤ most_in_unit → length new.buffer.items ≤ most_in_unit)
     → (fault ≡ NoMemory → IsTrue device.tells → TakesMemory (length new.buffer.items) (declared_by old.file old.table)
     (front ++ device.unread old.input)) → ReadsUnit device old front (Err fault) new
-reads-no_unit device old front fault new moves err kept grown bounded memory =
-    record {
-      moves = moves;
-      sized = tt;
-      consistent = tt;
-      known = tt;
-      ok = tt;
-      err = err;
-      kept = kept;
-      grown = grown;
-      bounded = bounded;
-      fits = tt;
-      memory = λ e. memory (error_is e);
-    }
+reads-no_unit device old front fault new moves err kept grown bounded memory = search rules
 
 -- what reading after the first bytes of a unit did is what reading it all did
 pub ReadsUnit-following : {I A : Type 0} (device : Ghosts I) (old : UnitReader I A) (mid : I) (front : List ℕ) (r : Result NextUnit Fault)
@@ -429,60 +344,10 @@ pub ReadsUnit-following : {I A : Type 0} (device : Ghosts I) (old : UnitReader I
     → (IsTrue device.tells → device.unread old.input ≡ front ++ device.unread mid)
     → ReadsUnit device (record { input = mid; file = old.file; buffer = old.buffer; table = old.table; spans = old.spans }) front r new
     → ReadsUnit device old [] r new
-ReadsUnit-following device old mid front (Ok c) new given failed sure told small splits reads =
-    let m = reads.moves in
-    let P : List ℕ → Type 0 = λ t. UnitCame (declared_by old.file old.table) t new.buffer.items new.spans c (declared_by new.file new.table)
-    (device.unread new.input) in
-    record {
-      moves = record {
-        counted = omega (arith, given, m.counted);
-        grown = omega (arith, given, m.grown);
-        bounded = λ some. is_small c reads.sized some;
-        at_most = tt;
-        failed = m.failed ∙ ap (λ n. n + 0) failed;
-        sure = m.sure ∙ sure;
-        enough = m.enough;
-        told = λ t. m.told t ∙ told t;
-      };
-      sized = reads.sized;
-      consistent = reads.consistent;
-      known = reads.known;
-      ok = λ t. subst P (sym (splits t)) (reads.ok t);
-      err = tt;
-      kept = tt;
-      grown = reads.grown;
-      bounded = reads.bounded;
-      fits = reads.fits;
-      memory = λ e. (cc);
-    }
+ReadsUnit-following device old mid front (Ok c) new given failed sure told small splits reads = search (rules, is_small)
   where
     is_small : (c : NextUnit) → IsSized new.spans c new.buffer.items (device.given new.input) → 0 < unit_size new.spans c → device.given new.input < 2 ^ 63
     is_small (NextUnit.Other size) sized some = sized.1
     is_small NextUnit.Packet sized some = sized.1
     is_small NextUnit.End sized some = absurd (omega arith)
-ReadsUnit-following device old mid front (Err fault) new given failed sure told small splits reads =
-    let m = reads.moves in
-    let P : List ℕ → Type 0 = λ t. NoUnitCame (declared_by old.file old.table) t (device.unread new.input) fault in
-    record {
-      moves = record {
-        counted = tt;
-        grown = omega (arith, given, m.grown);
-        bounded = tt;
-        at_most = omega (arith, given, m.at_most);
-        failed = m.failed ∙ ap (λ n. n + read_failures {X = NextUnit} (Err fault)) failed;
-        sure = m.sure ∙ sure;
-        enough = m.enough;
-        told = λ t. m.told t ∙ told t;
-      };
-      sized = tt;
-      consistent = tt;
-      known = tt;
-      ok = tt;
-      err = λ t. subst P (sym (splits t)) (reads.err t);
-      kept = reads.kept;
-      grown = reads.grown;
-      bounded = reads.bounded;
-      fits = tt;
-      memory = λ e t. subst (λ (text : List ℕ). TakesMemory (length new.buffer.items) (declared_by old.file old.table) text) (sym (splits t))
-          (reads.memory e t);
-    }
+ReadsUnit-following device old mid front (Err fault) new given failed sure told small splits reads = search rules

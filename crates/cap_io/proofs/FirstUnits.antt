@@ -1,4 +1,5 @@
 -- The unit that some bytes begin with.
+use Rattle.cap_io.proofs.Common.{rules}
 use Rattle.cap_io.proofs.BlocksCame.{BlockCame, FrontSays, WholeCame, block_came, block_refused, front_says}
 use Rattle.cap_io.proofs.CapturesCame.{first-packets, order-held, section-kept}
 use Rattle.cap_io.proofs.Common.{◌≡◌, ℕ, ◌+◌, ◌^◌, ◌<◌, ◌≤◌, List, [], ◌∷◌, ◌++◌, length, take, drop, Option, Some, None, Ok, Err, true, false, is_some, refl}
@@ -46,18 +47,7 @@ head_taken text enough =
 pub header-begins : (interfaces : List Described) (text : List ℕ) (head : Head) → is_pcapng text ≡ false
     → Ok head ≡ checked (header_fault text) (header_in text)
     → BeginsWithUnit state.Unknown interfaces text (record { size = 24; file = state.Pcap head; effect = does.Nothing })
-header-begins interfaces text head other is =
-    let e = checked_ok (header_fault text) (header_in text) head (sym is) in
-    record {
-      packets = [];
-      front = front_of-header text other e.0 ∙ ap (λ (h : Head). Whole 24 [] (PcapFile h)) e.1;
-      has = refl;
-      there = header_fault-none text e.0;
-      some = omega arith;
-      small = omega arith;
-      adds = tt;
-      fits = λ few. few;
-    }
+header-begins interfaces text head other is = search rules
 
 pub header-refused : (text : List ℕ) (fault : Fault) → is_pcapng text ≡ false → Err fault ≡ checked (header_fault text) (header_in text)
     → front_of Nothing text ≡ NoUnit (Some fault)

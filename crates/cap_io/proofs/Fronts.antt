@@ -1,4 +1,5 @@
 -- The first unit of some bytes depends only on their prefix.
+use Rattle.cap_io.proofs.Common.{rules}
 use Rattle.cap_io.proofs.Common.{◌≡◌, ℕ, ◌<◌, ◌≤◌, Bool, List, [], ◌∷◌, ◌++◌, length, take, Option, Some, None, true, false, refl, sym, ap, ◌∙◌, subst, arith}
 use Rattle.cap_io.proofs.Common.{◌&&◌, and_from, le-leb, length-append, Fault, Little, Head, first_failing, form_in, header_fault, header_in, record_size}
 use Rattle.cap_io.proofs.Common.{record_fault, record_packet, frame_checks, is_section, Section, block_size, order_before, packets_in, unit_fault, least_length}
@@ -79,9 +80,7 @@ front_of_block-none first before text fault fails = ap (λ (f : Option Fault). b
 -- ---- how much is taken at most
 
 pub most_taken-header : (text : List ℕ) (count : ℕ) → is_pcapng text ≡ false → count ≤ 24 → count ≤ most_taken (front_of Nothing text)
-most_taken-header text count other upper_bound = let P : Front → Type 0 = λ f. count ≤ most_taken f in
-    subst P (sym (front_of-pcap text other)) (elim (header_fault text) as (λ fault. count ≤ most_taken (header_unless fault text))
-    [ None ↦ upper_bound | Some fault ↦ omega arith ])
+most_taken-header text count other upper_bound = search rules
 
 pub most_taken-record : (head : Head) (text : List ℕ) (count : ℕ) → count ≤ record_size head text → count ≤ most_in_unit
     → count ≤ most_taken (front_of (PcapFile head) text)
@@ -96,18 +95,14 @@ most_taken-front head text count upper_bound = most_taken-record head text count
 pub most_taken-block : (first : Option ℕ) (before : Option Section) (text : List ℕ) (count : ℕ)
     → (unit_fault before text ≡ None → count ≤ block_size before text)
     → count ≤ most_in_unit → count ≤ most_taken (block_unless (unit_fault before text) first before text)
-most_taken-block first before text count within upper_bound =
-    elim (unit_fault before text) as (λ fault. (fault ≡ None → count ≤ block_size before text)
-    → count ≤ most_taken (block_unless fault first before text)) [ None ↦ λ within. within refl | Some fault ↦ λ within. upper_bound ] within
+most_taken-block first before text count within upper_bound = search rules
 
 -- ---- how many bytes decide it
 
 -- it depends on a header that is complete and fails no check
 pub length_by_header-whole : (header : ℕ) (text : List ℕ) (checks : List (Bool × Fault)) (size : ℕ) → header ≤ length text → first_failing checks ≡
     None → length_by_header header text checks size ≡ Some size
-length_by_header-whole header text checks size whole none =
-    ap (λ (b : Bool). if b then Some size else None) (and_from (nat_le header (length text)) (is_none (first_failing checks))
-    (le-leb header (length text) whole) (ap (λ (f : Option Fault). is_none f) none))
+length_by_header-whole header text checks size whole none = search rules
 
 -- fewer bytes than a header has don't decide anything
 length_by_header-few : (header : ℕ) (text : List ℕ) (checks : List (Bool × Fault)) (size count : ℕ) → (first_failing checks ≡ None → header ≤ size)
@@ -132,6 +127,4 @@ decisive_length-pcapng text is =
     ap (λ (b : Bool). unwrap_or (if b then block_length None text else None) (if b then 12 else (if is_some (form_in text) then 24 else 4))) is
 
 pub decisive_length-header : (text : List ℕ) → is_pcapng text ≡ false → is_some (form_in text) ≡ true → decisive_length Nothing text ≡ 24
-decisive_length-header text other some =
-    ap (λ (b : Bool). unwrap_or (if b then block_length None text else None) (if b then 12 else (if is_some (form_in text) then 24 else 4))) other
-    ∙ ap (λ (b : Bool). if b then 24 else 4) some
+decisive_length-header text other some = search rules

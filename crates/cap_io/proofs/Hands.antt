@@ -67,12 +67,5 @@ takes-next tells spans hand old new lies known fits given bounded failures sure 
 -- what `take_at_hand` returns
 pub if-at-hand : (tells : Bool) (old new : SourceView) (r : Bool) → old.phase ≡ Reading → (IsTrue r → TakesNext tells old new)
     → (r ≡ false → new ≡ old) → TakesIfAtHand tells old r new
-if-at-hand tells old new true reading found nothing =
-    let takes = found refl in
-    let bounds = takes.bounds in (
-      subst (λ (p : Phase). IsTrue tells → Advances p old (Ok true) new) (sym reading) takes.packet,
-      subst (λ (p : Phase). Steps p old (Ok true) new) (sym reading) (bounds-then old old new (Ok NextUnit.Packet) (omega arith) refl refl
-          (omega arith) refl bounds),
-      bounds.found refl,
-    )
+if-at-hand tells old new true reading found nothing = search rules
 if-at-hand tells old new false reading found nothing = nothing refl

@@ -1,4 +1,5 @@
 -- The different interfaces of packets, in the order of first use.
+use Rattle.cap_io.proofs.Common.{rules}
 use Rattle.cap_io.proofs.Common.{◌≡◌, ◌≤◌, ◌&&◌, ◌||◌, ◌+◌, suc, Bool, true, false, not, cond, if◌then◌else◌, Some, number_among, is_among, refl, ap, List, []}
 use Rattle.cap_io.proofs.Common.{◌∷◌, ◌++◌, length, nat_eq, sym, arith, fold, fold-append, and_parts, eqb-true, Captured, Format, Pcapng, Interface}
 use Rattle.cap_io.proofs.Common.{interface_of, is_same, new_among, interfaces_after_packet, kept_interfaces, ℕ, map, nat_le, ◌∙◌, ◌<◌, list_any}
@@ -12,13 +13,7 @@ use Rattle.cap_io.specs.declared.numbering.InterfaceKey.{InterfaceKey}
 -- ---- the same
 
 pub same_interface : (i j : Interface) → is_same i j ≡ true → i ≡ j
-same_interface i j same =
-    let links = and_parts (nat_eq i.link j.link) (nat_eq i.snap j.snap && pointwise nat_eq i.name j.name) same in
-    let others = and_parts (nat_eq i.snap j.snap) (pointwise nat_eq i.name j.name) links.1 in
-    let link : i.link ≡ j.link = eqb-true i.link j.link links.0 in
-    let snap : i.snap ≡ j.snap = eqb-true i.snap j.snap others.0 in
-    let name : i.name ≡ j.name = same_text i.name j.name (sym others.1) in
-    λ k. record { link = link k; snap = snap k; name = name k }
+same_interface i j same = search rules
 
 -- ---- one more
 

@@ -1,4 +1,5 @@
 -- What parts add that are written one after another, and what a sink adds with them.
+use Rattle.cap_io.proofs.Common.{rules}
 use Rattle.cap_io.proofs.Common.{◌≡◌, ◌⊎◌, inl, inr, ℕ, ◌+◌, ◌<◌, Bool, true, false, not, if◌then◌else◌, List, [], ◌∷◌, ◌++◌, length, take, Option, Some, None}
 use Rattle.cap_io.proofs.Common.{Result, is_ok, Ok, Err, refl, sym, ap, ap₂, subst, ◌∙◌, arith, flat_map, append_assoc, append-nil, take-append-le, checked}
 use Rattle.cap_io.proofs.Common.{AppendsOrStops, Stops, Captured, Fault, WriteFailed, Format, Pcap, NsecPcap, Pcapng, InterfaceNumber, SinkState, HasNumber}
@@ -99,9 +100,7 @@ described false p = sym (append-nil (interface_text p.link p.snap p.name))
 
 pub block-place : (old : List Interface) (p : Captured) (place : InterfaceNumber) (new : List Interface) → HasNumber old (interface_of p) place new
     → packet_block_text place p ≡ appended_packet Pcapng old p
-block-place old p place new has =
-    ap₂ (λ (b : Bool) (n : ℕ). description_text b p ++ pcapng_packet n p) has.is_new has.number
-    ∙ ap (λ (l : List ℕ). l ++ pcapng_packet (number_among old (interface_of p)) p) (described (is_among old (interface_of p)) p)
+block-place old p place new has = search rules
 
 -- ---- what a sink adds
 
@@ -118,10 +117,7 @@ pub block-adds : (r : Result (Unit {0}) DeviceFault) (format : Format) (state : 
     → format ≡ Pcapng → HasNumber interfaces (interface_of p) place new
     → AppendsOrStops r written (file_start_in Pcapng state p.link ++ packet_block_text place p) written' → AppendsOrStops r written
     (file_start_in format state p.link ++ appended_packet format interfaces p) written'
-block-adds r format state interfaces p place new written written' form has appends =
-    let P : Format → Type 0 = λ f. AppendsOrStops r written (file_start_in f state p.link ++ appended_packet f interfaces p) written' in
-    subst P (sym form) (appends-as r written _ _ written' (ap (λ (l : List ℕ). file_start_in Pcapng state p.link ++ l)
-    (block-place interfaces p place new has)) appends)
+block-adds r format state interfaces p place new written written' form has appends = search rules
 
 -- a packet that isn't refused, where the device failed
 pub adds-failed : (refusal : Option Fault) (bytes written written' : List ℕ) → Ok (tt {0}) ≡ checked refusal (tt {0}) → Stops written bytes written'

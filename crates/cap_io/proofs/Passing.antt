@@ -1,6 +1,7 @@
 -- Units from one place in a file to a later one, and the items after them.
 use Rattle.cap_io.proofs.Common.{◌≡◌, ℕ, ◌+◌, ◌-◌, ◌≤◌, ◌<◌, ◌^◌, Bool, false, Result, Ok, Err, HasGiven, most_in_unit, read_failures, List, [], ◌++◌, length}
 use Rattle.cap_io.proofs.Common.{take, drop, Option, Some, None, is_some, true, refl, sym, ap, ap₂, ◌∙◌, subst, arith, slice_get, option_map, append_assoc}
+use Rattle.cap_io.proofs.Common.{rules}
 use Rattle.cap_io.proofs.Common.{drop-take, take-take, length-append, length-take-le, Order, Head, Described, packet_of, Fault, NoMemory, PacketSpans, Declared}
 use Rattle.cap_io.proofs.Common.{Nothing, PcapFile, PcapngFile, AreUnits, no_unit, TakesMemory, held_length, no_unit_fits, packet_in_unit, EndCame}
 use Rattle.cap_io.proofs.Common.{HasInterface, PacketCame, NoUnitCame, UnitPassed, span_bytes, SourceView, Reading, Ended, Failed, SkipsUnits, IsBroken}
@@ -145,26 +146,7 @@ IsBroken-then old mid new fault first none counted broken = record {
 pub IsBroken-failed : (old mid new : SourceView) (fault : Fault) → IsBroken old mid fault → new.declared ≡ mid.declared → new.offset ≡ mid.offset
     → new.unread ≡ mid.unread → new.given ≡ mid.given → new.room ≡ mid.room
     → new.block ≡ [] → new.packet ≡ None → new.phase ≡ Failed fault → FindsFault old new fault
-IsBroken-failed old mid new fault broken declared offset unread given room block packet phase = record {
-  broken = record {
-    rest = broken.rest;
-    passes = record {
-      passed = broken.passes.passed;
-      splits = broken.passes.splits;
-      units = rw declared broken.passes.units;
-      offset = offset ∙ broken.passes.offset;
-      room = omega (arith, room, broken.passes.room);
-      fit = rw (declared, room) broken.passes.fit;
-    };
-    why = rw declared broken.why;
-    memory = λ e. rw (declared, room) (broken.memory e);
-    taken = rw (declared, unread) broken.taken;
-    counted = rw (unread, given) broken.counted;
-    block = block;
-    packet = packet;
-  };
-  phase = phase;
-}
+IsBroken-failed old mid new fault broken declared offset unread given room block packet phase = search rules
 
 -- ---- bounds
 
@@ -177,57 +159,9 @@ found_by (Err fault) = Err fault
 pub bounds-then : (first old new : SourceView) (read : Result NextUnit Fault) → first.given ≤ old.given → old.failures ≡ first.failures
     → old.sure ≡ first.sure → first.room ≤ old.room
     → old.given + end_offset first ≡ first.given + end_offset old → NextBounds old read new → KeepsBounds first (found_by read) new
-bounds-then first old new (Ok NextUnit.Packet) given failures sure room counted next = record {
-  given = omega (arith, given, next.given);
-  failures =
-      omega (arith, failures, next.failures);
-  sure = next.sure ∙ sure;
-  enough = next.enough;
-  block = next.block;
-  held = next.held;
-  room =
-      omega (arith, room, next.room);
-  progress = λ e. omega (arith, given, (next.packet refl).0);
-  bounded = λ e. (next.packet refl).1;
-  packet =
-      λ e. (next.packet refl).2;
-  counted = omega (arith, counted, next.counted);
-  broken = tt;
-}
-bounds-then first old new (Ok unit) given failures sure room counted next = record {
-  given = omega (arith, given, next.given);
-  failures =
-      omega (arith, failures, next.failures);
-  sure = next.sure ∙ sure;
-  enough = next.enough;
-  block = next.block;
-  held = next.held;
-  room =
-      omega (arith, room, next.room);
-  progress = λ e. absurd (cc);
-  bounded = λ e. absurd (cc);
-  packet = λ e. absurd (cc);
-  counted =
-      omega (arith, counted, next.counted);
-  broken = tt;
-}
-bounds-then first old new (Err fault) given failures sure room counted next = record {
-  given = omega (arith, given, next.given);
-  failures =
-      omega (arith, failures, next.failures);
-  sure = next.sure ∙ sure;
-  enough = next.enough;
-  block = next.block;
-  held = next.held;
-  room =
-      omega (arith, room, next.room);
-  progress = λ e. absurd (cc);
-  bounded = λ e. absurd (cc);
-  packet = λ e. absurd (cc);
-  counted = tt;
-  broken =
-      (omega (arith, counted, next.broken.0), omega (arith, counted, next.broken.1));
-}
+bounds-then first old new (Ok NextUnit.Packet) given failures sure room counted next = search rules
+bounds-then first old new (Ok unit) given failures sure room counted next = search rules
+bounds-then first old new (Err fault) given failures sure room counted next = search rules
 
 -- what `read_unit` knows of the unit that it read
 abbrev IsRead : SourceView → Result NextUnit Fault → SourceView → Type 0
@@ -241,74 +175,10 @@ pub bounds-next : (old new : SourceView) (read : Result NextUnit Fault) → old.
     → new.sure ≡ old.sure → (0 < new.failures → HasGiven new.sure new.given)
     → length new.block ≤ new.room → new.room ≤ most_in_unit → old.room ≤ new.room
     → OnOk read (new.given + end_offset old ≡ old.given + end_offset new) → IsRead old read new → NextBounds old read new
-bounds-next old new (Ok NextUnit.Packet) given failures sure enough block held room counted is =
-    record {
-      given = given;
-      failures = failures;
-      sure = sure;
-      enough = enough;
-      block = block;
-      held = held;
-      room = room;
-      counted = counted;
-      broken =
-          tt;
-      packet = λ e. is.0;
-      ended = λ e. absurd (cc);
-      found = λ e. is.1;
-      passed = λ size e. absurd (cc);
-    }
-bounds-next old new (Ok (NextUnit.Other size)) given failures sure enough block held room counted is =
-    record {
-      given = given;
-      failures = failures;
-      sure = sure;
-      enough = enough;
-      block = block;
-      held = held;
-      room = room;
-      counted = counted;
-      broken =
-          tt;
-      packet = λ e. absurd (cc);
-      ended = λ e. absurd (cc);
-      found = λ e. absurd (cc);
-      passed = λ size e. is;
-    }
-bounds-next old new (Ok NextUnit.End) given failures sure enough block held room counted is =
-    record {
-      given = given;
-      failures = failures;
-      sure = sure;
-      enough = enough;
-      block = block;
-      held = held;
-      room = room;
-      counted = counted;
-      broken =
-          tt;
-      packet = λ e. absurd (cc);
-      ended = λ e. is;
-      found = λ e. absurd (cc);
-      passed = λ size e. absurd (cc);
-    }
-bounds-next old new (Err fault) given failures sure enough block held room counted is =
-    record {
-      given = given;
-      failures = failures;
-      sure = sure;
-      enough = enough;
-      block = block;
-      held = held;
-      room = room;
-      counted = counted;
-      broken =
-          is;
-      packet = λ e. absurd (cc);
-      ended = λ e. absurd (cc);
-      found = λ e. absurd (cc);
-      passed = λ size e. absurd (cc);
-    }
+bounds-next old new (Ok NextUnit.Packet) given failures sure enough block held room counted is = search rules
+bounds-next old new (Ok (NextUnit.Other size)) given failures sure enough block held room counted is = search rules
+bounds-next old new (Ok NextUnit.End) given failures sure enough block held room counted is = search rules
+bounds-next old new (Err fault) given failures sure enough block held room counted is = search rules
 
 -- ---- from past the current unit
 
@@ -316,32 +186,12 @@ pub past-between : (old between : SourceView) → old.phase ≡ Reading → betw
 past-between old between reading is = rw is (record { phase = reading; block = refl; packet = refl })
 
 pub past-continues : (old between new : SourceView) (r : Result Bool Fault) → between ≡ past_unit old → Continues between r new → Continues old r new
-past-continues old between new (Ok true) is c = FindsPacket-then old (past_unit old) new (stays old (past_unit old) refl refl (omega arith)) refl (rw is at c)
-past-continues old between new (Ok false) is c = FindsEnd-then old (past_unit old) new (stays old (past_unit old) refl refl (omega arith)) refl (rw is at c)
-past-continues old between new (Err fault) is c = IsBroken-then old (past_unit old) new fault (stays old (past_unit old) refl refl (omega arith)) refl
-    (omega arith) (rw is at c)
+past-continues old between new (Ok true) is c = search rules
+past-continues old between new (Ok false) is c = search rules
+past-continues old between new (Err fault) is c = search rules
 
 pub past-bounds : (old between new : SourceView) (r : Result Bool Fault) → between ≡ past_unit old → KeepsBounds between r new → KeepsBounds old r new
-past-bounds old between new r is kept =
-    let k = rw is at kept in
-    let place : end_offset (past_unit old) ≡ end_offset old = omega arith in
-    let P : ℕ → Type 0 = λ e. OnOk r (new.given + e ≡ old.given + end_offset new) in
-    let Q : ℕ → Type 0 = λ e. OnErr r ((old.given + end_offset new ≤ new.given + e) × (new.given + e ≤ old.given + end_offset new + most_in_unit)) in
-    record {
-      given = k.given;
-      failures = k.failures;
-      sure = k.sure;
-      enough = k.enough;
-      block = k.block;
-      held = k.held;
-      room = k.room;
-      progress =
-          k.progress;
-      bounded = k.bounded;
-      packet = k.packet;
-      counted = subst P place k.counted;
-      broken = subst Q place k.broken;
-    }
+past-bounds old between new r is kept = search rules
 
 -- ---- the packet in hand
 

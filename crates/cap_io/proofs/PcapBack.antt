@@ -1,4 +1,5 @@
 -- A capture that is written in a pcap format reads back.
+use Rattle.cap_io.proofs.Common.{rules}
 use Rattle.cap_io.proofs.Backs.{Holds, each-following, holds-none, holds-unit, reads-back}
 use Rattle.cap_io.proofs.Common.{◌≡◌, ℕ, ◌+◌, ◌*◌, ◌/◌, ◌%◌, ◌^◌, ◌<◌, ◌≤◌, Bool, List, [], ◌∷◌, ◌++◌, length, drop, nat_lt, None, refl, sym, ap, subst, ◌∙◌}
 use Rattle.cap_io.proofs.Common.{arith, leb-true, lt-ltb, AllByRecursion, flat_map, eqb-true, ltb-true, first_failing, u32_in, Captured, Fault, LinkTypesDiffer}
@@ -91,22 +92,8 @@ record-back r link p kept =
 
 header-back : (r : Resolution) (link : ℕ) → link < 2 ^ 16 → IsHeader (pcap.file_header r link) (written_head r link)
 unfolding written_head number_in
-header-back Microseconds link upper_bound =
-    let bytes : List ℕ = pcap.file_header Microseconds link in
-    let link_is : u32_in Little bytes 20 ≡ link = number_at 4 bytes 20 link [] refl (omega arith) in
-    record {
-      passes = none_failing (header_checks bytes) (refl, (refl, (refl, (ap (λ (n : ℕ). nat_lt n 65536) link_is ∙ lt-ltb link 65536 upper_bound, tt))));
-      whole = refl;
-      says = λ k. record { order = Little; resolution = Microseconds; snap = most_captured; link = sym link_is k };
-    }
-header-back Nanoseconds link upper_bound =
-    let bytes : List ℕ = pcap.file_header Nanoseconds link in
-    let link_is : u32_in Little bytes 20 ≡ link = number_at 4 bytes 20 link [] refl (omega arith) in
-    record {
-      passes = none_failing (header_checks bytes) (refl, (refl, (refl, (ap (λ (n : ℕ). nat_lt n 65536) link_is ∙ lt-ltb link 65536 upper_bound, tt))));
-      whole = refl;
-      says = λ k. record { order = Little; resolution = Nanoseconds; snap = most_captured; link = sym link_is k };
-    }
+header-back Microseconds link upper_bound = search rules
+header-back Nanoseconds link upper_bound = search rules
 
 -- ---- records
 
@@ -157,16 +144,7 @@ same-first first p rest (q ∷ qs) later is none =
 kept-of : (r : Resolution) (first p : Captured) (rest earlier later : List Captured) → first ∷ rest ≡ earlier ++ p ∷ later → InRange p → IsPlain p
     → IsWhole r p.time
     → first_failing (form_checks earlier p) ≡ None → IsKept r first.link p
-kept-of r first p rest earlier later is in_range plain whole none =
-    let met = all_met (form_checks earlier p) none in
-    record {
-      link_is = same-first first p rest earlier later is (none_failing (link_check earlier p) (met.0, tt));
-      plain = plain;
-      whole = whole;
-      orig = in_range.orig;
-      upper_bound = leb-true (length p.bytes) most_captured met.1.0;
-      seconds = ltb-true (p.time / 1000000000) (2 ^ 32) met.1.1.0;
-    }
+kept-of r first p rest earlier later is in_range plain whole none = search rules
 
 pub pcap-back : Back Pcap
 pcap-back p ps carries =

@@ -1,4 +1,5 @@
 -- A capture that is written in pcapng reads back.
+use Rattle.cap_io.proofs.Common.{rules}
 use Rattle.cap_io.proofs.Backs.{Holds, each-following, holds-none, holds-unit, reads-back}
 use Rattle.cap_io.proofs.Common.{◌≡◌, ℕ, ◌<◌, ◌≤◌, Bool, true, false, List, [], ◌∷◌, ◌++◌, length, map, if◌then◌else◌, Option, None, Some, refl, sym, ap, subst}
 use Rattle.cap_io.proofs.Common.{◌∙◌, arith, AllByRecursion, flat_map, fold, slice_get, option_map, fold-append, append_assoc, append-nil, length-map}
@@ -119,10 +120,7 @@ packets-hold earlier (p ∷ ps) kept upper_bound =
 -- ---- a file
 
 kept-of : (earlier : List Captured) (p : Captured) → IsCarried Pcapng earlier p → IsKept p
-kept-of earlier p carried = record {
-  in_range = carried.in_range;
-  fits = none_failing (pcapng.block_fit_checks p) ((all_met (checks_in Pcapng (state_after earlier) (kept_interfaces Pcapng earlier) p) carried.taken).0, tt);
-}
+kept-of earlier p carried = search rules
 
 pub pcapng-back : Back Pcapng
 pcapng-back p ps carries =

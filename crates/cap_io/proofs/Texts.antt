@@ -1,4 +1,5 @@
 -- A sink has written the bytes of the packets that were put to it.
+use Rattle.cap_io.proofs.Common.{rules}
 use Rattle.cap_io.proofs.Common.{◌≡◌, ◌⊎◌, inl, inr, ℕ, ◌+◌, ◌/◌, ◌^◌, nat_le, nat_lt, length, Bool, true, false, List, [], ◌∷◌, ◌++◌, Option, None, Some}
 use Rattle.cap_io.proofs.Common.{Result, Ok, Err, refl, sym, ◌∙◌, ap, ap₂, subst, append_assoc, append-nil, first_failing, AppendsOrStops, Captured, Fault}
 use Rattle.cap_io.proofs.Common.{WriteFailed, NoMemory, LinkTypesDiffer, TooLong, TimeOutOfRange, TooManyOutputInterfaces, Format, Pcap, NsecPcap, Pcapng}
@@ -163,9 +164,7 @@ put-answer ps old p r new has puts =
 -- the bytes that are written for it
 pub put-writes : (ps : List Captured) (old : SinkView) (p : Captured) (r : Result (Unit {0}) Fault) (new : SinkView)
     → HasPut old ps → PutWrites old.state old p r new → WritesPacket (refusal_of old.format ps p) (added_text old.format ps p) old.written r new.written
-put-writes ps old p r new has writes =
-    let by = by-packets old ps p has in
-    rw (← by.refusal, ← by.added) (writes-after ps old p r new (let P : SinkState → Type 0 = λ st. PutWrites st old p r new in subst P has.state writes))
+put-writes ps old p r new has writes = search rules
 
 -- a packet that is put isn't refused
 pub put-taken : (refusal : Option Fault) (takes : Bool) → IsPutAnswer refusal takes (Ok tt) → refusal ≡ None

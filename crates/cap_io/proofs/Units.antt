@@ -1,4 +1,5 @@
 -- Complete units, and what bytes begin with.
+use Rattle.cap_io.proofs.Common.{rules}
 use Rattle.std.proofs.Math.Bool.{or-false}
 use Rattle.cap_io.proofs.Common.{◌≡◌, ℕ, Bool, true, false, ◌&&◌, cond, is_some, ◌⊎◌, inl, inr, ◌<◌, ◌≤◌, List, [], ◌∷◌, ◌++◌, length, take, drop, Option, None}
 use Rattle.cap_io.proofs.Common.{Some, refl, sym, ◌∙◌, ap, arith, append-nil, length-append, length-take-le, take-append-drop, take_at, Captured, Fault, Head}
@@ -48,10 +49,7 @@ header-other text is none =
 
 -- a first block is a section header
 pub first-section : (text : List ℕ) → unit_fault None text ≡ None → is_pcapng text ≡ true
-first-section text none =
-    let p = block.passes None text none in
-    ap (λ (b : Bool). b && is_section text) (le-leb 4 (length text) (omega (arith, p.enough)))
-    ∙ sym (or-false (is_section text)) ∙ (all_met (frame_checks None text) p.framed).0
+first-section text none = search rules
 
 other-header : (text : List ℕ) → header_fault text ≡ None → is_pcapng text ≡ false
 other-header text none = by_bool (is_pcapng text) refl

@@ -1,4 +1,4 @@
--- The unit that some bytes begin with, as a reader finds it, whose packet's places it needs.
+-- The unit that some bytes begin with, and the place of its packet.
 use Rattle.std.specs.Prelude.{◌≡◌, ℕ, ◌+◌, ◌^◌, ◌<◌, ◌≤◌, List, [], ◌∷◌, length, take, Some}
 use Rattle.cap_octet.specs.Packet.{Captured}
 use Rattle.cap_pcapng.specs.{Effect.interfaces_after, Interface.Described, Interface.most_interfaces}

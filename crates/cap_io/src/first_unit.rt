@@ -54,10 +54,9 @@ fn header_in(bytes: &[u8]) -> Result<Head, Fault>
     read_head(header)
 }
 
-/// The packet's place in the record that some bytes of a pcap file with this header begin with; or
-/// the first check that the record fails: `Truncated` where fewer than its header's 16 bytes are
-/// there, then those of the header (`read_record`), and `Truncated` if the data after it aren't all
-/// there.
+/// The place of the packet in the record that these bytes of a pcap file begin with; or the first
+/// check that the record fails: `Truncated` if its header of 16 bytes is cut, the checks of the
+/// header (`read_record`), `Truncated` if its data are cut.
 #[inline(always)]
 pub fn record_in(head: &Head, bytes: &[u8]) -> Result<PacketSpans, Fault>
     requires some { 0 < length bytes.now }

@@ -6,9 +6,6 @@ use Rattle.std.proofs.lemmas.{Bool.Decides.nat_tests, Fmt.decimal_digit, Fmt.dec
 use Rattle.cap_print.specs.Hexadecimal.{without_zeros, hex_digit, hex_four, hex_group}
 use Rattle.cap_octet.specs.Date.{digits}
 
-zero-goes : (m d : ℕ) (ds : List ℕ) → d ≡ 48 → without_zeros (suc m) (d ∷ ds) ≡ without_zeros m ds
-zero-goes m d ds is = rw is refl
-
 pub other-stays : (m d : ℕ) (ds : List ℕ) → d ≢ 48 → without_zeros (suc m) (d ∷ ds) ≡ d ∷ ds
 other-stays m d ds isnt = search rules
 
@@ -17,19 +14,14 @@ pub zeros-more : (digits : List ℕ) (most i : ℕ) → i < most → i < length 
     → without_zeros (most - (i + 1)) (drop (i + 1) digits) ≡ without_zeros (most - i) (drop i digits)
 zeros-more digits most i less within is =
     let one : most - i ≡ suc (most - (i + 1)) = omega arith in
-    sym (ap (λ m. without_zeros m (drop i digits)) one
-    ∙ ap (without_zeros (suc (most - (i + 1)))) (drop_more digits i 0 within)
-    ∙ zero-goes (most - (i + 1)) (get_or digits i 0) (drop (i + 1) digits) is)
+    rw (one, drop_more digits i 0 within, is) refl
 
 -- another digit stays, with those after it
 pub zeros-end : (digits : List ℕ) (most i : ℕ) → i < most → i < length digits → get_or digits i 0 ≢ 48
     → drop i digits ≡ without_zeros (most - i) (drop i digits)
 zeros-end digits most i less within isnt =
     let one : most - i ≡ suc (most - (i + 1)) = omega arith in
-    sym (ap (λ m. without_zeros m (drop i digits)) one
-    ∙ ap (without_zeros (suc (most - (i + 1)))) (drop_more digits i 0 within)
-    ∙ other-stays (most - (i + 1)) (get_or digits i 0) (drop (i + 1) digits) isnt
-    ∙ sym (drop_more digits i 0 within))
+    rw (one, drop_more digits i 0 within) (sym (other-stays (most - (i + 1)) (get_or digits i 0) (drop (i + 1) digits) isnt))
 
 digit_shows : (d : ℕ) → 0 < d → hex_digit d ≢ 48
 digit_shows d some = grind (arith, nat_tests)

@@ -1,12 +1,10 @@
 -- What is written of a packet's line and rows, all of it or up to a failure of the device.
-use Rattle.std.proofs.Common.{◌≡◌, ℕ, ◌+◌, ◌<◌, true, false, List, [], ◌++◌, length, take, Result, Ok, Err, refl, ap, sym, ◌∙◌, arith, length-append}
-use Rattle.std.proofs.Common.{append-nil, zero, suc, ◌-◌, append_assoc}
-use Rattle.std.proofs.{Math.Seq.take-append-add, lemmas.List.append_assoc}
+use Rattle.std.proofs.Common.{◌≡◌, ℕ, ◌+◌, ◌<◌, true, false, List, [], ◌++◌, length, Result, Ok, Err, refl, ap, sym, ◌∙◌, arith, length-append, append-nil}
+use Rattle.std.proofs.Common.{zero, suc, ◌-◌, append_assoc}
+use Rattle.std.proofs.Math.Seq.{take-append-add}
 use Rattle.cap_octet.specs.Device.{AppendsOrStops, Stops, WritesAll}
-use Rattle.cap_octet.specs.{Packet.Captured, declared.device.Stopped.Stopped}
-use Rattle.cap_octet.proofs.Writing.{stops-part}
-use Rattle.cap_print.specs.Dump.{link_payload, rows, first_rows, row}
-use Rattle.cap_print.specs.{Line.line, Rendering.printed_text, declared.print.Options.Options}
+use Rattle.cap_octet.{specs.Packet.Captured, specs.declared.device.Stopped.Stopped, proofs.Writing.stops-part}
+use Rattle.cap_print.specs.{Dump.link_payload, Dump.rows, Dump.first_rows, Dump.row, Line.line, Rendering.printed_text, declared.print.Options.Options}
 
 pub printed-alone : (options : Options) (p : Captured) → options.bytes ≡ false → printed_text options p ≡ line options.link p
 unfolding printed_text
@@ -27,15 +25,12 @@ stops-in_line options p old new stopped less writes =
 -- what follows some bytes is appended, or a prefix of it
 pub appends-following : {E : Type 0} (r : Result (Unit {0}) E) (old done part mid new : List ℕ) → mid ≡ old ++ done
     → AppendsOrStops r mid part new → AppendsOrStops r old (done ++ part) new
-appends-following (Ok value) old done part mid new first appends = appends ∙ ap (λ (x : List ℕ). x ++ part) first ∙ append_assoc old done part
+appends-following (Ok value) old done part mid new first appends = rw (appends, first, append_assoc) refl
 appends-following (Err fault) old done part mid new first stops =
     let less : stops.0 < length part = stops.1 in (
       length done + stops.0,
       omega (arith, less, length-append done part),
-      stops.2
-          ∙ ap (λ (x : List ℕ). x ++ take stops.0 part) first
-          ∙ append_assoc old done (take stops.0 part)
-          ∙ ap (λ (x : List ℕ). old ++ x) (sym (take-append-add done part stops.0)),
+      rw (stops.2, first, append_assoc, take-append-add done part stops.0) refl,
     )
 
 -- the rows from the one after k others, that many
@@ -47,18 +42,14 @@ rows-split : (bytes : List ℕ) (k n : ℕ) → first_rows bytes (k + n) ≡ fir
 rows-split bytes k zero = let e : k + 0 ≡ k = omega arith in rw (e, append-nil (first_rows bytes k)) refl
 rows-split bytes k (suc n) =
     let e : k + suc n ≡ suc (k + n) = omega arith in
-    ap (first_rows bytes) e
-    ∙ ap (λ (x : List ℕ). x ++ row bytes (k + n)) (rows-split bytes k n)
-    ∙ append_assoc (first_rows bytes k) (rows_from bytes k n) (row bytes (k + n))
+    rw (e, rows-split bytes k n, append_assoc) refl
 
 -- a first row and those after it
 rows_from-first : (bytes : List ℕ) (k n : ℕ) → rows_from bytes k (suc n) ≡ row bytes k ++ rows_from bytes (k + 1) n
 rows_from-first bytes k zero = let e : k + 0 ≡ k = omega arith in rw (e, append-nil (row bytes k)) refl
 rows_from-first bytes k (suc n) =
     let e : k + suc n ≡ k + 1 + n = omega arith in
-    ap (λ (x : List ℕ). x ++ row bytes (k + suc n)) (rows_from-first bytes k n)
-    ∙ append_assoc (row bytes k) (rows_from bytes (k + 1) n) (row bytes (k + suc n))
-    ∙ ap (λ m. row bytes k ++ (rows_from bytes (k + 1) n ++ row bytes m)) e
+    rw (rows_from-first bytes k n, append_assoc, e) refl
 
 -- the rows before one of them, that row, and those after it
 pub rows-among : (bytes : List ℕ) (k n : ℕ) → k < n → first_rows bytes n ≡ first_rows bytes k ++ (row bytes k ++ rows_from bytes (k + 1) (n - k - 1))

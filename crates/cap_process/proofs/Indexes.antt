@@ -1,13 +1,13 @@
 -- The index of the window stays sound when a mark is added, when the oldest is dropped, and when
 -- all are renumbered.
-use Rattle.cap_process.proofs.Common.{◌≡◌, ◌≢◌, ℕ, zero, suc, ◌+◌, ◌-◌, ◌^◌, ◌<◌, ◌≤◌, inl, inr, List, [], ◌∷◌, ◌++◌, length, get_or, drop, refl, sym, ap, ◌∙◌}
-use Rattle.cap_process.proofs.Common.{arith, set, length-append, length-drop, eq-zero-or-pos, cases_order, get_or-append_right, get_or-set_other}
-use Rattle.cap_process.proofs.Common.{get_or-set_same, length-set, take, Links, Mark, IsHung, IsIndex, IsPutOnTop, IsSoundIndex, IsWay, Ends, Goes, Agrees}
-use Rattle.cap_process.proofs.Common.{hash_of, mark_at, last}
-use Rattle.std.proofs.lemmas.Grind.{common_steps, get_or-set_at}
-use Rattle.cap_process.proofs.Trees.{appended, dropped, raised, relinked}
-use Rattle.std.proofs.lemmas.Nat.{and_le_r}
+use Rattle.std.proofs.Common.{◌≡◌, ◌≢◌, ℕ, zero, suc, ◌+◌, ◌-◌, ◌^◌, ◌<◌, ◌≤◌, inl, inr, List, [], ◌∷◌, ◌++◌, length, get_or, drop, refl, sym, ap, ◌∙◌, arith}
+use Rattle.std.proofs.Common.{set, length-append, length-drop, eq-zero-or-pos, take}
+use Rattle.std.proofs.lemmas.List.{get_or-append_right, get_or-set_other, get_or-set_same, length-set, get_or_default}
 use Rattle.std.specs.Int.{w32, from_le_bytes}
+use Rattle.std.proofs.lemmas.{Bool.cases_order, Grind.common_steps, Grind.get_or-set_at, Nat.and_le_r}
+use Rattle.cap_process.specs.inside.Index.{IsHung, IsIndex, IsPutOnTop, IsSoundIndex, IsWay, Ends, Goes, Agrees, hash_of, mark_at}
+use Rattle.cap_process.proofs.Trees.{appended, dropped, raised, relinked}
+use Rattle.cap_process.specs.{declared.links.Links.Links, declared.mark.Mark.Mark, Marks.last}
 
 -- the newest mark is in no tree yet
 pub record IsAwaiting (mask : ℕ) (ms : List Mark) (ls : List Links) (heads : List ℕ) (newest : ℕ) (m : Mark) : Type 0 where
@@ -46,24 +46,29 @@ awaiting_keep _ mask _ ls heads newest m upper_bound some a = absurd (omega arit
 hash_fits : (mask : ℕ) (m : Mark) (heads : List ℕ) → length heads ≡ mask + 1 → hash_of mask m < length heads
 hash_fits mask m heads wide = omega (arith, wide, and_le_r (from_le_bytes w32 (take 4 m.digest)) mask)
 
+-- no head has a greater number than the newest mark
+pub head_small : (heads : List ℕ) (newest h d head : ℕ) → ((h : ℕ) → h < length heads → get_or heads h 0 ≤ newest) → h < length heads
+    → head ≡ get_or heads h d → head ≤ newest
+head_small heads newest h d head small inside is = rw (is, get_or_default heads h d 0 inside) (small h inside)
+
 -- the window without its oldest mark, and with one more
 awaiting_push : (mask : ℕ) (ms : List Mark) (most : ℕ) (ls : List Links) (link_most : ℕ) (heads : List ℕ) (newest : ℕ) (m : Mark) (l : Links)
     → IsSoundIndex mask ms most ls link_most heads newest → 0 < length (last most (ms ++ m ∷ []))
     → IsAwaiting mask (last most (ms ++ m ∷ [])) (drop (length (ls ++ l ∷ []) - link_most) (ls ++ l ∷ [])) heads newest m
 awaiting_push mask ms most ls link_most heads newest m l s some =
-    let a = awaiting_append mask ms ls heads newest m l s.index in
+    let a = awaiting_append _ ms ls _ _ m l s.index in
     let more : length (ms ++ m ∷ []) ≡ length ms + 1 = length-append ms (m ∷ []) in
     let k = length (ms ++ m ∷ []) - most in
     let left : length (drop k (ms ++ m ∷ [])) ≡ length (ms ++ m ∷ []) - k = length-drop k (ms ++ m ∷ []) in
     let fits = s.fits in
-    rw (s.same_capacity, a.long) (awaiting_keep k mask (ms ++ m ∷ []) (ls ++ l ∷ []) heads newest m (omega arith) (omega arith) a)
+    rw (s.same_capacity, a.long) (awaiting_keep k _ _ _ _ _ _ (omega arith) (omega arith) a)
 
 pub sound_hung : (mask : ℕ) (ms : List Mark) (most : ℕ) (ls : List Links) (link_most : ℕ) (heads : List ℕ) (newest : ℕ) (m : Mark) (l : Links)
     → IsSoundIndex mask ms most ls link_most heads newest → 0 < length (last most (ms ++ m ∷ []))
     → IsHung mask (last most (ms ++ m ∷ [])) (drop (length (ls ++ l ∷ []) - link_most) (ls ++ l ∷ [])) 0
     (length (last most (ms ++ m ∷ [])) - 1) (newest + 1 - get_or heads (hash_of mask m) 0)
 sound_hung mask ms most ls link_most heads newest m l s some e agrees =
-    let a = awaiting_push mask ms most ls link_most heads newest m l s some in
+    let a = awaiting_push _ _ _ _ _ _ _ m l s some in
     let same : hash_of mask m ≡ hash_of mask e = sym (ap (hash_of mask) a.there) ∙ agrees.hash in
     rw same (a.trees e)
 
@@ -152,13 +157,12 @@ sound_push mask ms most ls link_most heads heads' newest e l placed new s lowere
     let more : length (ms ++ e ∷ []) ≡ length ms + 1 = length-append ms (e ∷ []) in
     let left : length kept ≡ length (ms ++ e ∷ []) - (length (ms ++ e ∷ []) - most) = length-drop (length (ms ++ e ∷ []) - most) (ms ++ e ∷ []) in
     let index : IsIndex mask kept placed (set heads (hash_of mask e) (newest + 1)) (newest + 1) = elim (eq-zero-or-pos (length kept)) [
-      | inl none ↦ index_without mask kept placed (set heads (hash_of mask e) (newest + 1)) (newest + 1) (size ∙ s.wide) none long
-          (heads_small heads (hash_of mask e) newest s.index.small inside)
-      | inr some ↦ index_placed mask kept _ placed heads newest e (awaiting_push mask ms most ls link_most heads newest e l s some) s.wide long
-          (omega (arith, upper_bound, less)) s.index.small (is_placed some)
+      | inl none ↦ index_without _ _ _ _ _ (size ∙ s.wide) none long (heads_small heads (hash_of mask e) newest s.index.small inside)
+      | inr some ↦ index_placed _ _ _ _ _ _ _ (awaiting_push _ _ _ _ _ _ _ e l s some) s.wide long (omega (arith, upper_bound, less)) s.index.small
+          (is_placed some)
     ] in
     record {
-      index = index_lowered mask kept placed (set heads (hash_of mask e) (newest + 1)) heads' (newest + 1) new upper_bound less (size ∙ s.wide) lowered index;
+      index = index_lowered _ _ _ _ _ _ _ upper_bound less (size ∙ s.wide) lowered index;
       same_capacity = s.same_capacity;
       within = s.within;
       fits = omega arith;
@@ -170,7 +174,7 @@ sound_push mask ms most ls link_most heads heads' newest e l placed new s lowere
 pub sound_new : (mask capacity : ℕ) (heads : List ℕ) → capacity + 1 < 2 ^ 32 → length heads ≡ mask + 1 → ((h : ℕ) → h < length heads → get_or heads h 0 ≡ 0)
     → IsSoundIndex mask [] capacity [] capacity heads 0
 sound_new mask capacity heads upper_bound wide zeros = record {
-  index = index_without mask [] [] heads 0 wide refl refl (λ h lt. let zero_head = zeros h lt in omega arith);
+  index = index_without _ _ _ _ _ wide refl refl (λ h lt. let zero_head = zeros h lt in omega arith);
   same_capacity = refl;
   within = upper_bound;
   fits = omega arith;

@@ -1,5 +1,4 @@
 -- The lemmas that several proofs share.
-pub mod Common
 pub mod Outcomes
 pub mod Outputs
 pub mod Selectors

@@ -1,20 +1,17 @@
 -- Reports and messages that are written in parts are written as wholes, or up to a failure of the
 -- device.
-use Rattle.cap_process.proofs.Common.{◌≡◌, refl, ℕ, List, [], ◌∷◌, ◌++◌, codes, Bool, true, false, if◌then◌else◌, Option, None, Some, Err, ap, sym, ◌∙◌}
-use Rattle.cap_process.proofs.Common.{append_assoc, Stops, appends-following, Kind, Tally, lines, size_lines, time_lines}
-use Rattle.cap_process.specs.{Messages.code_message, Messages.line_feed, Reports.file_report}
-use Rattle.std.specs.Fmt.{decimal}
-use Rattle.flt_bpf.specs.Message.{check_text, has_index, check_message, listing_text, wrong_line, at_line, listing_message}
-use Rattle.flt_bpf.specs.declared.fault.{CheckFault.CheckFault, ListingFault.ListingFault}
+use Rattle.std.proofs.Common.{◌≡◌, refl, ℕ, List, [], ◌∷◌, ◌++◌, codes, true, false, Option, None, Some, ◌∙◌}
+use Rattle.std.{proofs.lemmas.List.append_assoc, specs.Fmt.decimal}
+use Rattle.cap_io.specs.declared.source.Kind.{Kind}
+use Rattle.cap_process.specs.Reports.{Tally, lines, size_lines, time_lines, file_report}
+use Rattle.cap_process.specs.Messages.{code_message, line_feed}
+use Rattle.flt_bpf.specs.Message.{check_text, has_index, check_message, listing_text, wrong_line, listing_message}
+use Rattle.flt_bpf.specs.declared.{fault.CheckFault.CheckFault, fault.ListingFault.ListingFault}
 
 lines-append : (xs ys : List (List ℕ × List ℕ)) (following : List ℕ) → lines xs [] ++ lines ys following ≡ lines (xs ++ ys) following
 lines-append [] ys following = refl
 lines-append ((label, value) ∷ xs) ys following =
-    rw (
-      append_assoc label (58 ∷ 32 ∷ (value ++ 10 ∷ lines xs [])) (lines ys following),
-      append_assoc value (10 ∷ lines xs []) (lines ys following),
-      lines-append xs ys following,
-    ) refl
+    rw (append_assoc, append_assoc, lines-append xs ys following) refl
 
 -- a report is its name's line, and then two groups of lines
 pub report-joined : (name : List ℕ) (kind : Option Kind) (size : ℕ) (t : Tally)
@@ -23,10 +20,6 @@ unfolding file_report
 report-joined name kind size t =
     rw (lines-append (size_lines kind size t) (time_lines t) (10 ∷ []))
     (lines-append ((codes "File", name) ∷ []) (size_lines kind size t ++ time_lines t) (10 ∷ []))
-
--- a prefix of a part after one that was written
-pub stops-following : (written done part mid written' : List ℕ) → mid ≡ written ++ done → Stops mid part written' → Stops written (done ++ part) written'
-stops-following written done part mid written' first stops = appends-following {E = ℕ} (Err 0) written done part mid written' first stops
 
 -- the bytes of a refusal's message, in its parts
 abbrev pub parts : List ℕ → List ℕ → List ℕ → List ℕ
@@ -37,30 +30,16 @@ joined text words digits = simp append_assoc
 
 pub check-indexed : (fault : CheckFault) (at : ℕ) (text digits : List ℕ) → text ≡ check_text fault → digits ≡ decimal at → has_index fault ≡ true
     → parts text (codes " at ") digits ≡ code_message (check_message fault at)
-check-indexed fault at text digits same number is =
-    joined text (codes " at ") digits
-    ∙ ap (λ (l : List ℕ). code_message (l ++ (codes " at " ++ digits))) same
-    ∙ ap (λ (l : List ℕ). code_message (check_text fault ++ (codes " at " ++ l))) number
-    ∙ ap (λ (b : Bool). code_message (check_text fault ++ (if b then codes " at " ++ decimal at else []))) (sym is)
+check-indexed fault at text digits same number is = joined text (codes " at ") digits ∙ rw (same, number, is) refl
 
 pub check-whole : (fault : CheckFault) (at : ℕ) (text : List ℕ) → text ≡ check_text fault → has_index fault ≡ false
     → parts text [] [] ≡ code_message (check_message fault at)
-check-whole fault at text same is =
-    joined text [] []
-    ∙ ap (λ (l : List ℕ). code_message (l ++ [])) same
-    ∙ ap (λ (b : Bool). code_message (check_text fault ++ (if b then codes " at " ++ decimal at else []))) (sym is)
+check-whole fault at text same is = joined text [] [] ∙ rw (same, is) refl
 
 pub listing-lined : (fault : ListingFault) (line : ℕ) (text digits : List ℕ) → text ≡ listing_text fault → digits ≡ decimal line → wrong_line fault ≡ Some line
     → parts text (codes " at line ") digits ≡ code_message (listing_message fault)
-listing-lined fault line text digits same number is =
-    joined text (codes " at line ") digits
-    ∙ ap (λ (l : List ℕ). code_message (l ++ (codes " at line " ++ digits))) same
-    ∙ ap (λ (l : List ℕ). code_message (listing_text fault ++ (codes " at line " ++ l))) number
-    ∙ ap (λ (o : Option ℕ). code_message (listing_text fault ++ at_line o)) (sym is)
+listing-lined fault line text digits same number is = joined text (codes " at line ") digits ∙ rw (same, number, is) refl
 
 pub listing-whole : (fault : ListingFault) (text : List ℕ) → text ≡ listing_text fault → wrong_line fault ≡ None
     → parts text [] [] ≡ code_message (listing_message fault)
-listing-whole fault text same is =
-    joined text [] []
-    ∙ ap (λ (l : List ℕ). code_message (l ++ [])) same
-    ∙ ap (λ (o : Option ℕ). code_message (listing_text fault ++ at_line o)) (sym is)
+listing-whole fault text same is = joined text [] [] ∙ rw (same, is) refl

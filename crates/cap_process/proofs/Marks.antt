@@ -1,11 +1,15 @@
 -- Comparing marks decides whether they are equal, and a mark that has left the window never comes
 -- back.
-use Rattle.cap_process.proofs.Common.{refl, IsSome, option_copied, ◌≡◌, ◌↔◌, ℕ, ◌+◌, ◌-◌, ◌≤◌, ◌==◌, Bool, List, [], ◌∷◌, ◌++◌, length, drop, sym, ap, ◌∙◌}
-use Rattle.cap_process.proofs.Common.{arith, length-append, length-drop, IsTrue, Bor, Option, Some, None, drop-drop, drop-append-le, Mark, is_same_mark}
-use Rattle.cap_process.proofs.Common.{has_same, last}
+use Rattle.std.proofs.Common.{refl, ◌≡◌, ◌↔◌, ℕ, ◌+◌, ◌-◌, ◌≤◌, ◌==◌, Bool, List, [], ◌∷◌, ◌++◌, length, drop, sym, ap, ◌∙◌, arith, length-append, length-drop}
+use Rattle.std.proofs.Common.{IsTrue, Bor, Option, Some, None, get_or, slice_get}
+use Rattle.std.specs.Option.{IsSome, option_copied}
+use Rattle.std.proofs.lemmas.List.{drop-drop, drop-append-le}
 use Rattle.std.proofs.lemmas.Bool.Decides.{Decides-and, Decides-eqb, Decides-like}
-use Rattle.std.proofs.lemmas.{List.Folds.list_any_at, Map.Views.Contains-from_any, Slice.Eq.bytes_eq-Decides}
-use Rattle.std.specs.{Bool.Decides, Bool.one_answer, List.Contains, Str.bytes_eq}
+use Rattle.std.specs.Bool.{Decides, one_answer}
+use Rattle.std.specs.List.{Contains}
+use Rattle.std.specs.Str.{bytes_eq}
+use Rattle.std.proofs.lemmas.{List.Folds.list_any_at, Map.Views.Contains-from_any, Slice.Eq.bytes_eq-Decides, Option.get_or_from_slice_get}
+use Rattle.cap_process.specs.{declared.mark.Mark.Mark, Marks.is_same_mark, Marks.has_same, Marks.last}
 
 abbrev with_digest : ℕ → List ℕ → Mark
 with_digest length digest = record { length = length; digest = digest }
@@ -41,6 +45,10 @@ last-last n ms m =
     ap (λ (xs : List Mark). drop (length (drop k ms ++ m ∷ []) - n) xs) (sym (drop-append-le k ms (m ∷ []) within))
     ∙ drop-drop (length (drop k ms ++ m ∷ []) - n) k (ms ++ m ∷ [])
     ∙ ap (λ (j : ℕ). drop j (ms ++ m ∷ [])) sum
+
+-- what is got at a place of a list is its element there
+pub got : {T : Type 0} (xs : List T) (i : ℕ) (d : T) (o : Option (Bor T)) (r : Bor T) → option_copied o ≡ slice_get xs i → o ≡ Some r → get_or xs i d ≡ r.now
+got xs i d o r is some = get_or_from_slice_get xs i r.now d (sym is ∙ ap option_copied some)
 
 -- there is what is got at a place of a list
 pub is_there : {T : Type 0} (o : Option (Bor T)) (x : T) → option_copied o ≡ Some x → IsSome o

@@ -1,15 +1,18 @@
 -- What a job's output holds after each packet, report and close.
-use Rattle.cap_process.proofs.Common.{◌≡◌, inl, inr, ℕ, ◌+◌, Bool, List, [], ◌∷◌, ◌++◌, length, Option, None, Some, Ok, Err, refl, sym, ◌∙◌, ap, add-zero, true}
-use Rattle.cap_process.proofs.Common.{append_assoc, append-nil, Stops, Captured, Fault, NoMemory, WriteFailed, Format, Options, takes_memory, added_text}
-use Rattle.cap_process.proofs.Common.{refusal_of, Report, Complete, SelectorState, Form, AsCapture, closing_text, lines_text, final_text}
-use Rattle.cap_process.proofs.Common.{form_refuses, output_text, Target, Capture, Text, Lines, HasWrittenTo, form_to, written_to, failures_to, report_text}
-use Rattle.cap_process.proofs.Common.{reports_text}
-use Rattle.std.proofs.lemmas.Grind.{flat_map-append}
-use Rattle.cap_print.specs.Rendering.{printed_text}
-use Rattle.cap_io.specs.Sink as sinks
-use Rattle.cap_io.specs.Sink.{SinkView, HasPackets, IsPutAnswer, PutWrites, WritesPacket}
+use Rattle.std.proofs.Common.{◌≡◌, inl, inr, ℕ, ◌+◌, Bool, List, [], ◌∷◌, ◌++◌, length, Option, None, Some, Ok, Err, refl, sym, ◌∙◌, ap, add-zero, true}
+use Rattle.std.proofs.lemmas.{List.append_assoc, List.append-nil, Grind.flat_map-append}
+use Rattle.cap_octet.specs.declared.fault.Fault.TheVariants.{NoMemory, WriteFailed}
+use Rattle.cap_octet.specs.{Device.Stops, Packet.Captured, declared.fault.Fault.Fault, declared.format.Format.Format}
+use Rattle.cap_print.specs.{declared.print.Options.Options, Rendering.printed_text}
+use Rattle.cap_io.specs.Sink.{SinkView, HasPackets, IsPutAnswer, PutWrites}
 use Rattle.cap_io.proofs.Texts.{put-next, put-answer, put-writes, put-taken, HasPackets-put, refused-write_failed, refused-no_memory}
-use Rattle.cap_process.specs.inside.Output.{PutsIntoOutput, Reports}
+use Rattle.cap_io.specs.Text.{takes_memory, added_text, refusal_of}
+use Rattle.cap_io.specs.Sequence.{Complete}
+use Rattle.cap_process.specs.Reports.{Report, report_text, reports_text}
+use Rattle.cap_process.specs.Outcome.{Form, AsCapture, closing_text, lines_text, final_text, form_refuses, output_text}
+use Rattle.cap_process.specs.Output.{Target, Capture, Text, Lines, HasWrittenTo, form_to, written_to, failures_to}
+use Rattle.cap_process.specs.{Verdict.SelectorState, inside.Output.PutsIntoOutput, inside.Output.Reports}
+use Rattle.cap_io.specs.Sink as sinks
 
 -- what is written is the form's
 pub drained-text : (before : List ℕ) (names : List (List ℕ)) (t : Target) (ps : List Captured) (rs : List Report) → HasWrittenTo before names t ps rs
@@ -22,12 +25,10 @@ drained-text before names _ ps rs has = has
 -- a packet adds its line after those before it
 pub lines-more : (options : Options) (ps : List Captured) (q : Captured) (qs : List Captured)
     → lines_text options ((ps ++ q ∷ []) ++ qs) ≡ lines_text options ps ++ (printed_text options q ++ lines_text options qs)
-lines-more options ps q qs = ap (lines_text options) (append_assoc ps (q ∷ []) qs) ∙ flat_map-append (printed_text options) ps (q ∷ qs)
+lines-more options ps q qs = rw append_assoc (flat_map-append (printed_text options) ps (q ∷ qs))
 
 pub lines-one : (options : Options) (ps : List Captured) (q : Captured) → lines_text options (ps ++ q ∷ []) ≡ lines_text options ps ++ printed_text options q
-lines-one options ps q =
-    flat_map-append (printed_text options) ps (q ∷ [])
-    ∙ ap (λ (l : List ℕ). lines_text options ps ++ l) (append-nil (printed_text options q))
+lines-one options ps q = rw (flat_map-append (printed_text options) ps (q ∷ []), append-nil (printed_text options q)) refl
 
 -- ---- a packet is put
 
@@ -53,11 +54,7 @@ put-ok before ps rs q names (Text bytes failures room) new has puts =
 put-ok before ps rs q names (Lines options bytes failures room) new has puts =
     rw puts.is (record {
       none = refl;
-      output =
-          puts.appends
-          ∙ ap (λ (l : List ℕ). l ++ printed_text options q) has
-          ∙ append_assoc before (lines_text options ps) (printed_text options q)
-          ∙ ap (λ (l : List ℕ). before ++ l) (sym (lines-one options ps q));
+      output = rw (puts.appends, has, append_assoc, lines-one options ps q) refl;
       form = refl;
       failures = add-zero failures;
     })
@@ -69,11 +66,6 @@ refusal-is : (refusal : Option Fault) (takes : Bool) (fault : Fault) → IsPutAn
 refusal-is None takes fault answer output_text memory = elim answer [ inl e ↦ absurd (output_text e) | inr e ↦ absurd (memory e.0) ]
 refusal-is (Some refusal) takes fault answer output_text memory = ap Some (sym answer)
 
-stays-written : (refusal : Option Fault) (fault : Fault) (bytes output_text output_text' : List ℕ) → refusal ≡ Some fault → WritesPacket refusal bytes
-    output_text (Err fault) output_text' → output_text' ≡ output_text
-stays-written None fault bytes output_text output_text' is writes = (cc)
-stays-written (Some refusal) fault bytes output_text output_text' is writes = writes
-
 not-refused : (format : Format) (ps : List Captured) (p : Captured) (fault : Fault) → (refusal_of format ps p ≡ Some fault → ⊥)
     → IsPutAnswer (refusal_of format ps p) (takes_memory format ps p) (Err fault) → refusal_of format ps p ≡ None
 not-refused format ps p fault none answer = by_refusal (refusal_of format ps p) refl answer
@@ -82,21 +74,6 @@ not-refused format ps p fault none answer = by_refusal (refusal_of format ps p) 
         → refusal_of format ps p ≡ None
     by_refusal None is answer = is
     by_refusal (Some refusal) is answer = absurd (none (is ∙ ap Some (sym answer)))
-
--- there is no memory only where some is taken
-memory-taken : (refusal : Option Fault) (takes : Bool) → refusal ≡ None → IsPutAnswer refusal takes (Err NoMemory) → takes ≡ true
-memory-taken None takes is answer = elim answer [ inl failed ↦ (cc) | inr memory ↦ memory.1 ]
-memory-taken (Some refusal) takes is answer = (cc)
-
-stopped-within : (refusal : Option Fault) (bytes output_text output_text' : List ℕ) → refusal ≡ None → WritesPacket refusal bytes output_text
-    (Err WriteFailed) output_text' → Stops output_text bytes output_text'
-stopped-within None bytes output_text output_text' is writes = writes
-stopped-within (Some fault) bytes output_text output_text' is writes = (cc)
-
-stayed-written : (refusal : Option Fault) (bytes output_text output_text' : List ℕ) → refusal ≡ None → WritesPacket refusal bytes output_text
-    (Err NoMemory) output_text' → output_text' ≡ output_text
-stayed-written None bytes output_text output_text' is writes = writes
-stayed-written (Some fault) bytes output_text output_text' is writes = writes
 
 -- why a kept packet isn't put into a capture: the format refuses it, memory ran out, or the device
 -- failed
@@ -114,16 +91,15 @@ unput before ps q old new WriteFailed has puts writes =
     let answer = put-answer ps old q (Err WriteFailed) new has.put next in
     let bytes = put-writes ps old q (Err WriteFailed) new has.put writes in
     let none = not-refused old.format ps q WriteFailed (refused-write_failed old.format ps q) answer in
-    (none, next.adds.failures, stopped-within (refusal_of old.format ps q) (added_text old.format ps q) old.written new.written none bytes)
+    (none, next.adds.failures, rw none at bytes)
 unput before ps q old new NoMemory has puts writes =
     let next = put-next ps old q (Err NoMemory) new has.put puts in
     let answer = put-answer ps old q (Err NoMemory) new has.put next in
     let bytes = put-writes ps old q (Err NoMemory) new has.put writes in
     let none = not-refused old.format ps q NoMemory (refused-no_memory old.format ps q) answer in (
       none,
-      memory-taken (refusal_of old.format ps q) (takes_memory old.format ps q) none answer,
-      stayed-written (refusal_of old.format ps q)
-          (added_text old.format ps q) old.written new.written none bytes,
+      elim (rw none at answer) [ inl failed ↦ (cc) | inr memory ↦ memory.1 ],
+      rw none at bytes,
       next.adds.failures ∙ add-zero old.failures,
     )
 unput before ps q old new fault has puts writes =
@@ -132,9 +108,8 @@ unput before ps q old new fault has puts writes =
     let bytes = put-writes ps old q (Err fault) new has.put writes in
     let is = refusal-is (refusal_of old.format ps q) (takes_memory old.format ps q) fault answer (λ same. (cc)) (λ same. (cc)) in (
       is,
-      stays-written (refusal_of old.format ps q) fault (added_text old.format ps q) old.written new.written is bytes,
-      next.adds.failures
-          ∙ add-zero old.failures,
+      rw is at bytes,
+      next.adds.failures ∙ add-zero old.failures,
     )
 
 -- ---- the clean end
@@ -148,25 +123,18 @@ pub closing-some : (before : List ℕ) (names : List (List ℕ)) (form : Form) (
     (n : ℕ) (state : SelectorState) → HasWrittenTo before names t ps rs → form_to names t ≡ form → (0 ≡ length ps → ⊥)
     → written_to t ≡ before ++ final_text form link (record { decided = n; state = state; packets = ps; reports = rs; end = Some Complete })
 closing-some before names form t link ps rs n state has same some =
-    drained-text before names t ps rs has
-    ∙ ap (λ (f : Form). before ++ output_text f ps rs) same
-    ∙ ap (λ (l : List ℕ). before ++ l) (sym (append-nil (output_text form ps rs)) ∙ ap (λ (l : List ℕ). output_text form ps rs ++ l)
-    (sym (closing-none form link ps some)))
+    rw (closing-none form link ps some, append-nil (output_text form ps rs), ← same) (drained-text before names t ps rs has)
 
 -- ---- a report
 
 reports-append : (names : List (List ℕ)) (rs qs : List Report) → reports_text names (rs ++ qs) ≡ reports_text names rs ++ reports_text names qs
 reports-append names [] qs = refl
-reports-append names (r ∷ rs) qs =
-    ap (λ (l : List ℕ). report_text names r ++ l) (reports-append names rs qs)
-    ∙ sym (append_assoc (report_text names r) (reports_text names rs) (reports_text names qs))
+reports-append names (r ∷ rs) qs = rw (append_assoc (report_text names r) (reports_text names rs) (reports_text names qs), reports-append names rs qs) refl
 
 -- a report adds its text after those before it
 pub reports-more : (names : List (List ℕ)) (rs : List Report) (r : Report) (qs : List Report)
     → reports_text names ((rs ++ r ∷ []) ++ qs) ≡ reports_text names rs ++ (report_text names r ++ reports_text names qs)
-reports-more names rs r qs =
-    ap (reports_text names) (append_assoc rs (r ∷ []) qs)
-    ∙ reports-append names rs (r ∷ qs)
+reports-more names rs r qs = rw append_assoc (reports-append names rs (r ∷ qs))
 
 pub record ReportOk (before : List ℕ) (ps : List Captured) (rs : List Report) (report : Report) (names : List (List ℕ)) (old new : Target) : Type 0 where
   pub output : HasWrittenTo before names new ps (rs ++ report ∷ [])
@@ -178,12 +146,7 @@ pub report-ok : (before : List ℕ) (ps : List Captured) (rs : List Report) (rep
     → Reports (report_text names report) old (Ok tt) new → ReportOk before ps rs report names old new
 report-ok before ps rs report names (Text bytes failures room) new has puts =
     rw puts.is (record {
-      output =
-          puts.appends
-          ∙ ap (λ (l : List ℕ). l ++ report_text names report) has
-          ∙ append_assoc before (reports_text names rs) (report_text names report)
-          ∙ ap (λ (l : List ℕ). before ++ (reports_text names rs ++ l)) (sym (append-nil (report_text names report)))
-          ∙ ap (λ (l : List ℕ). before ++ l) (sym (reports-more names rs report []) ∙ ap (reports_text names) (append-nil (rs ++ report ∷ [])));
+      output = rw (puts.appends, has, append_assoc, reports-append names rs (report ∷ []), append-nil (report_text names report)) refl;
       form = refl;
       failures = add-zero failures;
     })

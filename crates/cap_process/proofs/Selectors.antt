@@ -1,12 +1,15 @@
 -- A selector returns the verdict that its policy gives, and adds to its counts what the packet
 -- adds.
-use Rattle.cap_process.proofs.Common.{◌≡◌, ℕ, ◌+◌, ◌^◌, ◌<◌, ◌≤◌, nat_le, Bool, true, false, length, if◌then◌else◌, List, Option, None, Some, Ok, refl, sym}
-use Rattle.cap_process.proofs.Common.{◌∙◌, ap, arith, nat_tests, Captured, TooManyPackets, WindowView, Mark, Policy, Count}
-use Rattle.cap_process.proofs.Common.{SelectorState, Judgement, Pass, PassLast, Skip, is_too_many, judge, judge_by, refuses, is_last, Tally, tally_with}
-use Rattle.cap_process.proofs.Common.{is_count, spent_by, spent_by_verdict, marks_in, places, state_of, PolicyState, IsWindowFor, ReturnsVerdict, count_limit}
-use Rattle.cap_process.proofs.Common.{TakesTally, verdict_if, verdict_of, IsVerdict, ◌↔◌, ◌-◌, not, IsTrue, [], ◌∷◌, ◌++◌, Contains, has_same, last, mark_of}
-use Rattle.cap_process.proofs.Common.{window, unique, skip_judgement, passes}
+use Rattle.std.proofs.Common.{◌≡◌, ℕ, ◌+◌, ◌^◌, ◌<◌, ◌≤◌, nat_le, Bool, true, false, length, if◌then◌else◌, List, Option, None, Some, Ok, refl, sym, ◌∙◌, ap}
+use Rattle.std.proofs.Common.{arith, ◌↔◌, not, IsTrue, [], ◌∷◌, ◌++◌}
+use Rattle.std.{proofs.lemmas.Bool.Decides.nat_tests, specs.List.Contains}
+use Rattle.cap_octet.specs.{Packet.Captured, declared.fault.Fault.TheVariants.TooManyPackets}
+use Rattle.cap_process.specs.Verdict.{Policy, Count, SelectorState, Judgement, Pass, PassLast, Skip, is_too_many, judge, judge_by, refuses, is_last, unique}
+use Rattle.cap_process.specs.Verdict.{skip_judgement, passes}
+use Rattle.cap_process.specs.Selector.{is_count, spent_by, spent_by_verdict, marks_in, places, state_of}
+use Rattle.cap_process.specs.inside.Selector.{PolicyState, IsWindowFor, ReturnsVerdict, count_limit, TakesTally, verdict_if, verdict_of, IsVerdict}
 use Rattle.cap_process.proofs.Marks.{answers-has_same}
+use Rattle.cap_process.specs.{Marks.last, Marks.mark_of, Window.WindowView, Window.window, declared.mark.Mark.Mark, Reports.Tally, Reports.tally_with}
 use Rattle.flt_bpf.specs.Content.{Content}
 use Rattle.cap_process.specs.declared.selector.Verdict as code
 
@@ -16,20 +19,18 @@ numbered Count number judges = (cc)
 numbered _ number judges = refl
 
 too-great : (policy : Policy) (number : ℕ) → is_count policy ≡ false → 2 ^ 63 ≤ number → is_too_many policy number ≡ true
-too-great policy number judges h = let e : nat_le (2 ^ 63) number ≡ true = grind (arith, nat_tests, h) in numbered policy number judges ∙ e
+too-great policy number judges h = rw (numbered policy number judges) (grind (arith, nat_tests, h))
 
 not-too-great : (policy : Policy) (number : ℕ) → is_count policy ≡ false → number < 2 ^ 63 → is_too_many policy number ≡ false
-not-too-great policy number judges h = let e : nat_le (2 ^ 63) number ≡ false = grind (arith, nat_tests, h) in numbered policy number judges ∙ e
+not-too-great policy number judges h = rw (numbered policy number judges) (grind (arith, nat_tests, h))
 
 pub too-many : (policy : Policy) (state : SelectorState) (number : ℕ) (p : Captured) → is_count policy ≡ false → 2 ^ 63 ≤ number
     → judge policy state number p ≡ refuses state TooManyPackets
-too-many policy state number p judges h = ap (λ (b : Bool). if b then refuses state TooManyPackets else judge_by policy state number p)
-    (too-great policy number judges h)
+too-many policy state number p judges h = rw (too-great policy number judges h) refl
 
 pub upper_bound : (policy : Policy) (state : SelectorState) (number : ℕ) (p : Captured) → is_count policy ≡ false → number < 2 ^ 63
     → judge policy state number p ≡ judge_by policy state number p
-upper_bound policy state number p judges h = ap (λ (b : Bool). if b then refuses state TooManyPackets else judge_by policy state number p)
-    (not-too-great policy number judges h)
+upper_bound policy state number p judges h = rw (not-too-great policy number judges h) refl
 
 -- ---- what judging costs
 
@@ -40,13 +41,11 @@ counted-spends _ number p programs is = (cc)
 
 pub refused-spends : (policy : Policy) (number : ℕ) (p : Captured) (programs : List Content) → is_count policy ≡ false → 2 ^ 63 ≤ number
     → programs ≡ spent_by_verdict policy number p programs
-refused-spends policy number p programs judges h = ap (λ (b : Bool). if b then programs else spent_by policy p programs)
-    (sym (too-great policy number judges h))
+refused-spends policy number p programs judges h = rw (too-great policy number judges h) refl
 
 pub judged-spends : (policy : Policy) (number : ℕ) (p : Captured) (programs : List Content) → is_count policy ≡ false → number < 2 ^ 63
     → spent_by policy p programs ≡ spent_by_verdict policy number p programs
-judged-spends policy number p programs judges h = ap (λ (b : Bool). if b then programs else spent_by policy p programs)
-    (sym (not-too-great policy number judges h))
+judged-spends policy number p programs judges h = rw (not-too-great policy number judges h) refl
 
 -- ---- what is returned
 
@@ -60,8 +59,7 @@ passing-as p false = refl
 
 pub tells-some : (count : Option ℕ) (j : Judgement) (state : SelectorState) (p : Captured) (v : code.Verdict) → ReturnsVerdict count j (Ok true) p state
     → verdict_of v p ≡ verdict_if p (is_last count (state.passed + 1)) → IsVerdict j (Ok v) p (state_of (state.passed + 1) state.window state.tally)
-tells-some count j state p v keeps is =
-    (is ∙ passing-as p (is_last count (state.passed + 1)) ∙ sym (ap (λ (x : Judgement). x.verdict) keeps), sym (ap (λ (x : Judgement). x.state) keeps))
+tells-some count j state p v keeps is = rw keeps (is ∙ passing-as p (is_last count (state.passed + 1)), refl)
 
 pub tells-passed : (policy policy' : Policy) (state after : SelectorState) (number : ℕ) (p q : Captured) (v : code.Verdict) → is_count policy ≡ false
     → number < 2 ^ 63
@@ -69,8 +67,7 @@ pub tells-passed : (policy policy' : Policy) (state after : SelectorState) (numb
     (is_last (count_limit policy') (after.passed + 1))
     → IsVerdict (judge policy state number p) (Ok v) q (state_of (after.passed + 1) after.window after.tally)
 tells-passed policy policy' state after number p q v judges less keeps same is =
-    rw (upper_bound policy state number p judges less) (tells-some (count_limit policy) (judge_by policy state number p) after q v keeps
-    (is ∙ ap (λ (a : Policy). verdict_if q (is_last (count_limit a) (after.passed + 1))) same))
+    rw (upper_bound policy state number p judges less) (tells-some (count_limit policy) (judge_by policy state number p) after q v keeps (rw same at is))
 
 -- ---- the window
 
@@ -100,10 +97,7 @@ pub unique-seen : (n : Option ℕ) (w new : WindowView) (passed : ℕ) (tally : 
     (state_of passed new.marks tally) p)
 unique-seen None w new passed tally p seen is answers new_is = absurd is
 unique-seen (Some n) w new passed tally p seen is answers new_is =
-    let same : seen ≡ has_same w.marks (mark_of p.bytes) = answers-has_same w.marks (mark_of p.bytes) seen answers in
-    let marks : new.marks ≡ last (n - 1) (w.marks ++ mark_of p.bytes ∷ []) = ap (λ (v : WindowView). v.marks) new_is
-    ∙ ap (λ (k : ℕ). last k (w.marks ++ mark_of p.bytes ∷ [])) is.0 in
-    rw (marks, same) refl
+    rw (new_is, is.0, answers-has_same w.marks (mark_of p.bytes) seen answers) refl
 
 -- a packet that was not seen is kept
 pub unique-keeps : (n : Option ℕ) (w new : WindowView) (passed : ℕ) (tally : Tally) (p : Captured) (seen : Bool) → IsWindowFor n (Some w)

@@ -1,8 +1,10 @@
 -- The path of a search for a mark, when marks are added or dropped and links change.
-use Rattle.cap_process.proofs.Common.{◌≡◌, ◌≢◌, ℕ, zero, suc, ◌+◌, ◌-◌, ◌^◌, ◌<◌, ◌≤◌, ◌⊎◌, inl, inr, Bool, true, false, not, List, [], ◌∷◌, ◌++◌, length, refl}
-use Rattle.cap_process.proofs.Common.{sym, ap, ◌∙◌, arith, min, set, cases_order, get_or_append_left, length-append, get_or-set_other, get_or-set_same, IsWay}
-use Rattle.cap_process.proofs.Common.{Ends, Goes, Agrees, Lacks, IsHung, IsOnTop, IsPutOnTop, IsSameOutside, mark_bit, link_by_bit, links_at, mark_at, Links}
-use Rattle.cap_process.proofs.Common.{Mark}
+use Rattle.std.proofs.Common.{◌≡◌, ◌≢◌, ℕ, zero, suc, ◌+◌, ◌-◌, ◌^◌, ◌<◌, ◌≤◌, ◌⊎◌, inl, inr, Bool, true, false, not, List, [], ◌∷◌, ◌++◌, length, refl, sym}
+use Rattle.std.proofs.Common.{ap, ◌∙◌, arith, min, set, length-append}
+use Rattle.std.proofs.lemmas.{Bool.cases_order, List.get_or_append_left, List.get_or-set_other, List.get_or-set_same}
+use Rattle.cap_process.specs.inside.Index.{IsWay, Ends, Goes, Agrees, Lacks, IsHung, IsOnTop, IsPutOnTop, IsSameOutside, mark_bit, link_by_bit, links_at}
+use Rattle.cap_process.specs.inside.Index.{mark_at}
+use Rattle.cap_process.specs.declared.{links.Links.Links, mark.Mark.Mark}
 
 below_or : (a b : ℕ) → (a < b) ⊎ (b ≤ a)
 below_or a b = elim (cases_order a b) [ inl e ↦ inr (omega arith) | inr (inl lt) ↦ inl lt | inr (inr gt) ↦ inr (omega arith) ]
@@ -28,6 +30,12 @@ agrees_more {depth = depth} a bit = record {
   ];
 }
 
+-- the first mark of a way
+pub record HasTop (mask : ℕ) (ms : List Mark) (ls : List Links) (e : Mark) (depth limit top : ℕ) : Type 0 where
+  pub agrees : Agrees mask depth e (mark_at ms top)
+  pub none : Lacks ms e limit → Lacks ms e (top + 1)
+  pub below : IsWay mask ms ls e (depth + 1) top (link_by_bit (links_at ls top) (mark_bit e depth))
+
 module _ {mask : ℕ} {ms : List Mark} {ls : List Links} {e : Mark} where
   pub least : {depth limit d : ℕ} → IsWay mask ms ls e depth limit d → 1 ≤ d
   least (Ends past none) = omega arith
@@ -46,31 +54,23 @@ module _ {mask : ℕ} {ms : List Mark} {ls : List Links} {e : Mark} where
       let same = near within in
       Goes same.1 same.2 (rw same.0 agrees) (rw same.0 (λ lacks. none (up lacks))) (rw same.0 below)
 
--- the first mark of a way
-pub record HasTop (mask : ℕ) (ms : List Mark) (ls : List Links) (e : Mark) (depth limit top : ℕ) : Type 0 where
-  pub agrees : Agrees mask depth e (mark_at ms top)
-  pub none : Lacks ms e limit → Lacks ms e (top + 1)
-  pub below : IsWay mask ms ls e (depth + 1) top (link_by_bit (links_at ls top) (mark_bit e depth))
+  pub top_of : {depth limit d : ℕ} → IsWay mask ms ls e depth limit d → d ≤ limit → HasTop mask ms ls e depth limit (limit - d)
+  top_of (Ends past none) within = absurd (omega arith)
+  top_of (Goes within step agrees none below) _ = record { agrees = agrees; none = none; below = below }
 
-pub top_of : {mask : ℕ} {ms : List Mark} {ls : List Links} {e : Mark} {depth limit d : ℕ} → IsWay mask ms ls e depth limit d → d ≤ limit
-    → HasTop mask ms ls e depth limit (limit - d)
-top_of (Ends past none) within = absurd (omega arith)
-top_of (Goes within step agrees none below) _ = record { agrees = agrees; none = none; below = below }
+  -- e isn't at the top
+  pub past_top : {depth limit top : ℕ} → HasTop mask ms ls e depth limit top → mark_at ms top ≢ e → Lacks ms e limit → Lacks ms e top
+  past_top {top = top} t other lacks j low high = elim (below_or top j) [
+    | inl above ↦ t.none lacks j (omega arith) high
+    | inr here ↦ (let same : j ≡ top = omega arith in rw same other)
+  ]
 
--- e isn't at the top
-pub past_top : {mask : ℕ} {ms : List Mark} {ls : List Links} {e : Mark} {depth limit top : ℕ} → HasTop mask ms ls e depth limit top → mark_at ms top ≢ e
-    → Lacks ms e limit → Lacks ms e top
-past_top {top = top} t other lacks j low high = elim (below_or top j) [
-  | inl above ↦ t.none lacks j (omega arith) high
-  | inr here ↦ (let same : j ≡ top = omega arith in rw same other)
-]
-
--- links of marks that agree with e alone matter
-pub relinked : {mask : ℕ} {ms : List Mark} {ls : List Links} {e : Mark} {depth limit d : ℕ} (ls' : List Links) → IsWay mask ms ls e depth limit d
-    → ((j : ℕ) → j < limit → Agrees mask depth e (mark_at ms j) → links_at ls' j ≡ links_at ls j) → IsWay mask ms ls' e depth limit d
-relinked ls' (Ends past none) same = Ends past none
-relinked ls' (Goes within step agrees none below) same =
-    Goes within step agrees none (rw (same _ (omega arith) agrees) (relinked ls' below (λ j less is. same j (omega arith) (agrees_above is))))
+  -- links of marks that agree with e alone matter
+  pub relinked : {depth limit d : ℕ} (ls' : List Links) → IsWay mask ms ls e depth limit d
+      → ((j : ℕ) → j < limit → Agrees mask depth e (mark_at ms j) → links_at ls' j ≡ links_at ls j) → IsWay mask ms ls' e depth limit d
+  relinked ls' (Ends past none) same = Ends past none
+  relinked ls' (Goes within step agrees none below) same =
+      Goes within step agrees none (rw (same _ (omega arith) agrees) (relinked ls' below (λ j less is. same j (omega arith) (agrees_above is))))
 
 -- one mark more
 lacks_appended : {e : Mark} {limit from : ℕ} (ms : List Mark) (m : Mark) → limit ≤ length ms → (Lacks ms e limit → Lacks ms e from)

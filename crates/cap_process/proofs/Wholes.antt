@@ -1,27 +1,33 @@
 -- The laws of whole commands: which packets each one writes, and how it ends.
-use Rattle.cap_process.proofs.Common.{◌≡◌, ℕ, zero, suc, ◌+◌, ◌-◌, ◌^◌, ◌<◌, ◌&&◌, Bool, true, false, if◌then◌else◌, nat_le, max, List, [], ◌∷◌, ◌++◌, length}
-use Rattle.cap_process.proofs.Common.{take, Option, None, Some, refl, sym, ◌∙◌, ap, arith, subst, append_assoc, append-nil, length-map, IfSome, unwrap_or}
-use Rattle.cap_process.proofs.Common.{nat_lt, nat_eq, nat_tests, take-length, Captured, Fault, TooManyPackets, Format, Kind, Placed, Ending, End, FaultAt}
-use Rattle.cap_process.proofs.Common.{items, kind_of, ItemsBack, text, Options, Rule, Event, Packet, InputEnd, SequenceEnd, Complete, FaultIn, Sequence}
-use Rattle.cap_process.proofs.Common.{PacketOrder, InTurn, ByTime, InputItems, whole_input, Entry, packet_events, input_sequence, sequence_in_turn, sequence_of}
-use Rattle.cap_process.proofs.Common.{end_of, end_after, entries_of, comes_before, insert_entry, sort_entries, sequence_of_entries, sequence_by_time, first_end}
-use Rattle.cap_process.proofs.Common.{unless_fault, with_front, Policy, Edit, EditRule, Filter, KeepAll, Count, Judgement, SelectorState, initial_state}
-use Rattle.cap_process.proofs.Common.{edited_packet_with, is_selected, judge, judge_by, passes, refuses, Report, Tally, nothing_counted, reports_text, Form}
-use Rattle.cap_process.proofs.Common.{AsCapture, AsReports, AsLines, JobProgress, Work, no_progress, apply_verdict, apply_event, apply_events, next_progress}
-use Rattle.cap_process.proofs.Common.{end_input, end_with, unless_ended, end_unless_ended, final_progress, output_text, text_at_end, first_link, lines_text}
-use Rattle.cap_process.proofs.Common.{message, status, outcome_at, outcome, is_count, packets_selected, unique_after, at_most, end_at_time, first_without_time}
-use Rattle.cap_process.proofs.Common.{packets_kept, packets_of, tally_of, Mark, mark_of, CopyEnds, EditEnds, EditKeeps, EditWrites, EditsAlike, EndsAs}
-use Rattle.cap_process.proofs.Common.{EndsUnlessRefused, HasCarried, InfosEnds, MergeEnds, MergesOne, PrintEnds, copy_of, no_options, InfosReports, MergeWrites}
-use Rattle.cap_process.proofs.Common.{PrintLines, PrintWrites, closing_if, edit_work, event_packets, infos_work, merge_work, file_packets, packets_in_order}
-use Rattle.cap_process.proofs.Common.{print_work, reports_by, reports_of, packets_written, first_refusal, written_text, drop, map-append, take-append-drop}
-use Rattle.cap_process.proofs.Common.{Items, items_from, CutsGivePrefixes, EndsByRefusal, IsFirstRefused, file_events, packets_edited, packets_merged}
-use Rattle.cap_process.proofs.Common.{packets_printed, ◌≤◌}
-use Rattle.cap_process.proofs.Common.{length-append}
-use Rattle.cap_process.proofs.Lists.{AtRefused, EndsSo, comes, placed, count-packets, end-stays, ends_without_time, filtered-first, judged, judged_by}
-use Rattle.cap_process.proofs.Lists.{judged-is, none-refused, packets-of-input, policy_end, under_way, verdict_end}
-use Rattle.cap_process.proofs.{Outcomes.progress-append, Selectors.upper_bound}
-use Rattle.std.proofs.lemmas.Bool.{and_right}
-use Rattle.cap_io.proofs.{Cuts.cut_tells, Cuts.has_cut, Cuts.items_from-units}
+use Rattle.std.proofs.Common.{◌≡◌, ℕ, ◌+◌, ◌-◌, ◌^◌, ◌<◌, false, max, List, [], ◌∷◌, ◌++◌, length, take, Option, None, Some, refl, sym, ◌∙◌, ap, arith, subst}
+use Rattle.std.proofs.Common.{nat_lt, nat_eq, drop, ◌≤◌, length-append}
+use Rattle.std.proofs.lemmas.List.{append_assoc, append-nil, length-map, map-append, take-append-drop}
+use Rattle.std.specs.Option.{IfSome, unwrap_or}
+use Rattle.std.proofs.{lemmas.Bool.Decides.nat_tests, Math.Seq.take-length, lemmas.Bool.and_right}
+use Rattle.cap_octet.specs.{Packet.Captured, declared.fault.Fault.Fault, declared.format.Format.Format}
+use Rattle.cap_io.specs.Capture.{Placed, Ending, End, FaultAt, items, kind_of, Items, items_from}
+use Rattle.cap_io.specs.Sequence.{Event, Packet, InputEnd, SequenceEnd, Complete, FaultIn, Sequence, PacketOrder, InTurn, ByTime, InputItems, whole_input}
+use Rattle.cap_io.specs.Sequence.{Entry, packet_events, input_sequence, sequence_in_turn, sequence_of, end_of, end_after, entries_of, comes_before}
+use Rattle.cap_io.specs.Sequence.{insert_entry, sort_entries, sequence_of_entries, sequence_by_time, first_end, unless_fault, with_front}
+use Rattle.cap_io.proofs.Cuts.{cut_tells, has_cut, items_from-units}
+use Rattle.cap_io.specs.{declared.source.Kind.Kind, RoundTrip.ItemsBack, Text.text}
+use Rattle.cap_print.specs.declared.print.Options.{Options}
+use Rattle.cap_filter.specs.FilterRules.{Rule}
+use Rattle.cap_process.specs.Verdict.{Policy, Edit, EditRule, Filter, KeepAll, Count, Judgement, SelectorState, initial_state, edited_packet_with, judge}
+use Rattle.cap_process.specs.Verdict.{passes, no_options}
+use Rattle.cap_process.specs.Outcome.{Form, AsCapture, AsReports, AsLines, JobProgress, Work, no_progress, apply_verdict, apply_event, apply_events}
+use Rattle.cap_process.specs.Outcome.{next_progress, end_with, unless_ended, end_unless_ended, final_progress, output_text, text_at_end, first_link, lines_text}
+use Rattle.cap_process.specs.Outcome.{message, status, outcome_at, outcome}
+use Rattle.cap_process.specs.Lists.{packets_selected, unique_after, at_most, end_at_time, first_without_time, packets_kept, packets_of, tally_of}
+use Rattle.cap_process.specs.Whole.{CopyEnds, EditEnds, EditKeeps, EditWrites, EditsAlike, EndsAs, EndsUnlessRefused, HasCarried, InfosEnds, MergeEnds}
+use Rattle.cap_process.specs.Whole.{MergesOne, PrintEnds, copy_of, InfosReports, MergeWrites, PrintLines, PrintWrites, closing_if, edit_work, event_packets}
+use Rattle.cap_process.specs.Whole.{infos_work, merge_work, file_packets, packets_in_order, print_work, reports_by, reports_of, packets_written, first_refusal}
+use Rattle.cap_process.specs.Whole.{written_text, CutsGivePrefixes, EndsByRefusal, IsFirstRefused, file_events, packets_edited, packets_merged, packets_printed}
+use Rattle.cap_process.proofs.Lists.{AtRefused, EndsSo, comes, count-packets, end-stays, ends_without_time, filtered-first, judged, judged-is, none-refused}
+use Rattle.cap_process.proofs.Lists.{packets-of-input, policy_end, under_way, verdict_end}
+use Rattle.cap_process.proofs.Outcomes.{progress-append}
+use Rattle.cap_process.proofs.Selectors.{upper_bound}
+use Rattle.cap_process.specs.{Reports.Report, Reports.Tally, Reports.nothing_counted, Selector.is_count, declared.mark.Mark.Mark, Marks.mark_of}
 
 -- ---- the packets that a merge keeps
 
@@ -31,29 +37,22 @@ merged : (k : ℕ) (state : SelectorState) (es : List Event) → k + length (eve
 merged k state [] less = (refl, refl)
 merged k state (Packet input p ∷ es) less =
     let one = upper_bound KeepAll state (k + 1) p.packet refl (omega (arith, less)) in
-    let more = merged (k + 1) (passes state p.packet).state es (omega (arith, less)) in (
-      ap (λ (j : Judgement). judged_by j.verdict (judged KeepAll (k + 1) j.state (event_packets es))) one ∙ ap (λ (l : List Captured). p.packet ∷ l) more.0,
-      ap (λ (j : Judgement). verdict_end input p j.verdict (policy_end KeepAll (k + 1) j.state es)) one ∙ more.1,
-    )
+    let more = merged (k + 1) (passes state p.packet).state es (omega (arith, less)) in
+    rw one (ap (λ (l : List Captured). p.packet ∷ l) more.0, more.1)
 merged k state (InputEnd input kind size ∷ es) less = merged k state es less
 
 -- ---- commands that write packets
 
 same-packets : (o : Option SequenceEnd) (w : JobProgress) (c : SequenceEnd) → (unless_ended o w (end_with w c)).packets ≡ w.packets
-same-packets None w c = refl
-same-packets (Some d) w c = refl
+same-packets o w c = grind arith
 
 at-end : (f : Form) (link : Option ℕ) (ps : List Captured) (c : SequenceEnd) → text_at_end (Some c) f link ps ≡ closing_if (status (Some c)) f link ps
-at-end f link ps Complete = refl
-at-end f link ps (FaultIn input fault offset) = refl
+at-end f link ps c = grind arith
 
-final-end : (f : Form) (link : Option ℕ) (ps : List Captured) (o : Option SequenceEnd) (w : JobProgress) (c : SequenceEnd) → w.end ≡ o
-    → text_at_end (unless_ended o w (end_with w c)).end f link ps ≡ closing_if (status (unless_ended o w (end_with w c)).end) f link ps
-final-end f link ps None w c is = at-end f link ps c
-final-end f link ps (Some d) w c is =
-    ap (λ (e : Option SequenceEnd). text_at_end e f link ps) is
-    ∙ at-end f link ps d
-    ∙ ap (λ (e : Option SequenceEnd). closing_if (status e) f link ps) (sym is)
+final-end : (f : Form) (link : Option ℕ) (ps : List Captured) (w : JobProgress) (c : SequenceEnd) → (o : Option SequenceEnd) → w.end ≡ o
+    → text_at_end (end_unless_ended w c).end f link ps ≡ closing_if (status (end_unless_ended w c).end) f link ps
+final-end f link ps w c None is = rw is (at-end f link ps c)
+final-end f link ps w c (Some d) is = rw is (at-end f link ps d)
 
 -- a form of writing in which reports have no bytes
 abbrev IsOfPackets : Form → Type 0
@@ -63,11 +62,7 @@ command-writes : (work : Work) (names : List (List ℕ)) (rs : List InputItems) 
     → judged work.policy 0 initial_state (event_packets (sequence_of work.order rs).events) ≡ ps
     → (outcome work names rs).output ≡ written_text work.form (outcome work names rs).status (first_link rs) (packets_written work.form [] ps)
 command-writes work names rs ps judges of_packets is =
-    ap (λ (l : List ℕ). l ++ text_at_end final.end work.form (first_link rs) final.packets) (of_packets final.packets final.reports
-    ∙ ap (λ (l : List Captured). output_text work.form l []) packets)
-    ∙ ap (λ (l : List ℕ). output_text work.form (packets_written work.form [] ps) [] ++ l)
-    (ap (λ (l : List Captured). text_at_end final.end work.form (first_link rs) l) packets ∙ final-end work.form (first_link rs)
-    (packets_written work.form [] ps) w.end w s.end refl)
+    rw (packets, of_packets, final-end work.form (first_link rs) (packets_written work.form [] ps) w s.end w.end refl) refl
   where
     s : Sequence
     s = sequence_of work.order rs
@@ -75,14 +70,8 @@ command-writes work names rs ps judges of_packets is =
     w : JobProgress
     w = apply_events work.policy work.form no_progress s.events
 
-    final : JobProgress
-    final = final_progress work.policy work.form s
-
-    packets : final.packets ≡ packets_written work.form [] ps
-    packets =
-        same-packets w.end w s.end
-        ∙ (comes work.policy work.form 0 initial_state [] [] s.events judges).0
-        ∙ ap (packets_written work.form []) is
+    packets : (final_progress work.policy work.form s).packets ≡ packets_written work.form [] ps
+    packets = same-packets w.end w s.end ∙ rw is at (comes work.policy work.form 0 initial_state [] [] s.events judges).0
 
 capture-of-packets : (format : Format) → IsOfPackets (AsCapture format)
 capture-of-packets format ps rs = refl
@@ -90,9 +79,9 @@ capture-of-packets format ps rs = refl
 lines-of-packets : (options : Options) → IsOfPackets (AsLines options)
 lines-of-packets options ps rs = refl
 
-final-is : (o : Option SequenceEnd) (w : JobProgress) (close : SequenceEnd) → w.end ≡ o → (unless_ended o w (end_with w close)).end ≡ Some (unwrap_or o close)
-final-is None w close is = refl
-final-is (Some c) w close is = is
+final-is : (w : JobProgress) (close : SequenceEnd) (o : Option SequenceEnd) → w.end ≡ o → (end_unless_ended w close).end ≡ Some (unwrap_or o close)
+final-is w close None is = rw is refl
+final-is w close (Some c) is = rw is refl
 
 ends-as : (work : Work) (names : List (List ℕ)) (rs : List InputItems) (w : JobProgress) (c : SequenceEnd) → w.end ≡ Some c
     → EndsAs names c (outcome_at work names rs w)
@@ -129,8 +118,9 @@ front-shorter ds es all is =
 
 -- the place of the first packet that is refused
 refused-at : (work : Work) (passing : List Captured → List Captured) (es : List Event) (fault : Fault) → Passes work.policy passing es
-    → AtRefused work.policy work.form 0 initial_state [] [] es fault → IsFirstRefused work.form passing es fault
-refused-at work passing es fault passes at = record {
+    → (end : Option SequenceEnd) → AtRefused (λ ds. first_refusal work.form [] (judged work.policy 0 initial_state (event_packets ds))) es fault end
+    → IsFirstRefused work.form passing es fault
+refused-at work passing es fault passes end at = record {
   before = at.before;
   input = at.input;
   p = at.p;
@@ -147,7 +137,9 @@ command-ends : (work : Work) (names : List (List ℕ)) (rs : List InputItems) (p
     → EndsUnlessRefused names work.form passing (sequence_of work.order rs).events
     (unwrap_or (policy_end work.policy 0 initial_state (sequence_of work.order rs).events) (sequence_of work.order rs).end) (outcome work names rs)
 unfolding refused-at
-command-ends work names rs passing judges passes = by_refusal (first_refusal work.form [] (passing (event_packets s.events))) refl
+command-ends work names rs passing judges passes =
+    by_refusal (first_refusal work.form [] (passing (event_packets s.events)))
+    (rw (passes s.events (omega arith)) at (comes work.policy work.form 0 initial_state [] [] s.events judges).1)
   where
     s : Sequence
     s = sequence_of work.order rs
@@ -158,35 +150,21 @@ command-ends work names rs passing judges passes = by_refusal (first_refusal wor
     by_policy : Option SequenceEnd
     by_policy = policy_end work.policy 0 initial_state s.events
 
-    is : judged work.policy 0 initial_state (event_packets s.events) ≡ passing (event_packets s.events)
-    is = passes s.events (omega arith)
+    ends : (o : Option SequenceEnd) → w.end ≡ o → EndsAs names (unwrap_or o s.end) (outcome work names rs)
+    ends o is = ends-as work names rs (final_progress work.policy work.form s) (unwrap_or o s.end) (final-is w s.end o is)
 
-    final : (o : Option SequenceEnd) → w.end ≡ o → (final_progress work.policy work.form s).end ≡ Some (unwrap_or o s.end)
-    final o ends =
-        final-is w.end w s.end refl ∙ ap (λ (e : Option SequenceEnd). Some (unwrap_or e s.end)) ends
-
-    by_refusal : (r : Option Fault) → first_refusal work.form [] (passing (event_packets s.events)) ≡ r
+    by_refusal : (r : Option Fault)
+        → EndsSo r (λ ds. first_refusal work.form [] (judged work.policy 0 initial_state (event_packets ds))) s.events by_policy w.end
         → EndsByRefusal names work.form passing s.events r (unwrap_or by_policy s.end) (outcome work names rs)
-    by_refusal None none =
-        let so : EndsSo None by_policy w.end = subst (λ (r : Option Fault). EndsSo r by_policy w.end) (ap (first_refusal work.form []) is ∙ none)
-        (comes work.policy work.form 0 initial_state [] [] s.events judges).1 in
-        ends-as work names rs (final_progress work.policy work.form s) (unwrap_or by_policy s.end) (final by_policy so)
-    by_refusal (Some fault) hit =
-        let at = placed work.policy work.form 0 initial_state [] [] s.events judges fault (ap (first_refusal work.form []) is ∙ hit) in
-        record {
-          first = refused-at work passing s.events fault passes at;
-          by = ends-as work names rs (final_progress work.policy work.form s) (FaultIn at.input fault at.p.offset)
-              (final (Some (FaultIn at.input fault at.p.offset)) at.ends);
-        }
+    by_refusal None so = ends by_policy so
+    by_refusal (Some fault) at =
+        record { first = refused-at work passing s.events fault passes w.end at; by = ends (Some (FaultIn at.input fault at.p.offset)) at.ends }
 
 -- ---- one input
 
 one-input : (r : InputItems) (e : Ending) → event_packets (input_sequence 0 r e (sequence_in_turn 1 [])).events ≡ packets_of r.items.packets
 one-input r End =
-    ap event_packets (append-nil (packet_events 0 r.items.packets ++ InputEnd 0 (kind_of r.items.declared) r.size ∷ []))
-    ∙ event-packets-append (packet_events 0 r.items.packets) (InputEnd 0 (kind_of r.items.declared) r.size ∷ [])
-    ∙ append-nil (event_packets (packet_events 0 r.items.packets))
-    ∙ packets-of-input 0 r.items.packets
+    rw (append-nil, event-packets-append, append-nil) (packets-of-input 0 r.items.packets)
 one-input r (FaultAt fault offset) = packets-of-input 0 r.items.packets
 
 before-end : (a : Policy) (k : ℕ) (state : SelectorState) (ps : List Placed) (kind : Option Kind) (size : ℕ)
@@ -199,13 +177,11 @@ one-end : (a : Policy) (r : InputItems) (e : Ending) → unwrap_or (policy_end a
     (input_sequence 0 r e (sequence_in_turn 1 [])).end
     ≡ unwrap_or (policy_end a 0 initial_state (packet_events 0 r.items.packets)) (end_of 0 e)
 one-end a r End =
-    ap (λ (es : List Event). unwrap_or (policy_end a 0 initial_state es) Complete)
-    (append-nil (packet_events 0 r.items.packets ++ InputEnd 0 (kind_of r.items.declared) r.size ∷ []))
-    ∙ ap (λ (o : Option SequenceEnd). unwrap_or o Complete) (before-end a 0 initial_state r.items.packets (kind_of r.items.declared) r.size)
+    rw (append-nil, before-end a 0 initial_state r.items.packets (kind_of r.items.declared) r.size) refl
 one-end a r (FaultAt fault offset) = refl
 
 few-placed : (file : List ℕ) → length (file_packets file) < 2 ^ 63 → length (items file).packets < 2 ^ 63
-few-placed file less = let e = length-map (items file).packets (λ (p : Placed). p.packet) in omega (arith, e, less)
+few-placed file less = omega (arith, length-map (items file).packets (λ (p : Placed). p.packet))
 
 file-packets : (file : List ℕ) → event_packets (file_events file) ≡ file_packets file
 file-packets file = one-input (whole_input file) (items file).ending
@@ -213,16 +189,13 @@ file-packets file = one-input (whole_input file) (items file).ending
 few-events : (file : List ℕ) (es : List Event) → length (file_packets file) < 2 ^ 63 → length (event_packets es) ≤ length (event_packets (file_events file))
     → length (placed_of es) < 2 ^ 63
 few-events file es less fewer =
-    let a = length-map (placed_of es) (λ (p : Placed). p.packet) in
-    let b = ap length (placed-packets es) in
-    let c = ap length (file-packets file) in
-    omega (arith, a, b, c, less, fewer)
+    omega (arith, length-map (placed_of es) (λ (p : Placed). p.packet), ap length (placed-packets es), ap length (file-packets file))
 
 -- ---- edit
 
 edits : (s : EditRule) (file : List ℕ) → length (file_packets file) < 2 ^ 63 → Passes (Edit s) (packets_edited s) (file_events file)
 edits s file less es fewer =
-    subst (λ (l : List Captured). judged (Edit s) 0 initial_state l ≡ packets_edited s l) (placed-packets es)
+    rw (← placed-packets es)
     (sym (judged-is (Edit s) (placed_of es) refl).0 ∙ (ends_without_time s (placed_of es) (few-events file es less fewer)).1)
 
 edited : (s : EditRule) (file : List ℕ) → length (file_packets file) < 2 ^ 63
@@ -247,7 +220,7 @@ edit_ends s format names file less =
 prints : (rule : Rule) (count : Option ℕ) (file : List ℕ) → IfSome count (λ (n : ℕ). 0 < n) → length (file_packets file) < 2 ^ 63
     → Passes (Filter rule count) (packets_printed rule count) (file_events file)
 prints rule count file some less es fewer =
-    subst (λ (l : List Captured). judged (Filter rule count) 0 initial_state l ≡ packets_printed rule count l) (placed-packets es)
+    rw (← placed-packets es)
     (filtered-first rule count End (placed_of es) some (few-events file es less fewer)).0
 
 printed : (rule : Rule) (count : Option ℕ) (file : List ℕ) → IfSome count (λ (n : ℕ). 0 < n) → length (file_packets file) < 2 ^ 63
@@ -261,9 +234,7 @@ print_writes rule count format names file some less =
 
 -- lines have no start
 no-close : (options : Options) (n : ℕ) (link : Option ℕ) (ps : List Captured) → closing_if n (AsLines options) link ps ≡ []
-no-close options zero link [] = refl
-no-close options zero link (p ∷ ps) = refl
-no-close options (suc n) link ps = refl
+no-close options n link ps = grind arith
 
 pub print_lines : PrintLines
 print_lines rule count options names file some less =
@@ -272,9 +243,7 @@ print_lines rule count options names file some less =
     let link = first_link (whole_input file ∷ []) in
     let code = (outcome work names (whole_input file ∷ [])).status in
     command-writes work names (whole_input file ∷ []) kept refl (lines-of-packets options) (printed rule count file some less)
-    ∙ ap (written_text (AsLines options) code link) (none-refused (AsLines options) [] kept (λ xs p ys is. refl)).0
-    ∙ ap (λ (l : List ℕ). lines_text options kept ++ l) (no-close options code link kept)
-    ∙ append-nil (lines_text options kept)
+    ∙ rw ((none-refused (AsLines options) [] kept (λ xs p ys is. refl)).0, no-close options code link kept, append-nil (lines_text options kept)) refl
 
 pub print_ends : PrintEnds
 print_ends rule count form names file some less =
@@ -329,50 +298,32 @@ report-next names input r rs next k state reports none = by_ending r.items.endin
         (input_sequence input r e (sequence_in_turn (input + 1) rs)).events).reports ≡ reports
         ++ reports_by e (report input r (tally_of (packets_of r.items.packets))) more
     by_ending End =
-        ap (λ (es : List Event). (apply_events Count (AsReports names) (under_way k state [] reports) es).reports)
-        (append_assoc (packet_events input r.items.packets) (ended ∷ []) later)
-        ∙ count-packets (λ w. w.reports ≡ whole (tally_of (packets_of r.items.packets))) names input r.items.packets k state [] reports (ended ∷ later) none
+        rw append_assoc
+        (count-packets (λ w. w.reports ≡ whole (tally_of (packets_of r.items.packets))) names input r.items.packets k state [] reports (ended ∷ later) none
         (λ k' state' is. next k' (record { passed = state'.passed; window = state'.window; tally = nothing_counted })
         (reports ++ report input r state'.tally ∷ []) refl
         ∙ append_assoc reports (report input r state'.tally ∷ []) more
-        ∙ ap whole is)
+        ∙ ap whole is))
     by_ending (FaultAt fault offset) =
-        ap (λ (es : List Event). (apply_events Count (AsReports names) (under_way k state [] reports) es).reports)
-        (sym (append-nil (packet_events input r.items.packets)))
-        ∙ count-packets (λ w. w.reports ≡ reports ++ []) names input r.items.packets k state [] reports [] none (λ k' state' is. sym (append-nil reports))
+        rw (← append-nil (packet_events input r.items.packets))
+        (count-packets (λ w. w.reports ≡ reports ++ []) names input r.items.packets k state [] reports [] none (λ k' state' is. sym (append-nil reports)))
 
 reported : (names : List (List ℕ)) (input : ℕ) (rs : List InputItems) → Reported names input rs
 reported names input [] = λ k state reports none. sym (append-nil reports)
 reported names input (r ∷ rs) = report-next names input r rs (reported names (input + 1) rs)
 
 same-reports : (o : Option SequenceEnd) (w : JobProgress) (c : SequenceEnd) → (unless_ended o w (end_with w c)).reports ≡ w.reports
-same-reports None w c = refl
-same-reports (Some d) w c = refl
+same-reports o w c = grind arith
 
 nothing-following-reports : (names : List (List ℕ)) (link : Option ℕ) (ps : List Captured) (o : Option SequenceEnd) → text_at_end o (AsReports names)
     link ps ≡ []
-nothing-following-reports names link [] None = refl
-nothing-following-reports names link [] (Some Complete) = refl
-nothing-following-reports names link [] (Some (FaultIn input fault offset)) = refl
-nothing-following-reports names link (p ∷ ps) None = refl
-nothing-following-reports names link (p ∷ ps) (Some Complete) = refl
-nothing-following-reports names link (p ∷ ps) (Some (FaultIn input fault offset)) = refl
+nothing-following-reports names link ps o = grind arith
 
 pub infos_reports : InfosReports
 infos_reports names rs =
-    ap (λ (l : List ℕ). l ++ text_at_end final.end (AsReports names) (first_link rs) final.packets)
-    (ap (reports_text names) (same-reports w.end w s.end ∙ reported names 0 rs 0 initial_state [] refl))
-    ∙ ap (λ (l : List ℕ). reports_text names (reports_of 0 rs) ++ l) (nothing-following-reports names (first_link rs) final.packets final.end)
-    ∙ append-nil (reports_text names (reports_of 0 rs))
-  where
-    s : Sequence
-    s = sequence_in_turn 0 rs
-
-    w : JobProgress
-    w = apply_events Count (AsReports names) no_progress s.events
-
-    final : JobProgress
-    final = final_progress Count (AsReports names) s
+    let s = sequence_in_turn 0 rs in
+    let w = apply_events Count (AsReports names) no_progress s.events in
+    rw (same-reports w.end w s.end, reported names 0 rs 0 initial_state [] refl, nothing-following-reports, append-nil) refl
 
 infos-go-on : (names : List (List ℕ)) (k : ℕ) (state : SelectorState) (reports : List Report) (es : List Event)
     → (apply_events Count (AsReports names) (under_way k state [] reports) es).end ≡ None
@@ -387,23 +338,17 @@ infos_ends names rs =
     let s = sequence_in_turn 0 rs in
     let w = apply_events Count (AsReports names) no_progress s.events in
     ends-as (infos_work names) names rs (final_progress Count (AsReports names) s) s.end
-    (final-is w.end w s.end refl ∙ ap (λ (e : Option SequenceEnd). Some (unwrap_or e s.end)) (infos-go-on names 0 initial_state [] s.events))
+    (final-is w s.end None (infos-go-on names 0 initial_state [] s.events))
 
 -- ---- edits without options
 
 same-packet : (p : Captured) → edited_packet_with no_options p p.time ≡ p
 same-packet p =
     let all : length p.bytes - 0 ≡ length p.bytes = omega arith in
-    ap (λ (bytes : List ℕ). record { link = p.link; snap = p.snap; name = p.name; time = p.time; orig = p.orig; bytes = bytes; comment = p.comment })
-    (ap (λ (n : ℕ). take n p.bytes) all ∙ take-length p.bytes)
+    rw (all, take-length p.bytes) refl
 
 same-judge : (state : SelectorState) (number : ℕ) (p : Captured) → judge KeepAll state number p ≡ judge (Edit no_options) state number p
-same-judge state number p = by_number (nat_le (2 ^ 63) number)
-  where
-    by_number : (b : Bool) → (if b then refuses state TooManyPackets else judge_by KeepAll state number p) ≡
-        (if b then refuses state TooManyPackets else judge_by (Edit no_options) state number p)
-    by_number true = refl
-    by_number false = ap (passes state) (sym (same-packet p))
+same-judge state number p = rw (same-packet p) refl
 
 same-event : (f : Form) (w : JobProgress) (e : Event) → apply_event KeepAll f w e ≡ apply_event (Edit no_options) f w e
 same-event f w (Packet input p) = ap (λ (j : Judgement). apply_verdict f w input p j.verdict j.state) (same-judge w.state (w.decided + 1) p.packet)
@@ -412,8 +357,7 @@ same-event f w (InputEnd input kind size) = refl
 same-events : (f : Form) (w : JobProgress) (es : List Event) → apply_events KeepAll f w es ≡ apply_events (Edit no_options) f w es
 same-events f w [] = refl
 same-events f w (e ∷ es) =
-    same-events f (next_progress KeepAll f w e) es
-    ∙ ap (λ (u : JobProgress). apply_events (Edit no_options) f (unless_ended w.end w u) es) (same-event f w e)
+    rw (same-event f w e) (same-events f (next_progress (Edit no_options) f w e) es)
 
 -- ---- one input by time is that input in turn
 
@@ -435,14 +379,11 @@ insert-first input ending greatest p (q ∷ ps) = rw (not-before input ending gr
 sorted : (input : ℕ) (ending : Ending) (greatest : ℕ) (ps : List Placed) → sort_entries (entries_of input ending greatest ps) ≡ entries_of input
     ending greatest ps
 sorted input ending greatest [] = refl
-sorted input ending greatest (p ∷ ps) =
-    ap (insert_entry (entry input ending greatest p ps)) (sorted input ending (max greatest p.packet.time) ps)
-    ∙ insert-first input ending greatest p ps
+sorted input ending greatest (p ∷ ps) = rw (sorted input ending (max greatest p.packet.time) ps) (insert-first input ending greatest p ps)
 
 last-of : (input : ℕ) (ending : Ending) (e : Event)
     → with_front (e ∷ []) (unless_fault (end_of input ending) (record { events = []; end = Complete })) ≡ record { events = e ∷ []; end = end_of input ending }
-last-of input End e = refl
-last-of input (FaultAt fault offset) e = refl
+last-of input ending e = grind arith
 
 of-entries : (input : ℕ) (ending : Ending) (greatest : ℕ) (p : Placed) (ps : List Placed)
     → sequence_of_entries (entries_of input ending greatest (p ∷ ps)) ≡ record { events = packet_events input (p ∷ ps); end = end_of input ending }
@@ -450,47 +391,32 @@ of-entries input ending greatest p [] = last-of input ending (Packet input p)
 of-entries input ending greatest p (q ∷ ps) = ap (with_front (Packet input p ∷ [])) (of-entries input ending (max greatest p.packet.time) q ps)
 
 first-complete : (c : SequenceEnd) → first_end c Complete ≡ c
-first-complete Complete = refl
-first-complete (FaultIn input fault offset) = refl
+first-complete c = grind arith
 
 unless-end : (ending : Ending) → unless_fault (end_of 0 ending) (record { events = []; end = Complete }) ≡ record { events = []; end = end_of 0 ending }
-unless-end End = refl
-unless-end (FaultAt fault offset) = refl
+unless-end ending = grind arith
 
 one-by-time : (greatest : ℕ) (ending : Ending) (ps : List Placed)
     → unless_fault (end_after 0 ending ps) (sequence_of_entries (sort_entries (entries_of 0 ending greatest ps))) ≡ record
     { events = packet_events 0 ps; end = end_of 0 ending }
 one-by-time greatest ending [] = unless-end ending
-one-by-time greatest ending (p ∷ ps) = ap sequence_of_entries (sorted 0 ending greatest (p ∷ ps)) ∙ of-entries 0 ending greatest p ps
+one-by-time greatest ending (p ∷ ps) = rw (sorted 0 ending greatest (p ∷ ps)) (of-entries 0 ending greatest p ps)
 
 by-time : (r : InputItems) → sequence_by_time (r ∷ []) ≡ record { events = packet_events 0 r.items.packets; end = end_of 0 r.items.ending }
-by-time r =
-    let entries : List Entry = entries_of 0 r.items.ending r.greatest r.items.packets in
-    let close : SequenceEnd = end_after 0 r.items.ending r.items.packets in
-    ap (λ (es : List Entry). unless_fault (first_end close Complete) (sequence_of_entries (sort_entries es))) (append-nil entries)
-    ∙ ap (λ (c : SequenceEnd). unless_fault c (sequence_of_entries (sort_entries entries))) (first-complete close)
-    ∙ one-by-time r.greatest r.items.ending r.items.packets
+by-time r = rw (append-nil, first-complete) (one-by-time r.greatest r.items.ending r.items.packets)
 
 -- an input's end changes nothing where nothing is reported
 ended-same : (a : Policy) (f : Form) (w : JobProgress) (input : ℕ) (kind : Option Kind) (size : ℕ) → is_count a ≡ false
     → next_progress a f w (InputEnd input kind size) ≡ w
-ended-same a f w input kind size judges = by_end w.end
-  where
-    by_end : (o : Option SequenceEnd) → unless_ended o w (end_input a w input kind size) ≡ w
-    by_end None = end-stays a w input kind size judges
-    by_end (Some c) = refl
+ended-same a f w input kind size judges = rw (end-stays a w input kind size judges) (grind arith)
 
 in-turn : (a : Policy) (f : Form) (r : InputItems) (ending : Ending) → is_count a ≡ false
     → final_progress a f (record { events = packet_events 0 r.items.packets; end = end_of 0 ending }) ≡ final_progress a f
     (input_sequence 0 r ending (record { events = []; end = Complete }))
 in-turn a f r (FaultAt fault offset) judges = refl
 in-turn a f r End judges =
-    let es = packet_events 0 r.items.packets in
-    let ended = InputEnd 0 (kind_of r.items.declared) r.size in
-    let w = apply_events a f no_progress es in
-    ap (λ (u : JobProgress). end_unless_ended u Complete)
-    (sym (ap (apply_events a f no_progress) (append-nil (es ++ ended ∷ [])) ∙ progress-append a f no_progress es (ended ∷ [])
-    ∙ ended-same a f w 0 (kind_of r.items.declared) r.size judges))
+    let w = apply_events a f no_progress (packet_events 0 r.items.packets) in
+    rw (append-nil, progress-append, ended-same a f w 0 (kind_of r.items.declared) r.size judges) refl
 
 same-order : (a : Policy) (f : Form) (r : InputItems) (order : PacketOrder) → is_count a ≡ false → final_progress a f (sequence_of order (r ∷ [])) ≡
     final_progress a f (sequence_in_turn 0 (r ∷ []))
@@ -509,16 +435,14 @@ merges_one order format names file =
 
 all-selected : (number : ℕ) (ps : List Captured) → packets_selected no_options number ps ≡ ps
 all-selected number [] = refl
-all-selected number (p ∷ ps) = ap (λ (q : Captured). q ∷ packets_selected no_options (number + 1) ps) (same-packet p)
-    ∙ ap (λ (l : List Captured). p ∷ l) (all-selected (number + 1) ps)
+all-selected number (p ∷ ps) = rw (same-packet p, all-selected (number + 1) ps) refl
 
 all-unique : (before : List Mark) (ps : List Captured) → unique_after None before ps ≡ ps
 all-unique before [] = refl
 all-unique before (p ∷ ps) = ap (λ (l : List Captured). p ∷ l) (all-unique (before ++ mark_of p.bytes ∷ []) ps)
 
 nothing-closes : (format : Format) (n : ℕ) (link : Option ℕ) (p : Captured) (ps : List Captured) → closing_if n (AsCapture format) link (p ∷ ps) ≡ []
-nothing-closes format zero link p ps = refl
-nothing-closes format (suc n) link p ps = refl
+nothing-closes format n link p ps = grind arith
 
 -- the packets of such a file are all unique and selected, and none is refused
 copied : (format : Format) (file : List ℕ) (p : Captured) (ps : List Captured) → HasCarried format file p ps
@@ -526,14 +450,10 @@ copied : (format : Format) (file : List ℕ) (p : Captured) (ps : List Captured)
     × (first_refusal (AsCapture format) [] (p ∷ ps) ≡ None)
 copied format file p ps h =
     let none = none-refused (AsCapture format) [] (p ∷ ps) (λ xs q ys is. (h.carried.each xs q ys is).taken) in (
-      ap (λ (l : List Captured). unique_after None [] (packets_selected no_options 1 l)) h.packets ∙ ap (unique_after None [])
-          (all-selected 1 (p ∷ ps)) ∙ all-unique [] (p ∷ ps),
+      rw h.packets (ap (unique_after None []) (all-selected 1 (p ∷ ps)) ∙ all-unique [] (p ∷ ps)),
       none.0,
       none.1,
     )
-
-few-carried : (format : Format) (file : List ℕ) (p : Captured) (ps : List Captured) → HasCarried format file p ps → length (file_packets file) < 2 ^ 63
-few-carried format file p ps h = subst (λ (l : List Captured). length l < 2 ^ 63) (sym h.packets) h.few
 
 -- the text of the packets is written
 copy-is : (format : Format) (names : List (List ℕ)) (file : List ℕ) (p : Captured) (ps : List Captured) → HasCarried format file p ps
@@ -542,15 +462,12 @@ copy-is format names file p ps h =
     let code = (outcome (edit_work no_options format) names (whole_input file ∷ [])).status in
     let link = first_link (whole_input file ∷ []) in
     let all = copied format file p ps h in
-    edit_writes no_options format names file (few-carried format file p ps h)
-    ∙ ap (λ (l : List Captured). written_text (AsCapture format) code link (packets_written (AsCapture format) [] l)) all.0
-    ∙ ap (written_text (AsCapture format) code link) all.1
-    ∙ ap (λ (l : List ℕ). text format (p ∷ ps) ++ l) (nothing-closes format code link p ps)
-    ∙ append-nil (text format (p ∷ ps))
+    edit_writes no_options format names file (rw h.packets h.few)
+    ∙ rw (all.0, all.1, nothing-closes format code link p ps, append-nil (text format (p ∷ ps))) refl
 
 copy-packets : (format : Format) (names : List (List ℕ)) (file : List ℕ) (p : Captured) (ps : List Captured) → ItemsBack → HasCarried format file p ps
     → file_packets (copy_of format names file) ≡ p ∷ ps
-copy-packets format names file p ps back h = ap file_packets (copy-is format names file p ps h) ∙ (back format p ps h.carried).packets
+copy-packets format names file p ps back h = rw (copy-is format names file p ps h) (back format p ps h.carried).packets
 
 pub edit_keeps : ItemsBack → EditKeeps
 edit_keeps back format names file p ps h = copy-packets format names file p ps back h ∙ sym h.packets
@@ -562,12 +479,7 @@ edits_alike back format names file p ps h =
 
 all-in-time : (number : ℕ) (ps : List Placed) → first_without_time no_options number ps ≡ None
 all-in-time number [] = refl
-all-in-time number (p ∷ ps) = by_selection (all-in-time (number + 1) ps) (is_selected no_options number p.packet)
-  where
-    by_selection : first_without_time no_options (number + 1) ps ≡ None → (b : Bool)
-        → (if b && false then Some p.offset else first_without_time no_options (number + 1) ps) ≡ None
-    by_selection more true = more
-    by_selection more false = more
+all-in-time number (p ∷ ps) = all-in-time (number + 1) ps
 
 pub copy_ends : CopyEnds
 copy_ends format names file p ps h =
@@ -579,7 +491,7 @@ copy_ends format names file p ps h =
     ∙ ap (first_refusal (AsCapture format) []) all.0 ∙ all.2)
     (subst (λ (t : Option ℕ). EndsUnlessRefused names (AsCapture format) (packets_edited no_options) (file_events file)
     (unwrap_or (end_at_time t) (end_of 0 r.items.ending)) (outcome (edit_work no_options format) names (r ∷ []))) (all-in-time 1 r.items.packets)
-    (edit_ends no_options format names file (few-carried format file p ps h)))
+    (edit_ends no_options format names file (rw h.packets h.few)))
 
 pub cuts_give_prefixes : CutsGivePrefixes
 cuts_give_prefixes file n =

@@ -6,7 +6,7 @@ use Rattle.cap_tools.proofs.Common.{Phase, Ended, FindsPacket, FindsEnd, Finds, 
 use Rattle.cap_tools.proofs.Common.{Event, Packet, InputEnd, FaultIn, Sequence, sequence_of, sequence_in_turn, input_sequence, with_front, whole_input}
 use Rattle.cap_tools.proofs.Common.{PacketOrder, InputView, InputsView, Future, InputPast, AreInputsAfter, AreFutures, AreSettled, waiting_packets, input_items}
 use Rattle.cap_tools.proofs.Common.{inputs_with, items_left, inputs_left, sequence_left, no_future, input_after, input_after_decided, actual_future, wholes_of}
-use Rattle.cap_tools.proofs.Common.{ComeFirst, finish_at, slice_get, IsInput}
+use Rattle.cap_tools.proofs.Common.{ComeFirst, finish_at, slice_get}
 use Rattle.cap_io.proofs.Cuts.{items_from-stops}
 
 abbrev pub At : InputPast → InputView → Type 0
@@ -157,9 +157,6 @@ come-on us vs s s' xs ys h h' order es new st come carries fs fits =
 pub get-at : {A : Type 0} (xs ys : List A) (x : A) (i : ℕ) → length xs ≡ i → slice_get (xs ++ x ∷ ys) i ≡ Some x
 get-at [] ys x i is = rw (← is) refl
 get-at (y ∷ xs) ys x i is = rw (← is) (get-at xs ys x (length xs) refl)
-
-pub get-input : (cursors : List InputView) (i : ℕ) (h : InputView) → IsInput cursors i h → slice_get cursors i ≡ Some h
-get-input cursors i h a = ap (λ (l : List InputView). slice_get l i) a.splits ∙ get-at a.front a.back h i a.place
 
 drop-front : (rs qs : List InputItems) (r : InputItems) (n : ℕ) → length rs ≡ n → drop n (rs ++ r ∷ qs) ≡ r ∷ qs
 drop-front [] qs r n is = rw (← is) refl

@@ -1,18 +1,18 @@
 -- The job of each command, before its first step.
 use Rattle.cap_tools.proofs.Coming.{come-first}
-use Rattle.cap_tools.proofs.Common.{◌≡◌, inl, inr, ℕ, ◌+◌, ◌≤◌, Bool, true, not, List, [], map, length, None, Option, Result, Ok, Err, refl, sym, ap, arith}
-use Rattle.cap_tools.proofs.Common.{subst, ◌∙◌, nat_eq, nat_le, ◌&&◌, add-zero, DeviceFault, Stops, listing, Target, Capture, Text, Lines, target_at}
+use Rattle.cap_tools.proofs.Common.{◌≡◌, inl, inr, ℕ, ◌+◌, ◌≤◌, Bool, true, List, [], map, length, None, Option, Result, Ok, Err, refl, sym, ap, arith}
+use Rattle.cap_tools.proofs.Common.{subst, ◌∙◌, nat_eq, nat_le, ◌&&◌, add-zero, DeviceFault, listing, Target, Capture, Text, Lines, target_at}
 use Rattle.cap_tools.proofs.Common.{written_to, failures_to, failures_by, Reports, is_text, written_by, MessagesView, is_proper, is_proper_edit}
 use Rattle.cap_tools.proofs.Common.{is_proper_print, most_inputs, IsCompiled, IsTold, Insn, Link, Turn, InTurn, Count, KeepAll, Call, JobView, JobEnd}
-use Rattle.cap_tools.proofs.Common.{first_job, state_at, end_message, end_of_write, end_status, fresh_inputs, nothing_done, order_of, InputsView, EndsList}
-use Rattle.cap_tools.proofs.Common.{ending, Assignment, Preparing, assignment, SelectorView, initial_state, CompileGives, DecidedBy, PreparesBy, PreparesOnly}
-use Rattle.cap_tools.proofs.Common.{RefusesStart, Refusal, refusal_status, IsReadyIf, IsSound, Some, spent_in, with_preparing, suc, ◌*◌, ◌^◌, ◌<◌, ◌∷◌, drop}
-use Rattle.cap_tools.proofs.Common.{Writing, HasWrittenTo, append-nil, IsAt-start, HasPackets-none, InputItems, sequence_in_turn, sequence_by_time, PacketOrder}
-use Rattle.cap_tools.proofs.Common.{ByTime, Policy, FreshInput, fresh_view, Future, AreInputsAfter, KnowGreatest, AreFutures, AreSettled, ended_count}
-use Rattle.cap_tools.proofs.Common.{inputs_with, inputs_left, input_items, steps_left_in, steps_left, most_steps, reads_of, most_turns, steps_owed_in_all}
-use Rattle.cap_tools.proofs.Common.{owed_in, PacketsDecided, false, ap₂, All, is_some, option_map, Content, empty, truth, Rule, by_reading, by_answer, AreNew}
-use Rattle.cap_tools.proofs.Common.{preparing_of, MakesStep}
-use Rattle.cap_tools.proofs.{Fetches.mk, Programs.new-for}
+use Rattle.cap_tools.proofs.Common.{first_job, state_at, end_message, end_of_write, end_status, fresh_inputs, nothing_done, InputsView, EndsList}
+use Rattle.cap_tools.proofs.Common.{ending, Assignment, Preparing, assignment, SelectorView, initial_state, CompileGives, DecidedBy, PreparesBy}
+use Rattle.cap_tools.proofs.Common.{PreparesOnly, RefusesStart, Refusal, refusal_status, IsReadyIf, IsSound, Some, spent_in, with_preparing, suc, ◌*◌}
+use Rattle.cap_tools.proofs.Common.{◌^◌, ◌<◌, ◌∷◌, drop, Writing, HasWrittenTo, append-nil, IsAt-start, HasPackets-none, InputItems, sequence_in_turn}
+use Rattle.cap_tools.proofs.Common.{sequence_by_time, PacketOrder, ByTime, Policy, FreshInput, fresh_view, Future, AreInputsAfter, KnowGreatest}
+use Rattle.cap_tools.proofs.Common.{AreFutures, AreSettled, ended_count, inputs_with, inputs_left, input_items, steps_left_in, steps_left, most_steps}
+use Rattle.cap_tools.proofs.Common.{reads_of, most_turns, steps_owed_in_all, owed_in, PacketsDecided, false, ap₂, All, is_some, option_map, Content}
+use Rattle.cap_tools.proofs.Common.{empty, truth, Rule, by_reading, by_answer, AreNew, preparing_of, MakesStep, Filter}
+use Rattle.cap_tools.proofs.Programs.{new-for}
 use Rattle.std.proofs.lemmas.Bool.{and_parts, eqb-true, leb-true}
 use Rattle.cap_octet.specs.Device.{AppendsOrStops, failures_of}
 use Rattle.cap_command.specs.declared.command.Command.{Command}
@@ -50,18 +50,19 @@ start-greatest : (os : List FreshInput) → KnowGreatest (map nothing_done os) (
 start-greatest [] = tt
 start-greatest (o ∷ os) = (refl, start-greatest os)
 
-pub nothing-decided : (order : PacketOrder) (os : List FreshInput) (before : List ℕ) (policy : Policy) (names : List (List ℕ)) (w : Writing) (failures room : ℕ)
-    → PacketsDecided (map nothing_done os) before (mk (map fresh_view os) order policy initial_state names (target_at w before failures room) 0)
-nothing-decided order os before policy names w failures room = record {
-  following = start-following os;
-  greatest = start-greatest os;
+-- the packets of a call, before this policy decides any
+nothing-decided : (a : Assignment) (call : Call) (policy : Policy)
+    → PacketsDecided (map nothing_done call.inputs) call.output.written (record (first_job a call).state { policy = policy })
+nothing-decided a call policy = record {
+  following = start-following call.inputs;
+  greatest = start-greatest call.inputs;
   events = [];
-  first = come-first (map nothing_done os) (record { order = order; cursors = map fresh_view os }) [] (start-following os) (start-come order os);
-  come = start-come order os;
+  first = come-first (map nothing_done call.inputs) (fresh_inputs a.order call.inputs) [] (start-following call.inputs) (start-come a.order call.inputs);
+  come = start-come a.order call.inputs;
   packets = [];
   reports = [];
   progress = refl;
-  output = start-drained before names w failures room;
+  output = start-drained call.output.written call.names a.writing call.output.failures call.room;
   passed = omega arith;
   counted = (omega arith, omega arith, omega arith);
 }
@@ -71,9 +72,6 @@ fresh-left [] = omega arith
 fresh-left (o ∷ os) = let e = fresh-left os in omega (arith, e)
 
 -- so much is to be done
-pub first-left : (order : PacketOrder) (os : List FreshInput) → length os ≤ most_inputs → steps_left (fresh_inputs order os) ≤ most_steps
-first-left order os upper_bound = let a = fresh-left os in omega (arith, a, upper_bound)
-
 pub first-less : (order : PacketOrder) (os : List FreshInput) → length os ≤ most_inputs → steps_left (fresh_inputs order os) < most_steps
 first-less order os upper_bound = let a = fresh-left os in omega (arith, a, upper_bound)
 
@@ -176,54 +174,39 @@ pub first-made : {Z : Type 0} (c : Command Z) (call : Call) (a : Assignment) (in
 first-made c call a inputs selector messages target same_preparing same_order same_policy same_writing is judged exact written =
     rw (is, judged, exact, written, same_preparing, same_order, same_policy, same_writing) refl
 
+fresh-job : (a : Assignment) (call : Call) → length call.inputs ≤ most_inputs → IsFresh (first_job a call)
+fresh-job a call upper_bound = record {
+  turns = refl;
+  done = refl;
+  programs = refl;
+  left = first-less a.order call.inputs upper_bound;
+  upper_bound = first-few a.order call.inputs;
+}
+
 -- what a command reads or compiles first is not begun, and no step was made
 pub first-ready : {Z : Type 0} (c : Command Z) (call : Call) → length call.inputs ≤ most_inputs
     → IsReadyIf (assignment c).preparing (first_job (assignment c) call)
 first-ready (Command.Edit edit) call upper_bound = tt
 first-ready (Command.Merge merge) call upper_bound = tt
 first-ready Command.Infos call upper_bound = tt
-first-ready (Command.Print print) call upper_bound =
-    record {
-      turns = refl;
-      done = refl;
-      programs = refl;
-      left = first-less (assignment (Command.Print print)).order call.inputs upper_bound;
-      upper_bound = first-few (assignment (Command.Print print)).order call.inputs;
-    }
-first-ready (Command.Compile compile) call upper_bound = (
-  record {
-    turns = refl;
-    done = refl;
-    programs = refl;
-    left = first-less (assignment (Command.Compile compile)).order call.inputs upper_bound;
-    upper_bound = first-few (assignment (Command.Compile compile)).order call.inputs;
-  },
-  refl,
-)
+first-ready (Command.Print print) call upper_bound = fresh-job (assignment (Command.Print print)) call upper_bound
+first-ready (Command.Compile compile) call upper_bound = (fresh-job (assignment (Command.Compile compile)) call upper_bound, refl)
 
 -- nothing is decided of the inputs
 pub first-decided : {Z : Type 0} (c : Command Z) (call : Call)
     → DecidedBy (assignment c).preparing (map nothing_done call.inputs) call.output.written (first_job (assignment c) call)
 first-decided (Command.Edit edit) call = record {
-  packets = nothing-decided (assignment (Command.Edit edit)).order call.inputs call.output.written
-      (assignment (Command.Edit edit)).policy call.names (assignment (Command.Edit edit)).writing call.output.failures call.room;
+  packets = nothing-decided (assignment (Command.Edit edit)) call (assignment (Command.Edit edit)).policy;
   programs = refl;
 }
-first-decided (Command.Merge merge) call = record {
-  packets = nothing-decided (order_of (not merge.append)) call.inputs call.output.written KeepAll
-      call.names (Writing.Capture merge.format) call.output.failures call.room;
+first-decided {Z = Z} (Command.Merge merge) call = record {
+  packets = nothing-decided (assignment {Z = Z} (Command.Merge merge)) call KeepAll;
   programs = refl;
 }
-first-decided Command.Infos call = record {
-  packets = nothing-decided InTurn call.inputs call.output.written Count call.names Writing.Text
-      call.output.failures call.room;
-  programs = refl;
-}
+first-decided {Z = Z} Command.Infos call = record { packets = nothing-decided (assignment {Z = Z} Command.Infos) call Count; programs = refl }
 first-decided (Command.Print print) call = λ rule is programs made. record {
-  packets = nothing-decided (assignment (Command.Print print)).order
-      call.inputs call.output.written _ call.names (assignment (Command.Print print)).writing call.output.failures call.room;
-  programs =
-      new-for rule programs made;
+  packets = nothing-decided (assignment (Command.Print print)) call (Filter rule print.count);
+  programs = new-for rule programs made;
 }
 first-decided (Command.Compile compile) call = tt
 
@@ -235,8 +218,7 @@ appended : (old new : Target) (bytes : List ℕ) (r : Result (Unit {0}) DeviceFa
 appended (Capture sink) new bytes r text to = (cc)
 appended (Lines options written failures room) new bytes r text to = (cc)
 appended (Text written failures room) new bytes r text to =
-    let P : Target → Type 0 = λ t. AppendsOrStops r written bytes (written_to t) × (failures_to t ≡ failures + failures_of r) in
-    subst P (sym to.is) (to.appends, refl)
+    rw to.is (to.appends, refl)
 
 pub listed : (insns : List Insn) (tells : Bool) (old new : JobView) (output : Target) (r : Result (Unit {0}) DeviceFault) → is_text old.state.output ≡
     true → Reports (listing insns) old.state.output r output
@@ -253,8 +235,7 @@ listed insns tells old new output (Ok done) text lists is told quiet =
     })
 listed insns tells old new output (Err fault) text lists is told quiet =
     let to = appended old.state.output output (listing insns) (Err fault) text lists in
-    let S : JobView → Type 0 = λ j. Stops (written_by old.state) (listing insns) (written_by j.state) in
-    inr (record { stops = subst S (sym is) to.0; failures = ap (λ (j : JobView). failures_by j.state) is ∙ to.1; exact = told; status_is = refl })
+    inr (record { stops = rw is to.0; failures = ap (λ (j : JobView). failures_by j.state) is ∙ to.1; exact = told; status_is = refl })
 
 pub none-before : {Z : Type 0} (p : Option (Preparation Z)) → is_some p ≡ false → option_map preparing_of p ≡ None
 none-before None is = refl

@@ -1,27 +1,15 @@
 -- The step that completes the output.
 use Rattle.cap_tools.proofs.Coming.{true-whole, true-wholes, true-fit, true-fits, At}
-use Rattle.cap_tools.proofs.Common.{None, all_ends, ◌≡◌, ℕ, ◌+◌, List, [], ◌∷◌, ◌++◌, map, Option, Some, Result, Ok, Err, refl, sym, ◌∙◌, ap, subst, add-zero}
-use Rattle.cap_tools.proofs.Common.{append-nil, option_or, Stops, Captured, DeviceFault, Fault, WriteFailed, first_link_of, items, SinkView, FinishesEmpty}
-use Rattle.cap_tools.proofs.Common.{HasPackets, link_or_ethernet, file_start, text, Ended, finish-none, finish-none-writes, finish-some, Report, Event}
-use Rattle.cap_tools.proofs.Common.{InputItems, Complete, sequence_of, with_front, PacketOrder, Policy, SelectorState, AsCapture, JobProgress, closing_text}
-use Rattle.cap_tools.proofs.Common.{lines_text, end_with, final_text, first_link, Target, Capture, Text, Lines, HasWrittenTo, form_to, written_to, failures_to}
-use Rattle.cap_tools.proofs.Common.{EndsOutput, FinishesInto, InputView, Future, InputPast, AreInputsAfter, IsNext, AllEnded, actual_future}
-use Rattle.cap_tools.proofs.Common.{first_declared_link, next-is-of, reports_text, JobState, PacketsDecided, EndLeaves, end_of_write, StopsWriting, progress_at}
+use Rattle.cap_tools.proofs.Common.{None, all_ends, ◌≡◌, ℕ, ◌+◌, List, [], ◌∷◌, ◌++◌, map, Option, Some, Result, Ok, Err, refl, sym, ◌∙◌, ap, subst}
+use Rattle.cap_tools.proofs.Common.{add-zero, append-nil, option_or, Stops, Captured, DeviceFault, WriteFailed, first_link_of, items, SinkView}
+use Rattle.cap_tools.proofs.Common.{FinishesEmpty, link_or_ethernet, file_start, text, Ended, finish-none, finish-none-writes, finish-some, Report}
+use Rattle.cap_tools.proofs.Common.{Event, InputItems, Complete, sequence_of, with_front, PacketOrder, Policy, SelectorState, JobProgress, closing_text}
+use Rattle.cap_tools.proofs.Common.{lines_text, end_with, final_text, first_link, Target, Capture, Text, Lines, HasWrittenTo, form_to, written_to}
+use Rattle.cap_tools.proofs.Common.{failures_to, EndsOutput, InputView, Future, InputPast, AreInputsAfter, IsNext, AllEnded, actual_future}
+use Rattle.cap_tools.proofs.Common.{first_declared_link, next-is-of, reports_text, JobState, PacketsDecided, EndLeaves, end_of_write, progress_at}
 use Rattle.cap_tools.proofs.Common.{progress_of, progress_over, wholes_of, Next}
 use Rattle.cap_tools.proofs.{Fetches.mk, Fetches.inputs_at, Laws.OverAt, Laws.over-at}
 use Rattle.cap_tools.proofs.Nexts.{all-course, stops-at, once-closing}
-
--- all events have come
-over-all : (ss : List InputPast) (before : List ℕ) (cursors : List InputView) (order : PacketOrder) (policy : Policy) (state : SelectorState)
-    (names : List (List ℕ)) (output : Target) (decided : ℕ) → OverAt order cursors
-    → (d : PacketsDecided ss before (mk cursors order policy state names output decided))
-    → sequence_of order (wholes_of ss) ≡ record { events = d.events; end = Complete }
-over-all ss before cursors order policy state names output decided at d =
-    let fits = true-fits ss cursors d.following in
-    ap (sequence_of order) (sym (true-wholes ss cursors d.following))
-    ∙ d.come (map (λ (h : InputView). actual_future h.source) cursors) fits
-    ∙ ap (with_front d.events) (at.over_left (map (λ (h : InputView). actual_future h.source) cursors) fits)
-    ∙ ap (λ (l : List Event). record { events = l; end = Complete }) (append-nil d.events)
 
 declared-one : (s : InputPast) (h : InputView) → At s h → h.source.phase ≡ Ended → first_link_of (items s.text).declared ≡ first_link_of h.source.declared
 declared-one s h at e =
@@ -70,75 +58,61 @@ finish-device before names ps rs (Text bytes failures room) new link has finishe
 finish-device before names ps rs (Lines options bytes failures room) new link has finishes = ap failures_to finishes.1
 
 -- the device failed at the file header of a capture, which has no packets then
-record StopsEmpty (before : List ℕ) (sink : SinkView) (packets : List Captured) (link : Option ℕ) (new : Target) : Type 0 where
-  pub none : packets ≡ []
-  pub failures : failures_to new ≡ sink.failures + 1
-  pub stops : Stops sink.written (file_start sink.format (link_or_ethernet link)) (written_to new)
-
-finish-empty : (before : List ℕ) (sink : SinkView) (packets : List Captured) (link : Option ℕ) (fault : Fault) (new : Target) → HasPackets before sink
-    packets → FinishesInto link sink (Err fault) new
-    → StopsEmpty before sink packets link new
-finish-empty before sink (q ∷ qs) link fault new has finishes =
-    absurd (let same = finish-some before q qs sink link (Err fault) finishes.sink has finishes.finishes in let e = same.0 in cc)
-finish-empty before sink [] link fault new has finishes =
-    let empty : FinishesEmpty sink (link_or_ethernet link) (Err fault) finishes.sink = finish-none before sink link (Err fault) finishes.sink has
-    finishes.finishes in
-    let exact : fault ≡ WriteFailed = empty.answer in
-    let failed : finishes.sink.failures ≡ sink.failures + 1 = rw exact at empty.failures in
+finish-stops : (before : List ℕ) (names : List (List ℕ)) (ps : List Captured) (rs : List Report) (target new : Target) (link : Option ℕ)
+    (fault : DeviceFault) → HasWrittenTo before names target ps rs → EndsOutput link target (Err fault) new
+    → Stops (written_to target) (closing_text (form_to names target) link ps) (written_to new) × (failures_to new ≡ failures_to target + 1)
+finish-stops before names (q ∷ qs) rs (Capture sink) new link fault has finishes = absurd
+    (let same = finish-some before q qs sink link (Err finishes.0) finishes.1.sink has finishes.1.finishes in let e = same.0 in cc)
+finish-stops before names [] rs (Capture sink) new link fault has finishes =
+    let to = finishes.1 in
+    let empty : FinishesEmpty sink (link_or_ethernet link) (Err finishes.0) to.sink = finish-none before sink link (Err finishes.0) to.sink has to.finishes in
+    let exact : finishes.0 ≡ WriteFailed = empty.answer in
+    let failed : to.sink.failures ≡ sink.failures + 1 = rw exact at empty.failures in
     let S : Target → Type 0 = λ t. Stops sink.written (file_start sink.format (link_or_ethernet link)) (written_to t) in
-    record {
-      none = refl;
-      failures = ap failures_to finishes.is ∙ failed;
-      stops = subst S (sym finishes.is) (finish-none-writes before sink link (Err fault) finishes.sink has finishes.writes);
-    }
+    (subst S (sym to.is) (finish-none-writes before sink link (Err finishes.0) to.sink has to.writes), ap failures_to to.is ∙ failed)
+finish-stops before names ps rs (Text bytes failures room) new link fault has finishes = absurd (let e = finishes.0 in cc)
+finish-stops before names ps rs (Lines options bytes failures room) new link fault has finishes = absurd (let e = finishes.0 in cc)
 
-finish-stops : (ss : List InputPast) (before : List ℕ) (names : List (List ℕ)) (target : Target) (cursors : List InputView) (order : PacketOrder)
-    (policy : Policy) (state : SelectorState) (decided : ℕ) (fault : DeviceFault) (new : JobState)
-    → (d : PacketsDecided ss before (mk cursors order policy state names target decided))
-    → sequence_of order (wholes_of ss) ≡ record { events = d.events; end = Complete }
-    → first_link (wholes_of ss) ≡ first_declared_link cursors → IsNext (inputs_at order cursors) Next.Finish
-    → new.inputs ≡ record { order = order; cursors = cursors } → EndsOutput (first_declared_link cursors) target (Err fault) new.output
-    → StopsWriting d new
-finish-stops ss before names (Text bytes failures room) cursors order policy state decided fault new d all link tells inputs finishes =
-    absurd (let e = finishes.0 in cc)
-finish-stops ss before names (Lines options bytes failures room) cursors order policy state decided fault new d all link tells inputs finishes =
-    absurd (let e = finishes.0 in cc)
-finish-stops ss before names (Capture sink) cursors order policy state decided fault new d all link tells inputs finishes =
-    let empty : StopsEmpty before sink d.packets (first_declared_link cursors) new.output = finish-empty before sink d.packets
-    (first_declared_link cursors) finishes.0 new.output d.output finishes.1 in
-    let bytes : List ℕ = file_start sink.format (link_or_ethernet (first_declared_link cursors)) in
-    let closing_is : bytes ≡ closing_text (AsCapture sink.format) (first_link (wholes_of ss)) d.packets =
-    ap (λ (o : Option ℕ). file_start sink.format (link_or_ethernet o)) (sym link)
-    ∙ ap (closing_text (AsCapture sink.format) (first_link (wholes_of ss))) (sym empty.none) in
-    stops-at ss before (mk cursors order policy state names (Capture sink) decided) new bytes d None
-    (all_ends (next-is-of (inputs_at order cursors) Next.Finish tells) inputs) (
-      record { is = all; goes = ap (λ (w : JobProgress). w.end) d.progress },
-      closing_is
-          ∙ ap (λ (w : JobProgress). closing_text (AsCapture sink.format) (first_link (wholes_of ss)) w.packets) (sym d.progress),
-    )
-    empty.stops empty.failures
+module _ (ss : List InputPast) (before : List ℕ) (cursors : List InputView) (order : PacketOrder) (policy : Policy) (state : SelectorState)
+    (names : List (List ℕ)) (output : Target) (decided : ℕ) (new : JobState) (tells : IsNext (inputs_at order cursors) Next.Finish)
+    (inputs : new.inputs ≡ inputs_at order cursors) (d : PacketsDecided ss before (mk cursors order policy state names output decided)) where
+  abbrev m : JobState
+  m = mk cursors order policy state names output decided
 
-pub finish-leaves : (ss : List InputPast) (before : List ℕ) (cursors : List InputView) (order : PacketOrder) (policy : Policy) (state : SelectorState)
-    (names : List (List ℕ)) (output : Target) (decided : ℕ) (r : Result (Unit {0}) DeviceFault) (new : JobState)
-    → IsNext (inputs_at order cursors) Next.Finish → new.inputs ≡ record { order = order; cursors = cursors }
-    → EndsOutput (first_declared_link cursors) output r new.output → (d : PacketsDecided ss before (mk cursors order policy state names output decided))
-    → EndLeaves d (end_of_write r) new
-finish-leaves ss before cursors order policy state names output decided (Ok done) new tells inputs finishes d =
-    let at : OverAt order cursors = over-at order cursors tells in
-    let m : JobState = mk cursors order policy state names output decided in
-    let stop = all-course ss before m d (over-all ss before cursors order policy state names output decided at d) in
-    let link = links ss cursors d.following at.ended in
-    let text_is : written_to new.output ≡ before ++ final_text (form_to names output) (first_link (wholes_of ss)) (over m d.packets d.reports) =
-    finish-text before names d.packets d.reports decided state output new.output (first_declared_link cursors) d.output finishes
-    ∙ ap (λ (o : Option ℕ). before ++ final_text (form_to names output) o (over m d.packets d.reports)) (sym link) in
-    record {
-      ends = ap (λ (w : JobProgress). w.end) stop;
-      written = text_is ∙ ap (λ (w : JobProgress). before ++ final_text (form_to names output) (first_link (wholes_of ss)) w) (sym stop);
-      once = once-closing (first_link (wholes_of ss)) before (progress_of d) (progress_over m (wholes_of ss)) names output new.output d.output text_is
-          (ap (λ (w : JobProgress). w.packets) stop) (ap (λ (w : JobProgress). w.reports) stop) (ap (λ (w : JobProgress). w.end) stop);
-      device = finish-device before names d.packets d.reports output new.output (first_declared_link cursors) d.output finishes;
-    }
-finish-leaves ss before cursors order policy state names output decided (Err fault) new tells inputs finishes d =
-    let at : OverAt order cursors = over-at order cursors tells in
-    finish-stops ss before names output cursors order policy state decided fault new d
-    (over-all ss before cursors order policy state names output decided at d) (links ss cursors d.following at.ended) tells inputs finishes
+  at : OverAt order cursors
+  at = over-at order cursors tells
+
+  -- all events have come
+  all : sequence_of order (wholes_of ss) ≡ record { events = d.events; end = Complete }
+  all =
+      let fits = true-fits ss cursors d.following in
+      ap (sequence_of order) (sym (true-wholes ss cursors d.following))
+      ∙ d.come (map (λ (h : InputView). actual_future h.source) cursors) fits
+      ∙ ap (with_front d.events) (at.over_left (map (λ (h : InputView). actual_future h.source) cursors) fits)
+      ∙ ap (λ (l : List Event). record { events = l; end = Complete }) (append-nil d.events)
+
+  link : first_link (wholes_of ss) ≡ first_declared_link cursors
+  link = links ss cursors d.following at.ended
+
+  pub finish-leaves : (r : Result (Unit {0}) DeviceFault) → EndsOutput (first_declared_link cursors) output r new.output → EndLeaves d (end_of_write r) new
+  finish-leaves (Ok done) finishes =
+      let stop = all-course ss before m d all in
+      let text_is : written_to new.output ≡ before ++ final_text (form_to names output) (first_link (wholes_of ss)) (over m d.packets d.reports) =
+      finish-text before names d.packets d.reports decided state output new.output (first_declared_link cursors) d.output finishes
+      ∙ ap (λ (o : Option ℕ). before ++ final_text (form_to names output) o (over m d.packets d.reports)) (sym link) in
+      record {
+        ends = ap (λ (w : JobProgress). w.end) stop;
+        written = text_is ∙ ap (λ (w : JobProgress). before ++ final_text (form_to names output) (first_link (wholes_of ss)) w) (sym stop);
+        once = once-closing (first_link (wholes_of ss)) before (progress_of d) (progress_over m (wholes_of ss)) names output new.output d.output text_is
+            (ap (λ (w : JobProgress). w.packets) stop) (ap (λ (w : JobProgress). w.reports) stop) (ap (λ (w : JobProgress). w.end) stop);
+        device = finish-device before names d.packets d.reports output new.output (first_declared_link cursors) d.output finishes;
+      }
+  finish-leaves (Err fault) finishes =
+      let stop = finish-stops before names d.packets d.reports output new.output (first_declared_link cursors) fault d.output finishes in
+      let bytes : Option ℕ → List ℕ = λ o. closing_text (form_to names output) o d.packets in
+      stops-at ss before m new (bytes (first_declared_link cursors)) d None
+      (all_ends (next-is-of (inputs_at order cursors) Next.Finish tells) inputs) (
+        record { is = all; goes = ap (λ (w : JobProgress). w.end) d.progress },
+        ap bytes (sym link) ∙ ap (λ (w : JobProgress). closing_text (form_to names output) (first_link (wholes_of ss)) w.packets) (sym d.progress),
+      )
+      stop.0 stop.1

@@ -121,7 +121,7 @@ from-of k [] from ready = tt
 from-of k (h ∷ hs) from ready = (one from.0 ready.0, from-of k hs from.1 ready.1)
   where
     one : (h.waiting ≡ true → k ≤ key_of h) → InputFrom 0 h → InputFrom k h
-    one keys (waits_from p w held l) = waits_from p w held (let P : Option Captured → Type 0 = λ o. k ≤ max h.greatest (packet_time o) in subst P held (keys w))
+    one keys (waits_from p w held l) = waits_from p w held (rw held at (keys w))
     one keys (ended_from w e) = ended_from w e
 
 pub record ReadyAt (xs ys : List InputView) : Type 0 where
@@ -213,12 +213,11 @@ read-at InTurn ss cursors i tells following =
     record { cursor = tells.cursor; among = a; laws = turn-reads i a.front a.back tells.cursor a.place tells.waits tells.unended tells.front tells.back }
 read-at ByTime ss cursors i tells following =
     let a = tells.among in
-    let P : List InputView → Type 0 = λ l. AreInputsAfter ss l in
     record {
       cursor = tells.cursor;
       among = a;
       laws = merge-reads i a.front a.back tells.cursor a.place tells.waits
-          (ready-front ss a.front (tells.cursor ∷ a.back) (subst P a.splits following) tells.front);
+          (ready-front ss a.front (tells.cursor ∷ a.back) (rw a.splits at following) tells.front);
     }
 
 -- ---- the current packet is decided
@@ -253,12 +252,9 @@ merge-left : (i : ℕ) (xs ys : List InputView) (h : InputView) → length xs �
 merge-left i xs ys h here waits ready over from p held f fit fs gs before after_fits =
     let r = ready-split xs ys h ready in
     let key : key_of h ≡ max h.greatest p.time = ap (λ (o : Option Captured). max h.greatest (packet_time o)) held in
-    let O : ℕ → Type 0 = λ k. InputsFrom (k + 1) xs in
-    let F : ℕ → Type 0 = λ k. InputsFrom k ys in
-    let B : List InputItems → Type 0 = λ l. fault_without_packets 0 l ≡ Complete in
-    merge-decides xs ys h p fs gs f waits held (subst O key (from-of (key_of h + 1) xs over r.before))
-    (subst F key (from-of (key_of h) ys from r.following)) before after_fits
-    (subst B (rests-join xs ys h fs gs f before) (none-broken 0 0 (xs ++ h ∷ ys) (fs ++ f ∷ gs) ready (fits-join xs ys h fs gs f before fit after_fits)))
+    merge-decides xs ys h p fs gs f waits held (rw key at (from-of (key_of h + 1) xs over r.before))
+    (rw key at (from-of (key_of h) ys from r.following)) before after_fits
+    (rw (rests-join xs ys h fs gs f before) at (none-broken 0 0 (xs ++ h ∷ ys) (fs ++ f ∷ gs) ready (fits-join xs ys h fs gs f before fit after_fits)))
     ∙ ap (λ n. with_front (Packet n (record { offset = h.source.offset; packet = p }) ∷ [])
     (sequence_by_time (inputs_left xs fs ++ items_left (input_after_decided h) f ∷ inputs_left ys gs))) (rests-length xs fs before ∙ here)
 
@@ -283,12 +279,11 @@ decide-at InTurn ss cursors i tells following =
 decide-at ByTime ss cursors i tells following =
     let l = tells.1 in
     let a = l.among in
-    let P : List InputView → Type 0 = λ v. InputsFrom 0 v in
     record {
       cursor = l.cursor;
       among = a;
       laws = merge-decide-laws i a.front a.back l.cursor a.place l.waits
-          (subst P a.splits (all-ready ss cursors following tells.0)) l.over l.from;
+          (rw a.splits at (all-ready ss cursors following tells.0)) l.over l.from;
     }
 
 -- ---- nothing remains

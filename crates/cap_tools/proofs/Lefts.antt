@@ -1,11 +1,11 @@
 -- Each step decreases the bound of the remaining steps, and the bytes read account for it.
-use Rattle.cap_tools.proofs.Common.{◌≡◌, ℕ, ◌+◌, ◌*◌, ◌^◌, ◌<◌, ◌≤◌, suc, Bool, true, false, List, [], ◌∷◌, ◌++◌, length, Result, Ok, Err, refl, sym, ◌∙◌, ap}
-use Rattle.cap_tools.proofs.Common.{arith, length-append, slice_set, Fault, SourceView, Phase, Reading, Ended, Failed, Steps, end_offset, phase_after}
-use Rattle.cap_tools.proofs.Common.{PacketOrder, InTurn, ByTime, InputView, InputsView, IsInput, MarksDecided, ReadSteps, input_after, input_after_decided}
-use Rattle.cap_tools.proofs.Common.{input_steps_left, is_packet_found, steps_left_in, steps_owed, with_cursor, owed_by, steps_left, IsNext, IsNextIn, IsOpen}
-use Rattle.cap_tools.proofs.Common.{set-here, most_turns, reads_of, IsPaid, steps_owed_in_all, owed_in, Option, None, Some, most_steps, HasFewTurns, OutputView}
-use Rattle.cap_tools.proofs.Common.{Preparing, JobView, StepReads, reads_on, decides_one, leaves_one, reads_nothing, Next, IsCounted}
-use Rattle.cap_tools.proofs.Fetches.{among-same}
+use Rattle.cap_tools.proofs.Common.{◌≡◌, ℕ, ◌+◌, ◌*◌, ◌^◌, ◌<◌, ◌≤◌, suc, Bool, true, false, List, [], ◌∷◌, ◌++◌, length, Result, Ok, Err, refl, sym}
+use Rattle.cap_tools.proofs.Common.{◌∙◌, ap, arith, length-append, slice_set, Fault, SourceView, Phase, Reading, Ended, Failed, Steps, end_offset}
+use Rattle.cap_tools.proofs.Common.{phase_after, PacketOrder, InTurn, ByTime, InputView, InputsView, IsInput, MarksDecided, ReadSteps, input_after}
+use Rattle.cap_tools.proofs.Common.{input_after_decided, input_steps_left, is_packet_found, steps_left_in, steps_owed, with_cursor, owed_by, steps_left}
+use Rattle.cap_tools.proofs.Common.{IsNext, IsNextIn, IsOpen, decided-waits, same-input, set-among, most_turns, reads_of, IsPaid, steps_owed_in_all}
+use Rattle.cap_tools.proofs.Common.{owed_in, Option, None, Some, most_steps, HasFewTurns, OutputView, Preparing, JobView, StepReads, reads_on}
+use Rattle.cap_tools.proofs.Common.{decides_one, leaves_one, reads_nothing, Next, IsCounted}
 use Rattle.std.specs.Prelude.{OnOk}
 
 -- ---- one input for another
@@ -31,8 +31,7 @@ record Exchanged (cursors cursors' : List InputView) (h h' : InputView) : Type 0
 
 exchanged : (cursors : List InputView) (i : ℕ) (h h' : InputView) → IsInput cursors i h → Exchanged cursors (slice_set cursors i h') h h'
 exchanged cursors i h h' a =
-    let set : slice_set cursors i h' ≡ a.front ++ h' ∷ a.back = ap (λ (l : List InputView). slice_set l i h') a.splits ∙ set-here a.front a.back h h'
-    i a.place in
+    let set = set-among cursors i h h' a in
     let left : steps_left_in cursors ≡ steps_left_in a.front + (input_steps_left h + steps_left_in a.back) = ap steps_left_in a.splits
     ∙ left-append a.front (h ∷ a.back) in
     let left' : steps_left_in (slice_set cursors i h') ≡ steps_left_in a.front + (input_steps_left h' + steps_left_in a.back) = ap steps_left_in set
@@ -66,18 +65,12 @@ to-read inputs i h tells a = by_order inputs.order tells
   where
     same-as : (cursor : InputView) → IsInput inputs.cursors i cursor → cursor.waiting ≡ false → IsOpen cursor → Unready h
     same-as cursor among waits on =
-        let same = among-same inputs.cursors i h cursor a among in
+        let same = same-input inputs.cursors i h cursor a among in
         record { waits = ap (λ (v : InputView). v.waiting) same ∙ waits; on = λ e. on (sym (ap (λ (v : InputView). v.source.phase) same) ∙ e) }
 
     by_order : (order : PacketOrder) → IsNextIn order inputs.cursors (Next.Read i) → Unready h
     by_order InTurn tells = same-as tells.cursor tells.among tells.waits tells.unended
     by_order ByTime tells = same-as tells.cursor tells.among tells.waits tells.unended
-
--- the packet of an input that is to be decided waits
-pub to-decide : (order : PacketOrder) (cursors : List InputView) (i : ℕ) (h : InputView) → IsNextIn order cursors (Next.Decide i)
-    → IsInput cursors i h → h.waiting ≡ true
-to-decide InTurn cursors i h tells a = ap (λ (v : InputView). v.waiting) (among-same cursors i h tells.cursor a tells.among) ∙ tells.waits
-to-decide ByTime cursors i h tells a = ap (λ (v : InputView). v.waiting) (among-same cursors i h tells.1.cursor a tells.1.among) ∙ tells.1.waits
 
 -- after its packet it owes at most one step
 following-owes : (p : Phase) → steps_owed false p ≤ 1
@@ -96,7 +89,8 @@ decided-on inputs inputs' i tells s =
     let reads = one.reads in
     let owes = one.owes in
     let count = one.count in
-    let two : owed_by s.cursor ≡ 2 = ap (λ (b : Bool). steps_owed b s.cursor.source.phase) (to-decide inputs.order inputs.cursors i s.cursor tells s.among) in
+    let two : owed_by s.cursor ≡ 2 = ap (λ (b : Bool). steps_owed b s.cursor.source.phase)
+    (decided-waits inputs.order inputs.cursors i s.cursor s.among tells) in
     let most : owed_by (input_after_decided s.cursor) ≤ 1 = following-owes s.cursor.source.phase in
     let left' : steps_left inputs' ≡ steps_left_in cursors' = ap steps_left s.is in
     let owes' : steps_owed_in_all inputs' ≡ owed_in cursors' = ap steps_owed_in_all s.is in

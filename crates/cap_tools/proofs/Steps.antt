@@ -1,13 +1,14 @@
 -- The effect of a step on a job, by the parts that it changes. `old` is the job as its invariant
 -- describes it, and `now` the same job as contracts see it.
-use Rattle.cap_tools.proofs.{Answers.AnswerLeaves, Answers.answer-leaves, Coming.get-input, CommandStarts.ready-none}
-use Rattle.cap_tools.proofs.Common.{is_none, ◌≡◌, ℕ, ◌+◌, ◌<◌, ◌≤◌, Bool, true, false, IsTrue, List, Captured, Option, None, Some, Result, Ok, Err, ◌&&◌, refl}
-use Rattle.cap_tools.proofs.Common.{sym, ◌∙◌, ap, arith, subst, All, Fault, InputView, InputsView, InputPast, IsInput, IsNext, IsSound, MarksDecided, ReadSteps}
-use Rattle.cap_tools.proofs.Common.{ReadsInput, steps_left, next-is-of, is_clean_end, input_after_decided, with_cursor, Policy, SelectorView, policy_state}
-use Rattle.cap_tools.proofs.Common.{GrowsByOne, HasFewMarks, HavePrograms, Spends, IsStep, JobEnd, JobState, JobView, PacketsDecided, StepGives, StepLeaves}
-use Rattle.cap_tools.proofs.Common.{state_at, asks_report, end_after, sieve, DecidesPacket, StepReads, reads_on, decides_one, leaves_one, is_fault, IsPaid}
-use Rattle.cap_tools.proofs.Common.{IsSmall, Target, HasFewOutputInterfaces, room_by, room_to, Next}
-use Rattle.cap_tools.proofs.Fetches.{Follows, among-same, read_input-leaves}
+use Rattle.cap_tools.proofs.{Answers.AnswerLeaves, Answers.answer-leaves, CommandStarts.ready-none}
+use Rattle.cap_tools.proofs.Common.{is_none, ◌≡◌, ℕ, ◌+◌, ◌<◌, ◌≤◌, Bool, true, false, IsTrue, List, Captured, Option, None, Some, Result, Ok, Err}
+use Rattle.cap_tools.proofs.Common.{◌&&◌, refl, sym, ◌∙◌, ap, arith, subst, All, Fault, InputView, InputsView, InputPast, IsInput, IsNext, IsSound}
+use Rattle.cap_tools.proofs.Common.{MarksDecided, ReadSteps, ReadsInput, steps_left, next-is-of, is_clean_end, input_after_decided, with_cursor}
+use Rattle.cap_tools.proofs.Common.{SelectorView, policy_state, GrowsByOne, HasFewMarks, HavePrograms, Spends, IsStep, JobEnd, JobState, JobView}
+use Rattle.cap_tools.proofs.Common.{PacketsDecided, StepGives, state_at, asks_report, end_after, sieve, DecidesPacket, StepReads, reads_on, decides_one}
+use Rattle.cap_tools.proofs.Common.{leaves_one, is_fault, IsPaid, IsSmall, Target, HasFewOutputInterfaces, room_by, room_to, Next, get-input}
+use Rattle.cap_tools.proofs.Common.{same-input}
+use Rattle.cap_tools.proofs.Fetches.{Follows, read_input-leaves}
 use Rattle.cap_tools.proofs.Lefts.{counted-kept, few-kept, Goes, decided-on, read-on}
 use Rattle.cap_tools.proofs.Weights.{is-light, mark_decided-small, read_input-small}
 use Rattle.cap_process.specs.declared.selector.Verdict as code
@@ -61,8 +62,7 @@ pub step-of : (inputs_tell output_tells : Bool) (old now : JobView) (r : Option 
     → StepReads inputs_tell (is_none r) old (with_parts old inputs selector output decided done)
     → IsStep inputs_tell output_tells now r (with_parts old inputs selector output decided done)
 step-of inputs_tell output_tells old now r inputs selector output decided done is keeps small moves ends exact reads =
-    let P : JobView → Type 0 = λ v. IsStep inputs_tell output_tells v r (with_parts old inputs selector output decided done) in
-    subst P is (record {
+    rw (← is) (record {
       exact = exact;
       reads = reads;
       progress = λ more. (moves more).less;
@@ -81,7 +81,7 @@ step-of inputs_tell output_tells old now r inputs selector output decided done i
 -- ---- an input is read on
 
 told : (old now : JobView) (r : Next) → old ≡ now → IsNext now.state.inputs r → IsNext old.state.inputs r
-told old now r is tells = (let N : JobView → Type 0 = λ v. IsNext v.state.inputs r in subst N (sym is) tells)
+told old now r is tells = (rw (← is) at tells)
 
 pub reads-move : (old now : JobView) (i : ℕ) (inputs : InputsView) (answer a : Result Bool Fault) → old ≡ now → IsSound old → IsNext now.state.inputs
     (Next.Read i) → answer ≡ a → ReadSteps old.state.inputs i answer inputs → Goes a → Moves old.state.inputs inputs
@@ -106,22 +106,12 @@ pub read-step : (inputs_tell output_tells : Bool) (old now : JobView) (i : ℕ) 
 read-step inputs_tell output_tells old now i inputs answer a r selector output done is sound comes found steps exact keeps programs goes ends kept follows =
     let m : JobState = old.state in
     let tells = told old now (Next.Read i) is comes in
-    let S : Result Bool Fault → Type 0 = λ x. ReadSteps m.inputs i x inputs in
-    let R : Result Bool Fault → Type 0 = λ x. ReadsInput m.inputs i x inputs in
-    let stepped : ReadSteps m.inputs i a inputs = subst S found steps in
-    let read : IsTrue inputs_tell → ReadsInput m.inputs i a inputs = λ ti. subst R found (exact ti) in
+    let stepped : ReadSteps m.inputs i a inputs = rw found at steps in
+    let read : IsTrue inputs_tell → ReadsInput m.inputs i a inputs = λ ti. rw found at (exact ti) in
     step-of inputs_tell output_tells old now r inputs selector output m.decided done is keeps (read_input-small m.inputs inputs i a stepped sound.1.0)
     (λ more. reads-move old now i inputs a a is sound comes refl stepped (goes more)) ends
     (λ ti to ss before d.
-    let K : Policy → Type 0 = λ k. StepLeaves d r (record {
-      names = m.names;
-      inputs = inputs;
-      policy = k;
-      state = selector.state;
-      output = output;
-      decided = m.decided;
-    }) in
-    subst K (sym keeps.policy) (read_input-leaves ss before m.inputs.cursors m.inputs.order m.policy m.state m.names m.output m.decided i a inputs r
+    rw keeps.policy (read_input-leaves ss before m.inputs.cursors m.inputs.order m.policy m.state m.names m.output m.decided i a inputs r
     (policy_state selector) output tells (read ti) d (follows to)))
     (reads_on i a (fault-ends r a goes) (record {
       next = next-is-of m.inputs (Next.Read i) tells;
@@ -182,19 +172,8 @@ leaves : (output_tells : Bool) (old now : JobView) (i : ℕ) (cursor : InputView
 leaves output_tells old now i cursor r selector output j to ss before d =
     let m : JobState = old.state in
     let most = j.sound.0 in
-    let K : Policy → Type 0 = λ k. AnswerLeaves d r (record {
-      names = m.names;
-      inputs = with_cursor m.inputs i (input_after_decided cursor);
-      policy =
-          k;
-      state = selector.state;
-      output = output;
-      decided = m.decided + 1;
-    })
-    (record { names = m.names; inputs = m.inputs; policy = k; state = selector.state; output = output; decided = m.decided }) in
-    subst K (sym j.keeps.policy)
-    (answer-leaves ss before m.inputs.cursors m.inputs.order m.policy m.state m.names m.output m.decided i r cursor (policy_state selector) output
-    (told old now (Next.Decide i) j.is j.comes) j.among j.keeps.policy j.passed j.counted (omega (arith, most)) (j.exact to) d)
+    rw j.keeps.policy (answer-leaves ss before m.inputs.cursors m.inputs.order m.policy m.state m.names m.output m.decided i r cursor
+    (policy_state selector) output (told old now (Next.Decide i) j.is j.comes) j.among j.keeps.policy j.passed j.counted (omega (arith, most)) (j.exact to) d)
 
 pub decided-step : (inputs_tell output_tells : Bool) (old now : JobView) (i : ℕ) (cursor : InputView) (inputs : InputsView) (verdict : code.Verdict)
     (selector : SelectorView) (output : Target) → Judged output_tells old now i cursor (Ok verdict) selector output → MarksDecided old.state.inputs i inputs
@@ -202,13 +181,12 @@ pub decided-step : (inputs_tell output_tells : Bool) (old now : JobView) (i : �
 decided-step inputs_tell output_tells old now i cursor inputs verdict selector output j marks =
     let m : JobState = old.state in
     let after : InputView → InputsView = λ v. with_cursor m.inputs i (input_after_decided v) in
-    let inputs_is : inputs ≡ after cursor = marks.is ∙ ap after (sym (among-same m.inputs.cursors i cursor marks.cursor j.among marks.among)) in
+    let inputs_is : inputs ≡ after cursor = marks.is ∙ ap after (sym (same-input m.inputs.cursors i cursor marks.cursor j.among marks.among)) in
     let moves = decides-move old now i inputs j.is j.sound j.comes marks in
     step-of inputs_tell output_tells old now (end_after verdict) inputs selector output (m.decided + 1) old.done j.is j.keeps moves.small
     (λ more. moves) (λ more. refl)
     (λ ti to ss before d.
-    let F : InputsView → Type 0 = λ f. StepLeaves d (end_after verdict) (state_at m.names f selector output (m.decided + 1)) in
-    subst F (sym inputs_is) (leaves output_tells old now i cursor (Ok verdict) selector output j to ss before d))
+    rw inputs_is (leaves output_tells old now i cursor (Ok verdict) selector output j to ss before d))
     (decides_one i (judges-one old i cursor inputs selector output (m.decided + 1) old.done (told old now (Next.Decide i) j.is j.comes) j.among
     j.spends) marks refl)
 

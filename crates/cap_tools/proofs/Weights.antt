@@ -1,9 +1,9 @@
 -- The memory that a job holds is bounded.
-use Rattle.cap_tools.proofs.Common.{◌≡◌, ℕ, ◌+◌, ◌*◌, ◌≤◌, List, [], ◌∷◌, ◌++◌, length, map, Bool, Result, sym, arith, subst, All, Fault, Declared, Nothing}
+use Rattle.cap_tools.proofs.Common.{◌≡◌, ℕ, ◌+◌, ◌*◌, ◌≤◌, List, [], ◌∷◌, ◌++◌, length, map, Bool, Result, arith, subst, All, Fault, Declared, Nothing}
 use Rattle.cap_tools.proofs.Common.{PcapFile, PcapngFile, most_in_unit, SourceView, Phase, Reading, Ended, Failed, SectionFits, Steps, Writing}
-use Rattle.cap_tools.proofs.Common.{HasFewOutputInterfaces, Target, Capture, Text, Lines, target_at, InputView, InputsView, IsInput, ReadSteps, MarksDecided}
-use Rattle.cap_tools.proofs.Common.{input_after, input_after_decided, HasFewMarks, FreshInput, fresh_view, JobState, IsBounded, IsLight, IsSmall}
-use Rattle.cap_tools.proofs.Common.{declared_weight, inputs_weight, names_weight, target_weight}
+use Rattle.cap_tools.proofs.Common.{HasFewOutputInterfaces, Target, Capture, Text, Lines, target_at, InputView, InputsView, IsInput, ReadSteps}
+use Rattle.cap_tools.proofs.Common.{MarksDecided, input_after, input_after_decided, HasFewMarks, FreshInput, fresh_view, JobState, IsBounded, IsLight}
+use Rattle.cap_tools.proofs.Common.{IsSmall, declared_weight, inputs_weight, names_weight, target_weight}
 use Rattle.std.proofs.lemmas.List.Elements.{All-nil, All-cons, All-head, All-tail, All-set}
 
 -- ---- one input for another
@@ -20,8 +20,7 @@ decided-small h small = record { held = small.held; block = small.block; section
 
 pub mark_decided-small : (inputs inputs' : InputsView) (i : ℕ) → MarksDecided inputs i inputs' → All IsSmall inputs.cursors → All IsSmall inputs'.cursors
 mark_decided-small inputs inputs' i s all =
-    let P : InputsView → Type 0 = λ f. All IsSmall f.cursors in
-    subst P (sym s.is) (All-set IsSmall inputs.cursors i (input_after_decided s.cursor)
+    rw s.is (All-set IsSmall inputs.cursors i (input_after_decided s.cursor)
     (decided-small s.cursor (small-at inputs.cursors i s.cursor s.among all)) all)
 
 steps-small : (old new : SourceView) (r : Result Bool Fault) → Steps old.phase old r new → length old.block ≤ old.room → old.room ≤ most_in_unit
@@ -39,10 +38,9 @@ steps-small old new r steps held small = by_phase old.phase steps
 pub read_input-small : (inputs inputs' : InputsView) (i : ℕ) (r : Result Bool Fault) → ReadSteps inputs i r inputs' → All IsSmall inputs.cursors
     → All IsSmall inputs'.cursors
 read_input-small inputs inputs' i r f all =
-    let P : InputsView → Type 0 = λ v. All IsSmall v.cursors in
     let was = small-at inputs.cursors i f.cursor f.among all in
     let small = steps-small f.cursor.source f.source r f.steps was.held was.block in
-    subst P (sym f.is) (All-set IsSmall inputs.cursors i (input_after f.cursor r f.source)
+    rw f.is (All-set IsSmall inputs.cursors i (input_after f.cursor r f.source)
     (record { held = small.0; block = small.1; section = f.upper_bound }) all)
 
 -- ---- at first

@@ -1,10 +1,10 @@
-//! One job type runs every command, step by step; and the program over files and standard streams.
+//! The job of a command, and the program that runs it over files and standard streams.
 //!
-//! [`Job`] reads the inputs of a command, decides their packets and writes its output, one step per
-//! call of `step`; a [`Turn`] shows whether it goes on. [`run`] makes all steps and returns the
-//! status: `cap_cases` and `cap_tests` call both. [`run_program`], which `capkit_main` calls, runs
-//! the command that the program's words ask for: [`run_command`] opens what its names mean
-//! (`capkit::opening`), calls `run`, and reports how it ended. `cap_tests` tests it on files.
+//! A [`Job`] reads the inputs, decides their packets and writes the output, one step per call of
+//! `step`; a [`Turn`] shows whether it goes on. [`run`] makes all steps and returns the status.
+//! [`run_program`], which `capkit_main` calls, runs the command that the program's words ask for:
+//! [`run_command`] opens what its names mean (`capkit::opening`), calls `run`, and reports how it
+//! ended. Tests also call `step`, `run`, `run_line` and `run_command`.
 #![tactic(auto)]
 
 mod job;

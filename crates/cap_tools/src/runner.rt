@@ -77,9 +77,8 @@ pub fn run_command<'a>(
 /// Runs the command of the line over the files and streams that its names mean, and returns its
 /// status, 0, 1 or 2.
 ///
-/// The listing is read, if one is named, then the inputs are opened in order, then the output is
-/// created, then the command runs. The first step before the command's that can't be done is
-/// reported; then the command doesn't run, and the status is 1.
+/// It reads the listing, if one is named, opens the inputs in order, and creates the output. The
+/// first of these that fails is reported, and the status is 1; else the command runs.
 pub fn run_line(rt: &HostRuntime, line: Line) -> u8
     requires { is_ready line ≡ true }
     ensures { result ≤ 2 }

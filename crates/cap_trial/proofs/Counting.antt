@@ -1,9 +1,19 @@
 -- `admits` at a call: what it is handed, and what its caller has of it. Assumes `Logic`.
-use Rattle.cap_trial.proofs.Common.{◌≡◌, ℕ, Bool, List, [], ◌∷◌, refl, ap, Ura, Val, vbool, vptr, SProp, ent, sep, ex, guard, id⊢, Lft, Share, ftrue, fsep}
-use Rattle.cap_trial.proofs.Common.{flft, Memory, Routine, Logic, sem, Fun, hidden_shr, bool, nothing, only, Contract}
+use Rattle.std.proofs.Common.{◌≡◌, ℕ, Bool, List, [], ◌∷◌, refl, ap}
+use seplogic.Ra.Ura.{Ura}
+use mir.Val.{Val, vbool, vptr}
+use base.Logic.{SProp, ent, sep, ex, guard, id⊢}
+use base.Fml.{Lft, Share, ftrue, fsep, flft}
+use prog.Memory.{Memory}
+use prog.Routine.{Routine}
+use types.Logic.{Logic, sem}
+use contract.Monad.{Fun}
+use denote.Memory.{hidden_shr}
+use denote.Builtin.{bool}
+use denote.Steps.{nothing, only}
+use denote.Triple.{Statement.Contract, Spec.triple_of}
 use types.Kit.{raw, ‵, ◌⊛◌, some, later, ◌$◌, ◌∵◌, !, qed, move, keep, use1, split, join, pick, fjoin, feq_i, feq_l, check, show, await, updating}
 use types.Kit.{now as at_once, done}
-use denote.Triple.Spec.{triple_of}
 use Rattle.cap_trial.specs.declared.allocator.Plan.{Plan}
 use Rattle.cap_trial.specs.contracts.allocator.Plan as P
 use Rattle.cap_trial.specs.contracts.allocator.admits as F

@@ -147,7 +147,8 @@ static EDIT: CommandRow = CommandRow {
     ],
 };
 
-/// The row of `edit`. Only this function names it: its texts stand at each step of such a proof.
+/// The row of `edit`.
+// No other function names `EDIT`: each step of the proof would repeat its texts.
 pub fn edit_row() -> &'static CommandRow
     ensures { (choices : Choices) → shape_by choices result.now
         ≡ edit_shape (Names choices.formats) }

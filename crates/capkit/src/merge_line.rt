@@ -50,7 +50,8 @@ static MERGE: CommandRow = CommandRow {
     ],
 };
 
-/// The row of `merge`. Only this function names it: its texts stand at each step of such a proof.
+/// The row of `merge`.
+// No other function names `MERGE`: each step of the proof would repeat its texts.
 pub fn merge_row() -> &'static CommandRow
     ensures { (choices : Choices) → shape_by choices result.now
         ≡ merge_shape (Names choices.formats) }
@@ -65,7 +66,8 @@ static INFOS: CommandRow = CommandRow {
     arguments: &[FILE, MORE],
 };
 
-/// The row of `infos`. Only this function names it: its texts stand at each step of such a proof.
+/// The row of `infos`.
+// No other function names `INFOS`: each step of the proof would repeat its texts.
 pub fn infos_row() -> &'static CommandRow
     ensures { (choices : Choices) → shape_by choices result.now ≡ infos_shape }
 {

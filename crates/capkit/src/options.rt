@@ -47,7 +47,7 @@ pub enum Value {
 /// An argument of a subcommand.
 #[derive(Clone, Copy)]
 pub struct Argument {
-    /// The key of its value in clap's matches (`ids.rt`).
+    /// The key of its value in clap's matches.
     pub id: &'static str,
     /// How it is named on the command line.
     pub name: Name,

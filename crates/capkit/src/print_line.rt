@@ -91,7 +91,8 @@ static PRINT: CommandRow = CommandRow {
     ],
 };
 
-/// The row of `print`. Only this function names it: its texts stand at each step of such a proof.
+/// The row of `print`.
+// No other function names `PRINT`: each step of the proof would repeat its texts.
 pub fn print_row() -> &'static CommandRow
     ensures { (choices : Choices) → shape_by choices result.now
         ≡ print_shape (Names choices.formats) }
@@ -114,7 +115,8 @@ static COMPILE: CommandRow = CommandRow {
     ],
 };
 
-/// The row of `compile`. Only this function names it: its texts stand at each step of such a proof.
+/// The row of `compile`.
+// No other function names `COMPILE`: each step of the proof would repeat its texts.
 pub fn compile_row() -> &'static CommandRow
     ensures { (choices : Choices) → shape_by choices result.now
         ≡ compile_shape (Names choices.links) }

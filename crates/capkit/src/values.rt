@@ -1,5 +1,4 @@
-//! The values that clap's matches have of an argument, by its id (`ids`): its
-//! flag, its texts, or what its text names.
+//! The value of an argument in clap's matches, by its id: a flag, texts, or what a text names.
 ghost use Rattle.std.specs.Prelude.{◌≡◌, ◌≤◌, ◌&&◌, IfSome, Some, None, is_some, map, nat_le};
 ghost use Rattle.std.specs.Prelude.{option_map, true, if◌then◌else◌};
 ghost use Rattle.std.specs.Option.{option_and_then, option_map_or};

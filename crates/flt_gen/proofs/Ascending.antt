@@ -1,6 +1,6 @@
 -- Intervals that ascend.
 use Rattle.flt_gen.proofs.Common.{◌≡◌, ℕ, zero, suc, ◌+◌, ◌-◌, ◌^◌, ◌<◌, ◌≤◌, List, [], ◌∷◌, length, take, drop, get_or, Bool, true, false, Option, Some, None}
-use Rattle.flt_gen.proofs.Common.{refl, sym, ap, ap₂, ◌∙◌, subst, arith, nat_lt, nat_le, ◌==◌, ◌&&◌, ◌||◌, max, if◌then◌else◌, nat_tests, and_parts, or_assoc}
+use Rattle.flt_gen.proofs.Common.{refl, sym, ap, ap₂, ◌∙◌, arith, nat_lt, nat_le, ◌==◌, ◌&&◌, ◌||◌, max, if◌then◌else◌, nat_tests, and_parts, or_assoc}
 use Rattle.flt_gen.proofs.Common.{Interval, Sides, Offset, Fixed, AfterHeader, field_at, under_mask, low_of, Link, index_of}
 use Rattle.flt_gen.proofs.Common.{Numbers, no_interval, first_ends, insert_ascending, is_gap, extended, joined_from}
 use Rattle.flt_gen.proofs.Common.{joined_all, same_interval, without}
@@ -25,8 +25,7 @@ Each None P = Unit {0}
 Each (Some a) P = P a
 
 pub each_is : {A : Type 0} (o : Option A) (P : A → Type 0) (a : A) → Each o P → o ≡ Some a → P a
-each_is None P a h e = cc
-each_is (Some b) P a h e = (let same : b ≡ a = cc in subst P same h)
+each_is o P a h e = grind arith
 
 -- after lower intervals one is put before the first that isn't lower
 pub inserted_at : (i : Interval) (is : List Interval) (at : ℕ) → at ≤ length is → ((k : ℕ) → k < at → (get_or is k no_interval).low < i.low)
@@ -89,16 +88,11 @@ apart_drop a (suc h) (i ∷ is) l = let m = l.0 in let n = l.1 in apart_less a (
 -- intervals without one
 pub apart_without : (a : ℕ) (i : Interval) (is : List Interval) → Apart a is → Apart a (without i is)
 apart_without a i [] h = tt
-apart_without a i (j ∷ js) h =
-    if_case (Apart a) (same_interval i j) (without i js) (j ∷ without i js)
-    (λ e. let k = h.0 in let l = h.1 in apart_without a i js (apart_less a (j.high + 1) js (omega arith) h.2))
-    (λ e. (h.0, h.1, apart_without (j.high + 1) i js h.2))
+apart_without a i (j ∷ js) h = grind (arith, nat_tests, apart_less a (j.high + 1) js, apart_without a i js, apart_without (j.high + 1) i js)
 
 pub length_without : (i : Interval) (is : List Interval) → length (without i is) ≤ length is
 length_without i [] = omega arith
-length_without i (j ∷ js) =
-    let h = length_without i js in
-    if_case (λ xs. length xs ≤ length (j ∷ js)) (same_interval i j) (without i js) (j ∷ without i js) (λ e. omega arith) (λ e. omega arith)
+length_without i (j ∷ js) = grind (arith, length_without i js)
 
 pub within_without : (x : ℕ) (i : Interval) (is : List Interval) → is_in x i ≡ false → is_within x (without i is) ≡ is_within x is
 within_without x i [] out = refl
@@ -114,11 +108,7 @@ within_without x i (j ∷ js) out =
 -- which half a number can be in
 pub none_below : (x a : ℕ) (is : List Interval) → x < a → Apart a is → is_within x is ≡ false
 none_below x a [] l h = refl
-none_below x a (i ∷ is) l h =
-    let k = h.0 in
-    let m = h.1 in
-    let out : is_in x i ≡ false = grind (arith, nat_tests) in
-    ap (λ b. b || is_within x is) out ∙ none_below x (i.high + 1) is (omega arith) h.2
+none_below x a (i ∷ is) l h = grind (arith, nat_tests, none_below x (i.high + 1) is)
 
 pub lower_half : (x a h : ℕ) (is : List Interval) → Apart a is → h < length is → x < low_of (drop h is) → is_within x is ≡ is_within x (take h is)
 lower_half x a h [] up l m = absurd (omega arith)
@@ -139,9 +129,7 @@ upper_half x a (suc h) (i ∷ is) up l m =
     ap (λ b. b || is_within x is) out ∙ upper_half x (i.high + 1) h is up.2 (omega arith) m
 
 pub first_taken : (h : ℕ) (is : List Interval) → 0 < h → low_of (take h is) ≡ low_of is
-first_taken zero is l = absurd (omega arith)
-first_taken (suc h) [] l = refl
-first_taken (suc h) (i ∷ is) l = refl
+first_taken h is l = grind arith
 
 -- intervals that ascend by where they begin, from a number on
 abbrev pub Ordered : ℕ → List Interval → Type 0
@@ -150,26 +138,18 @@ Ordered a (i ∷ is) = (a ≤ i.low) × (i.low ≤ i.high) × Ordered i.low is
 
 pub ordered_inserted : (a : ℕ) (i : Interval) (is : List Interval) → a ≤ i.low → i.low ≤ i.high → Ordered a is → Ordered a (insert_ascending i is)
 ordered_inserted a i [] l m h = (l, m, tt)
-ordered_inserted a i (j ∷ js) l m h =
-    if_case (Ordered a) (nat_lt j.low i.low) (j ∷ insert_ascending i js) (i ∷ j ∷ js)
-    (λ e. let k : j.low < i.low = grind (arith, nat_tests) in (h.0, h.1, ordered_inserted j.low i js (omega arith) m h.2))
-    (λ e. let k : i.low ≤ j.low = grind (arith, nat_tests) in (l, m, (k, h.1, h.2)))
+ordered_inserted a i (j ∷ js) l m h = grind (arith, nat_tests, ordered_inserted j.low i js)
 
 pub length_inserted : (i : Interval) (is : List Interval) → length (insert_ascending i is) ≡ length is + 1
 length_inserted i [] = refl
-length_inserted i (j ∷ js) =
-    if_case (λ xs. length xs ≡ length (j ∷ js) + 1) (nat_lt j.low i.low) (j ∷ insert_ascending i js) (i ∷ j ∷ js)
-    (λ e. let h = length_inserted i js in omega arith) (λ e. omega arith)
+length_inserted i (j ∷ js) = grind (arith, length_inserted i js)
 
 or_swap : (a b c : Bool) → (b || (a || c)) ≡ (a || (b || c))
 or_swap a b c = grind (arith, nat_tests)
 
 pub within_inserted : (x : ℕ) (i : Interval) (is : List Interval) → is_within x (insert_ascending i is) ≡ (is_in x i || is_within x is)
 within_inserted x i [] = refl
-within_inserted x i (j ∷ js) =
-    if_case (λ xs. is_within x xs ≡ (is_in x i || (is_in x j || is_within x js))) (nat_lt j.low i.low) (j ∷ insert_ascending i js) (i ∷ j ∷ js)
-    (λ e. ap (λ b. is_in x j || b) (within_inserted x i js) ∙ or_swap (is_in x i) (is_in x j) (is_within x js))
-    (λ e. refl)
+within_inserted x i (j ∷ js) = grind (arith, nat_tests, within_inserted x i js)
 
 -- single numbers
 abbrev pub Points : List Interval → Type 0
@@ -178,8 +158,7 @@ Points (i ∷ is) = (i.low ≡ i.high) × Points is
 
 pub points_inserted : (i : Interval) (is : List Interval) → i.low ≡ i.high → Points is → Points (insert_ascending i is)
 points_inserted i [] e h = (e, tt)
-points_inserted i (j ∷ js) e h =
-    if_case Points (nat_lt j.low i.low) (j ∷ insert_ascending i js) (i ∷ j ∷ js) (λ t. (h.0, points_inserted i js e h.1)) (λ f. (e, h))
+points_inserted i (j ∷ js) e h = grind (arith, points_inserted i js)
 
 -- those that touch, joined
 joined_in : (x : ℕ) (i j : Interval) → i.low ≤ i.high → i.low ≤ j.low → j.low ≤ j.high → j.low ≤ i.high + 1 → is_in x (extended i j) ≡ (is_in x i || is_in x j)
@@ -191,10 +170,7 @@ ordered_less a b (i ∷ is) l h = (let k = h.0 in omega arith, h.1, h.2)
 
 apart_from : (a : ℕ) (i : Interval) (js : List Interval) → a ≤ i.low → i.low ≤ i.high → Ordered i.low js → Apart a (joined_from i js)
 apart_from a i [] l m h = (l, m, tt)
-apart_from a i (j ∷ js) l m h =
-    if_case (Apart a) (is_gap i j) (i ∷ joined_from j js) (joined_from (extended i j) js)
-    (λ e. let gap : 1 < j.low - i.high = grind (arith, nat_tests) in (l, m, apart_from (i.high + 1) j js (omega arith) h.1 h.2))
-    (λ e. apart_from a (extended i j) js l (omega arith) (ordered_less i.low j.low js h.0 h.2))
+apart_from a i (j ∷ js) l m h = grind (arith, nat_tests, apart_from (i.high + 1) j js, apart_from a (extended i j) js, ordered_less i.low j.low js)
 
 within_from : (x : ℕ) (i : Interval) (js : List Interval) → i.low ≤ i.high → Ordered i.low js → is_within x (joined_from i js) ≡ (is_in x i || is_within x js)
 within_from x i [] m h = refl
@@ -208,24 +184,17 @@ within_from x i (j ∷ js) m h =
 
 length_from : (i : Interval) (js : List Interval) → (1 ≤ length (joined_from i js)) × (length (joined_from i js) ≤ length js + 1)
 length_from i [] = (omega arith, omega arith)
-length_from i (j ∷ js) =
-    if_case (λ is. (1 ≤ length is) × (length is ≤ length (j ∷ js) + 1)) (is_gap i j) (i ∷ joined_from j js) (joined_from (extended i j) js)
-    (λ e. let h = (length_from j js).1 in (omega arith, omega arith))
-    (λ e. let h = length_from (extended i j) js in let k = h.1 in (h.0, omega arith))
+length_from i (j ∷ js) = grind (arith, length_from j js, length_from (extended i j) js)
 
 pub ends_few : (is : List Interval) → first_ends is ≤ 1
-ends_few [] = omega arith
-ends_few (i ∷ is) = if_case (λ n. n ≤ 1) (i.low == i.high) 0 1 (λ e. omega arith) (λ e. omega arith)
+ends_few is = grind arith
 
 pub one_point : (i : Interval) → i.low ≡ i.high → first_ends (i ∷ []) ≡ 0
-one_point i e = let same : (i.low == i.high) ≡ true = grind (arith, nat_tests) in ap (λ b. if b then 0 else 1) same
+one_point i e = grind (arith, nat_tests)
 
 tests_from : (i : Interval) (js : List Interval) → length (joined_from i js) + first_ends (joined_from i js) ≤ length js + 1 + first_ends (i ∷ [])
 tests_from i [] = omega arith
-tests_from i (j ∷ js) =
-    if_case (λ is. length is + first_ends is ≤ length (j ∷ js) + 1 + first_ends (i ∷ [])) (is_gap i j) (i ∷ joined_from j js) (joined_from (extended i j) js)
-    (λ e. let h = (length_from j js).1 in omega arith)
-    (λ e. let h = tests_from (extended i j) js in let k = ends_few (extended i j ∷ []) in omega arith)
+tests_from i (j ∷ js) = grind (arith, length_from j js, tests_from (extended i j) js, ends_few (extended i j ∷ []))
 
 pub searchable_joined : (is : List Interval) → 1 ≤ length is → Ordered 0 is → Searchable (joined_all is)
 searchable_joined [] l h = absurd (omega arith)

@@ -1,10 +1,10 @@
 -- The counts of the table's formulas are at most those of the tree.
 use Rattle.flt_gen.proofs.Ascending.{if_case}
-use Rattle.flt_gen.proofs.Common.{◌≡◌, ℕ, ◌+◌, ◌-◌, ◌*◌, ◌≤◌, max, min, List, [], ◌∷◌, length, Option, Some, None, refl, arith, Protocol, Source, Destination}
+use Rattle.flt_gen.proofs.Common.{◌≡◌, ℕ, ◌+◌, ◌-◌, ◌*◌, ◌≤◌, max, min, List, [], ◌∷◌, length, Option, Some, None, arith, Protocol, Source, Destination}
 use Rattle.flt_gen.proofs.Common.{And}
 use Rattle.flt_gen.proofs.Common.{Or, ValueType, Host, Net, Port, PortRange, Proto, Direction, Value, Link, FrameKind, Elementary, Sides}
 use Rattle.flt_gen.proofs.Common.{ip_transport, ip6_transport, Formula, Single, Both, Either, Split, all_of, sides, after, Field, Outcome}
-use Rattle.flt_gen.proofs.Common.{FieldTest, Offset, Fixed, loads, test_loads, field_loads, place_loads, mask_loads, is_loaded, nothing}
+use Rattle.flt_gen.proofs.Common.{FieldTest, Offset, loads, test_loads, field_loads, place_loads, mask_loads, is_loaded, nothing}
 use Rattle.flt_gen.proofs.Common.{in_net, is_port, in_range, port_places}
 use Rattle.flt_gen.proofs.Common.{any_proto, mac_tests, check_formula, cast_formula, proto_formula, hosts_of_kind, hosts_formula, ip6_formula}
 use Rattle.flt_gen.proofs.Common.{ether_host, port_formula, transport, value_formula, tests, nodes, words}
@@ -24,54 +24,35 @@ abbrev pub Bare : Formula → ℕ → Type 0
 Bare f n = Sized f 0 0 n
 
 pub bare_within : {f : Formula} {s w m : ℕ} (n : ℕ) → m ≤ n → Sized f s w m → Sized f s w n
-bare_within n l h = record {
-  nodes_fit = h.nodes_fit;
-  words_fit = h.words_fit;
-  short_fit = omega (arith, h.short_fit);
-  light_fit = omega (arith, h.light_fit);
-}
+bare_within n l h = omega arith
 
 -- a field is loaded by two instructions at most, and masked by one
 pub place_few : (o : Offset) → place_loads o ≤ 2
-place_few (Fixed k) = omega arith
-place_few _ = omega arith
+place_few o = grind arith
 
 pub mask_few : (o : Option ℕ) → mask_loads o ≤ 1
-mask_few None = omega arith
-mask_few (Some m) = omega arith
+mask_few o = grind arith
 
 field_few : (t : FieldTest) → field_loads t ≤ 3
 field_few t = let a = place_few t.offset in let b = mask_few t.mask in omega arith
 
 pub bare_one : (t : Elementary) → Bare (Single t) 1
-bare_one (Outcome b) = record { nodes_fit = omega arith; words_fit = omega arith; short_fit = omega arith; light_fit = omega arith }
-bare_one (Field t) =
-    let l = field_few t in record { nodes_fit = omega arith; words_fit = omega arith; short_fit = omega arith; light_fit = omega arith }
+bare_one (Outcome b) = omega arith
+bare_one (Field t) = let l = field_few t in omega arith
 
 -- a test of which there may be more
 pub bare_some : {t : Elementary} (n : ℕ) → 1 ≤ n → Bare (Single t) n
 bare_some {t = t} n l = bare_within n l (bare_one t)
 
 pub bare_both : {a b : Formula} {s w m r v n : ℕ} → Sized a s w m → Sized b r v n → Sized (Both a b) (s + r) (max w v) (m + n)
-bare_both h k = record {
-  nodes_fit = omega (arith, h.nodes_fit, k.nodes_fit);
-  words_fit = omega (arith, h.words_fit, k.words_fit);
-  short_fit = omega (arith, h.short_fit, k.short_fit);
-  light_fit = omega (arith, h.light_fit, k.light_fit);
-}
+bare_both h k = omega arith
 
 pub bare_either : {a b : Formula} {s w m r v n : ℕ} → Sized a s w m → Sized b r v n → Sized (Either a b) (s + r) (max w v) (m + n)
-bare_either h k =
-    let b = bare_both h k in record { nodes_fit = b.nodes_fit; words_fit = b.words_fit; short_fit = b.short_fit; light_fit = b.light_fit }
+bare_either h k = omega arith
 
 -- with fewer nodes and words in bounds
 pub sized_as : {f : Formula} {s w n : ℕ} (r v m : ℕ) → s ≤ r → w ≤ v → n ≤ m → Sized f s w n → Sized f r v m
-sized_as r v m a b c h = record {
-  nodes_fit = omega (arith, h.nodes_fit);
-  words_fit = omega (arith, h.words_fit);
-  short_fit = omega (arith, h.short_fit);
-  light_fit = omega (arith, h.light_fit);
-}
+sized_as r v m a b c h = omega arith
 
 -- one without comparisons after another
 pub bare_else : {a b : Formula} {s w m n : ℕ} → Sized a s w m → Bare b n → Sized (Either a b) s w (m + n)
@@ -87,16 +68,7 @@ less_loads held (Split t a b) = let l = test held t in omega arith
 less_loads held _ = omega arith
 
 pub bare_split : {t : Elementary} {a b : Formula} {m n : ℕ} → Bare a m → Bare b n → Bare (Split t a b) (1 + (m + n))
-bare_split {t = t} {a = a} {b = b} h k =
-    let one = bare_one t in
-    let l = less_loads t a in
-    let r = less_loads t b in
-    record {
-      nodes_fit = omega (arith, h.nodes_fit, k.nodes_fit);
-      words_fit = omega (arith, h.words_fit, k.words_fit);
-      short_fit = omega (arith, one.short_fit, h.short_fit, k.short_fit);
-      light_fit = omega (arith, one.light_fit, h.light_fit, k.light_fit);
-    }
+bare_split {t = t} {a = a} {b = b} h k = omega (arith, bare_one t, less_loads t a, less_loads t b)
 
 pub bare_after : {t : Elementary} {a : Formula} {s w n : ℕ} → Sized a s w n → Sized (after t a) s w (1 + n)
 bare_after {t = t} h = sized_as _ _ _ (omega arith) (omega arith) (omega arith) (bare_both (bare_one t) h)
@@ -159,8 +131,7 @@ bare_hosts link (Some Protocol.Rarp) asked n some each = each FrameKind.Rarp
 bare_hosts link (Some _) asked n some each = bare_some _ some
 
 ip4_are : (p : Option Protocol) (d : Direction) → of_kinds p (1 + count.side_tests d 1) ≡ count.ip4_tests p d
-ip4_are None d = refl
-ip4_are (Some p) d = refl
+ip4_are p d = grind arith
 
 bare_net : (link : Link) (p : Option Protocol) (d : Direction) (mask : Option ℕ) (a : ℕ) → Bare (hosts_formula link p (in_net d mask a)) (count.ip4_tests p d)
 bare_net link p d mask a =

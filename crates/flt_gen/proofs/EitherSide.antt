@@ -3,7 +3,7 @@
 use Rattle.flt_gen.proofs.Ascending.{if_case}
 use Rattle.flt_gen.proofs.Common.{◌≡◌, ℕ, suc, ◌+◌, ◌-◌, ◌*◌, ◌/◌, ◌%◌, ◌^◌, ◌<◌, ◌≤◌, List, [], ◌∷◌, length, max, min, Bool, true, false, Option, Some, None}
 use Rattle.flt_gen.proofs.Common.{refl, sym, ap, ap₂, ◌∙◌, subst, arith, ◌==◌, ◌&&◌, nat_le, nat_tests, and_parts, Direction, Link, Source, Destination}
-use Rattle.flt_gen.proofs.Common.{And, Or, Word, Width, Offset, Elementary, Field, MatchResult, Yes, No, Rejected, reading_of, with}
+use Rattle.flt_gen.proofs.Common.{And, Or, Word, Width, Offset, Elementary, Field, MatchResult, No, reading_of, with}
 use Rattle.flt_gen.proofs.Common.{network_offset, Formula, Outcome, both, either, all_of, reads, needed_tests, drop, if◌then◌else◌}
 use Rattle.flt_gen.proofs.Common.{zero, is_at, compares, under_mask, field_at, elementary_reads, slice_get}
 use Rattle.flt_gen.proofs.Counted.{Bare, bare_within, bare_all, bare_one, bare_some, bare_both, bare_either}
@@ -17,7 +17,6 @@ use Rattle.std.proofs.{Math.Nat.div-div-eq-div-mul, lemmas.List.length-map}
 use Rattle.flt_words.specs.declared.token.Side.{Side}
 use Rattle.flt_ast.specs.declared.qualifiers.Direction.TheVariants as direction
 use Rattle.flt_gen.specs.declared.{cases.Bound.TheVariants.Exactly, cases.Case.Case, cases.Case.TheVariants.Mac, cases.Case.TheVariants.Ip6}
-use Rattle.flt_gen.specs.declared.{cases.Case.TheVariants.IpProto, cases.Case.TheVariants.Ip6Proto}
 use Rattle.flt_gen.specs.inside.Group.{fewest_either}
 use Rattle.flt_gen.specs.inside.Cases.{same_words, case_tests, ip6_place, mac_place, word_test, test_at, lowest, keeps, is_whole, all_keep, same_word}
 use Rattle.flt_gen.specs.inside.Cases.{decision, few_of, MOST_DECISIONS, is_address, are_either, on_side, all_on_side, either_formula}
@@ -30,10 +29,7 @@ seen_by None f g (false, e) = cc
 seen_by (Some x) f g k = (g x, refl)
 
 seen_after : (r a b : MatchResult) → (Known a → Known b) → Known (both r a) → Known (both r b)
-seen_after Yes a b h k = h k
-seen_after No a b h k = (false, refl)
-seen_after Rejected a b h (true, e) = cc
-seen_after Rejected a b h (false, e) = cc
+seen_after r a b h k = grind arith
 
 -- the same tests, but the last ones are of the same field
 abbrev Alike_last : Elementary → Elementary → Type 0
@@ -127,8 +123,7 @@ one_size true link d c = length (side link Source c) + length (side link Destina
 one_size false link d c = length (case_tests link d c)
 
 pub none_size : (b : Bool) (link : Link) (d : Direction) → list_size b link d [] ≡ 0
-none_size true link d = refl
-none_size false link d = refl
+none_size b link d = grind arith
 
 pub size_put : (b : Bool) (link : Link) (d : Direction) (c : Case) (i : ℕ) (cs : List Case) → list_size b link d (insert cs i c)
     ≡ one_size b link d c + list_size b link d cs
@@ -158,18 +153,12 @@ list_more true link (direction.Both And) kind first c i cs p n are e f h = (let 
 list_more true link (direction.One s) kind first c i cs p n are e f h = (let none = (and_parts (is_address kind) false are).1 in cc)
 
 pub like_either : (d : Direction) (a b : Case) → same_words d a b ≡ true → are_either d b ≡ are_either d a
-like_either d (Mac a) (Mac b) e = refl
-like_either d (Ip6 m a) (Ip6 n b) e = refl
-like_either d (IpProto a) (IpProto b) e = refl
-like_either d (Ip6Proto a) (Ip6Proto b) e = refl
-like_either d (Case.Relation a) (Case.Relation b) e = refl
-like_either d _ _ e = cc
+like_either d a b e = grind arith
 
 -- ---- the tree of a side
 
 kept_lowest : (o : Option Elementary) (v : ℕ) → keeps (Exactly v) o ≡ true → lowest o ≡ v
-kept_lowest (Some (Field t)) v e = let h = (and_parts (is_whole t.mask) (t.value == v) e).1 in grind (arith, nat_tests)
-kept_lowest _ v e = cc
+kept_lowest o v e = grind (arith, nat_tests)
 
 kept_by : (by : Case → List Elementary) (w v : ℕ) (k : Case) (cs : List Case)
     → ((c : Case) → same_words either_side k c ≡ true → keeps (Exactly v) (word_test by w c) ≡ true) → Likes either_side k cs
@@ -244,10 +233,7 @@ module _ (link : Link) (s : Side) (few : ℕ) (k : Case) (cs : List Case) (i : a
             ∙ whole_kept (by k) w a.2 (omega arith)) h many more.0),
         omega (arith, more.1, ap sizes next, sizes_rest f fs (rows by w cs) g),
       )
-  tree zero w j [] g long at l = absurd (omega arith)
-  tree zero w j (f ∷ x ∷ fs) g long at l = absurd (omega arith)
-  tree (suc m) w j [] g long at l = absurd (omega arith)
-  tree (suc m) w zero (f ∷ fs) g long at l = absurd (omega arith)
+  tree _ w _ _ g long at l = absurd (omega arith)
 
 -- ---- both trees
 

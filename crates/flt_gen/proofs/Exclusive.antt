@@ -4,24 +4,19 @@ use Rattle.flt_gen.proofs.Common.{Elementary, Yes, No, reading_of, with, under_m
 
 -- readings after readings
 pub both_either : (i a b : MatchResult) → both i (either a b) ≡ either (both i a) (both i b)
-both_either Yes a b = refl
-both_either _ a b = refl
+both_either i a b = grind arith
 
 pub or_no : (r : MatchResult) → either r No ≡ r
-or_no Yes = refl
-or_no _ = refl
+or_no r = grind arith
 
 pub either_assoc : (a b c : MatchResult) → either (either a b) c ≡ either a (either b c)
-either_assoc Yes b c = refl
-either_assoc _ b c = refl
+either_assoc a b c = grind arith
 
 pub and_yes : (r : MatchResult) → both r Yes ≡ r
-and_yes Yes = refl
-and_yes _ = refl
+and_yes r = grind arith
 
 pub is_yes : (b : Bool) → reading_of (Some b) ≡ Yes → b ≡ true
-is_yes true e = refl
-is_yes false e = cc
+is_yes b e = grind arith
 
 -- a field that is one number is no other
 other_value : (o : Option ℕ) (mask : Option ℕ) (a b : ℕ) → (a == b) ≡ false → reading_of (with o (λ v. Some (under_mask mask v == a))) ≡ Yes

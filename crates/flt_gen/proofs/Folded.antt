@@ -3,7 +3,7 @@ use Rattle.flt_gen.proofs.Common.{◌≡◌, ℕ, ◌+◌, ◌%◌, ◌^◌, ◌
 use Rattle.flt_gen.proofs.Common.{Protocol, field, Node, NumberTree, literal, load, negated, applied, TruthTree, compared, denied, joined, Expression, empty}
 use Rattle.flt_gen.proofs.Common.{truth, number_size, number_words, number_tests, truth_size, truth_words, truth_tests, bound_of, words_of, number_nodes}
 use Rattle.flt_gen.proofs.Common.{truth_nodes, expr_nodes, number_onto, truth_onto, expr_onto, is_unfilled, any_primitive, some_primitive, Link, MatchResult}
-use Rattle.flt_gen.proofs.Common.{Yes, with, reading_of, compares, width_of, base, number, result_of, accessors, Compare, both, either, negation, reads}
+use Rattle.flt_gen.proofs.Common.{with, reading_of, compares, width_of, base, number, result_of, accessors, Compare, both, either, negation, reads}
 use Rattle.flt_gen.proofs.Common.{checked_formula, constant, formula, holds, short_bound_of, negated_constant, applied_constant, number_or, negated_number}
 use Rattle.flt_gen.proofs.Common.{applied_number, folded_number, and_denied, joined_truth, folded_truth, folded_expression, node_or, with_negation}
 use Rattle.flt_gen.proofs.Common.{with_operator, Held, with_held, with_folded}
@@ -12,25 +12,20 @@ use Rattle.flt_words.specs.declared.token.Join.{Join}
 
 -- by what is folded
 by_fold : (P : NumberTree → Type 0) (o : Option ℕ) (a : NumberTree) → ((k : ℕ) → o ≡ Some k → P (literal k)) → P a → P (number_or o a)
-by_fold P None a one whole = whole
-by_fold P (Some k) a one whole = one k refl
+by_fold P o a one whole = grind arith
 
 negated_some : (u : Option ℕ) (k : ℕ) → negated_constant u ≡ Some k → (x : ℕ) × (u ≡ Some x)
-negated_some None k e = cc
-negated_some (Some x) k e = (x, refl)
+negated_some u k e = grind arith
 
 applied_some : (o : Operator) (v u : Option ℕ) (k : ℕ) → applied_constant o u v ≡ Some k → (x : ℕ) × (y : ℕ) × (u ≡ Some x) × (v ≡ Some y)
-applied_some o (Some y) (Some x) k e = (x, y, refl, refl)
-applied_some o _ _ k e = cc
+applied_some o v u k e = grind arith
 
 -- a number alone has no accessors
 constant_alone : (a : NumberTree) (k : ℕ) (rest : List Protocol) → constant a ≡ Some k → accessors a rest ≡ rest
-constant_alone (literal j) k rest e = refl
-constant_alone _ k rest e = cc
+constant_alone a k rest e = grind arith
 
 denied_both : (r q : MatchResult) → negation (either r q) ≡ both (negation r) (negation q)
-denied_both Yes q = refl
-denied_both _ q = refl
+denied_both r q = grind arith
 
 module _ (p : List ℕ) (n : ℕ) (link : Link) where
   negated_is : (a : NumberTree) (u : Option ℕ) → constant a ≡ u → (k : ℕ) → negated_constant u ≡ Some k → number link (negated a) p n ≡ Some k
@@ -47,9 +42,7 @@ module _ (p : List ℕ) (n : ℕ) (link : Link) where
 
 -- a number in the place of another one: it counts no more, has the same accessors and the same value
 record Replaces (b a : NumberTree) : Type 0 where
-  size : number_size b ≤ number_size a
-  words : number_words b ≤ number_words a
-  tests : number_tests b ≤ number_tests a
+  counts : (number_size b ≤ number_size a) × (number_words b ≤ number_words a) × (number_tests b ≤ number_tests a)
   accessors_are : (rest : List Protocol) → accessors b rest ≡ accessors a rest
   same : (p : List ℕ) (n : ℕ) (link : Link) → number link b p n ≡ number link a p n
 
@@ -62,9 +55,7 @@ number_folded : (a : NumberTree) → Replaces (folded_number a) a
 number_folded (load q s a) =
     let h = number_folded a in
     record {
-      size = omega (arith, h.size);
-      words = h.words;
-      tests = omega (arith, h.tests);
+      counts = omega (arith, h.counts);
       accessors_are = λ rest. ap (λ ps. q ∷ ps) (h.accessors_are rest);
       same = λ p n link. ap (λ o. with o (λ v. with (base link q p) (λ at. field p ((at + v) % 2 ^ 32) (width_of s)))) (h.same p n link);
     }
@@ -73,20 +64,11 @@ number_folded (negated a) =
     let b = folded_number a in
     by_fold (λ t. Replaces t (negated a)) (negated_constant (constant b)) (negated b)
     (λ k e. let s = negated_some (constant b) k e in record {
-      size = omega arith;
-      words = omega arith;
-      tests = omega arith;
+      counts = omega arith;
       accessors_are = λ rest. sym (constant_alone b s.0 rest s.1) ∙ h.accessors_are rest;
       same = λ p n link. sym (negated_is p n link b (constant b) refl k e) ∙ ap (λ o. negated_constant o) (h.same p n link);
     })
-    (record {
-      size = omega (arith, h.size);
-      words = h.words;
-      tests = h.tests;
-      accessors_are = h.accessors_are;
-      same =
-          λ p n link. ap (λ o. negated_constant o) (h.same p n link);
-    })
+    (record { counts = omega (arith, h.counts); accessors_are = h.accessors_are; same = λ p n link. ap (λ o. negated_constant o) (h.same p n link) })
 number_folded (applied o a b) =
     let h = number_folded a in
     let g = number_folded b in
@@ -95,46 +77,31 @@ number_folded (applied o a b) =
     let all = λ (rest : List Protocol). ap (accessors c) (g.accessors_are rest) ∙ h.accessors_are (accessors b rest) in
     by_fold (λ t. Replaces t (applied o a b)) (applied_constant o (constant c) (constant d)) (applied o c d)
     (λ k e. let s = applied_some o (constant d) (constant c) k e in record {
-      size = omega arith;
-      words = omega arith;
-      tests = omega arith;
+      counts = omega arith;
       accessors_are = λ rest. sym (ap (accessors c) (constant_alone d s.1 rest s.3) ∙ constant_alone c s.0 rest s.2) ∙ all rest;
       same = λ p n link. sym (applied_is p n link o c d (constant d) (constant c) refl refl k e) ∙ operands_same o c a d b h g p n link;
     })
-    (record {
-      size = omega (arith, h.size, g.size);
-      words = omega (arith, h.words, g.words);
-      tests = omega (arith, h.tests, g.tests);
-      accessors_are =
-          all;
-      same = operands_same o c a d b h g;
-    })
-number_folded _ = record { size = omega arith; words = omega arith; tests = omega arith; accessors_are = λ rest. refl; same = λ p n link. refl }
+    (record { counts = omega (arith, h.counts, g.counts); accessors_are = all; same = operands_same o c a d b h g })
+number_folded _ = record { counts = omega arith; accessors_are = λ rest. refl; same = λ p n link. refl }
 
 -- a truth in the place of another one: it counts no more, has primitives that lack qualifiers only
 -- if that has, and reads the same
 record Stands (a b : TruthTree) : Type 0 where
-  size : truth_size a ≤ truth_size b
-  words : truth_words a ≤ truth_words b
-  tests : truth_tests a ≤ truth_tests b
+  counts : (truth_size a ≤ truth_size b) × (truth_words a ≤ truth_words b) × (truth_tests a ≤ truth_tests b)
   filled : any_primitive is_unfilled a ≡ any_primitive is_unfilled b
   same : (p : List ℕ) (n : ℕ) (link : Link) → reads link (formula link a) p n ≡ reads link (formula link b) p n
 
 itself : (a : TruthTree) → Stands a a
-itself a = record { size = omega arith; words = omega arith; tests = omega arith; filled = refl; same = λ p n link. refl }
+itself a = record { counts = omega arith; filled = refl; same = λ p n link. refl }
 
 denied_stands : (a b : TruthTree) → Stands (and_denied a b) (joined Join.And a (denied b))
 denied_stands (denied a) b = record {
-  size = omega arith;
-  words = omega arith;
-  tests = omega arith;
+  counts = omega arith;
   filled = refl;
   same = λ p n link. denied_both (reads link (formula link a) p n) (reads link (formula link b) p n);
 }
 denied_stands (joined Join.And x (denied a)) b = record {
-  size = omega arith;
-  words = omega arith;
-  tests = omega arith;
+  counts = omega arith;
   filled = sym (or_assoc (any_primitive is_unfilled x) (any_primitive is_unfilled a) (any_primitive is_unfilled b));
   same = λ p n link. ap (λ r. both (reads link (formula link x) p n) r) (denied_both (reads link (formula link a) p n) (reads link (formula link b) p n))
       ∙ both_again (reads link (formula link x) p n) (negation (reads link (formula link a) p n)) (negation (reads link (formula link b) p n));
@@ -155,9 +122,7 @@ truth_folded (compared c a b) =
     let h = number_folded a in
     let g = number_folded b in
     record {
-      size = omega (arith, h.size, g.size);
-      words = omega (arith, h.words, g.words);
-      tests = omega (arith, h.tests, g.tests);
+      counts = omega (arith, h.counts, g.counts);
       filled = refl;
       same = λ p n link.
           ap (λ ps. reads link (checked_formula link ps (Compare c (folded_number a) (folded_number b))) p n)
@@ -167,15 +132,13 @@ truth_folded (compared c a b) =
     }
 truth_folded (denied a) =
     let h = truth_folded a in
-    record { size = h.size; words = h.words; tests = h.tests; filled = h.filled; same = λ p n link. ap negation (h.same p n link) }
+    record { counts = h.counts; filled = h.filled; same = λ p n link. ap negation (h.same p n link) }
 truth_folded (joined j a b) =
     let h = truth_folded a in
     let g = truth_folded b in
     let k = joined_stands j (folded_truth a) (folded_truth b) in
     record {
-      size = omega (arith, h.size, g.size, k.size);
-      words = omega (arith, h.words, g.words, k.words);
-      tests = omega (arith, h.tests, g.tests, k.tests);
+      counts = omega (arith, h.counts, g.counts, k.counts);
       filled = k.filled ∙ ap₂ (λ x y. x || y) h.filled g.filled;
       same = λ p n link. k.same p n link ∙ both_same j (folded_truth a) a (folded_truth b) b h g p n link;
     }
@@ -193,18 +156,16 @@ pub expression_folded : (e : Expression) → Folds e
 expression_folded empty = record { words = omega arith; bound = omega arith; short = omega arith; filled = refl; same = λ p n link. refl }
 expression_folded (truth a) =
     let h = truth_folded a in
-    record { words = h.words; bound = omega (arith, h.size, h.tests); short = omega (arith, h.size, h.tests); filled = h.filled; same = h.same }
+    record { words = omega (arith, h.counts); bound = omega (arith, h.counts); short = omega (arith, h.counts); filled = h.filled; same = h.same }
 
 -- ---- the nodes of the folded tree
 
 one_or_both : (o : Operator) (r : Option ℕ) (a b : NumberTree) (d : List Node) → node_or r d (Node.Apply o ∷ number_onto b (number_onto a d)) ≡
     number_onto (number_or r (applied o a b)) d
-one_or_both o None a b d = refl
-one_or_both o (Some k) a b d = refl
+one_or_both o r a b d = grind arith
 
 with_negated : (a : NumberTree) (d : List Node) → with_negation (number_onto a d) ≡ number_onto (negated_number a) d
-with_negated (literal k) d = refl
-with_negated _ d = refl
+with_negated a d = grind arith
 
 with_applied : (o : Operator) (b a : NumberTree) (d : List Node) → with_operator o (number_onto b (number_onto a d)) ≡ number_onto (applied_number o a b) d
 with_applied o (literal y) (literal x) d = one_or_both o (result_of o x y) (literal x) (literal y) d

@@ -32,8 +32,7 @@ jumps (Some Jump) = true
 jumps _ = false
 
 ends_put : (i : Insn) (c : List Insn) → ends_in_return c ≡ true → ends_in_return (i ∷ c) ≡ true
-ends_put i [] e = cc
-ends_put i (j ∷ c) e = e
+ends_put i c e = grind arith
 
 no_jump : (o : Operation) (i : Insn) → i.code ≡ code_of o → jumps (Some o) ≡ false → i.code ≢ JUMP
 unfolding operation_of
@@ -63,8 +62,7 @@ Asked true X = X
 Asked false X = Unit {0}
 
 asked : (b : Bool) {X Y : Type 0} → (X → Y) → Asked b X → Asked b Y
-asked true f x = f x
-asked false f x = tt
+asked b f x = grind arith
 
 -- code d that was put in front of code c: at most m instructions, which are w with each branch
 -- counted three times. It is sound, if that is asked for
@@ -80,10 +78,7 @@ pub record Inside (c : List Insn) (place : ℕ) : Type 0 where
   pub upper_bound : place ≤ length c
 
 passes_both : (j k m : ℕ) (f : CheckFault) → j < m → k < m → unless (nat_lt j m && nat_lt k m) f ≡ None
-passes_both j k m f a b =
-    let s : nat_lt j m ≡ true = grind (arith, nat_tests) in
-    let t : nat_lt k m ≡ true = grind (arith, nat_tests) in
-    ap (λ x. unless (x && nat_lt k m) f) s ∙ ap (λ x. unless (true && x) f) t
+passes_both j k m f a b = grind (arith, nat_tests)
 
 ends_some : (c : List Insn) → ends_in_return c ≡ true → 0 < length c
 ends_some [] e = cc
@@ -106,7 +101,7 @@ pub record FitsBy (b : Bool) (c : List Insn) (e : Block) (m w : ℕ) : Type 0 wh
 
 -- a word of memory, and arithmetic with a constant, without a fault
 word_fine : (k : ℕ) → k < 16 → unless (nat_lt k 16) NoSuchWord ≡ None
-word_fine k l = let t : nat_lt k 16 ≡ true = grind (arith, nat_tests) in ap (λ b. unless b NoSuchWord) t
+word_fine k l = grind (arith, nat_tests)
 
 constant_fine : (operator : Operator) (k m : ℕ) → takes_constant operator k ≡ true → operation_fault (computation operator Constant)
     (plain (computation operator Constant) k) m ≡ None

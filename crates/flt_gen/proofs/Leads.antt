@@ -1,6 +1,6 @@
 -- Code that grew in front still stands at its end; what its first instruction does; and where it
 -- leads: its answer from a place on.
-use Rattle.flt_gen.proofs.Common.{constant_or, ◌≡◌, ℕ, suc, ◌-◌, ◌≤◌, List, ◌∷◌, length, drop, Option, Some, None, refl, sym, ap, ◌∙◌, arith, Insn, State}
+use Rattle.flt_gen.proofs.Common.{constant_or, ◌≡◌, ℕ, suc, ◌-◌, ◌≤◌, List, ◌∷◌, length, drop, Option, Some, refl, sym, ap, ◌∙◌, arith, Insn, State}
 use Rattle.flt_gen.proofs.Common.{Operation, plain, answer_of, answer_after, answer_drop, code_of, does, does_if_known}
 use Rattle.flt_bpf.proofs.Codes.{code_is}
 use Rattle.flt_bpf.specs.{Instructions.operation_of, Machine.step}
@@ -31,8 +31,7 @@ extends_on a b =
 -- by a constant operand or index
 pub by_operand : (P : List Insn → Type 0) (o : Option ℕ) (short : ℕ → List Insn) (long : List Insn) → ((k : ℕ) → o ≡ Some k → P (short k)) → P long
     → P (constant_or o short long)
-by_operand P None short long one all = all
-by_operand P (Some k) short long one all = one k refl
+by_operand P o short long one all = grind arith
 
 -- a state with the words of memory that programs may use
 abbrev pub HasWords : State → Type 0

@@ -13,6 +13,7 @@ pub mod Runs
 pub mod Grows
 pub mod Accessors
 pub mod Walking
+pub mod Alone
 pub mod Counted
 pub mod IdleBits
 pub mod Prefixes

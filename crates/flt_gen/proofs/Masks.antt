@@ -1,6 +1,6 @@
 -- A mask of 128 bits, by the four words in which it stands.
 use Rattle.flt_gen.proofs.Ascending.{if_case}
-use Rattle.flt_gen.proofs.Common.{◌≡◌, ℕ, ◌+◌, ◌-◌, ◌*◌, ◌^◌, ◌<◌, ◌≤◌, [], ◌∷◌, map, refl, ap, ◌∙◌, arith, Option, None, Some, ⊎_elim, cases_lt, pow-add}
+use Rattle.flt_gen.proofs.Common.{◌≡◌, ℕ, ◌+◌, ◌-◌, ◌*◌, ◌^◌, ◌<◌, ◌≤◌, [], ◌∷◌, map, refl, ap, arith, Option, None, Some, ⊎_elim, cases_lt, pow-add}
 use Rattle.flt_gen.proofs.Common.{first_bits, ip6_mask, word_mask, ◌==◌, unwrap_or, nat_tests, partial_mask, ip6_tests}
 use Rattle.std.proofs.Math.Pow.{pow_mono}
 use Rattle.std.specs.Int.Digits.{number_from_digits}
@@ -10,61 +10,29 @@ joins : (a b c d q : ℕ) → a ≤ 2 ^ 32 → b ≤ 2 ^ 32 → c ≤ 2 ^ 32 →
     → number_from_digits (2 ^ 32) ((2 ^ 32 - a) ∷ (2 ^ 32 - b) ∷ (2 ^ 32 - c) ∷ (2 ^ 32 - d) ∷ []) ≡ 2 ^ 128 - q
 joins a b c d q l m n o e = omega arith
 
--- powers of 2
+-- what the mask of a word lacks, and what that of n bits more does, as powers of 2
 same : (k m : ℕ) → k ≡ m → 2 ^ k ≡ 2 ^ m
 same k m e = ap (λ n. 2 ^ n) e
 
-raised : (k m up : ℕ) → k ≡ m + up → 2 ^ k ≡ 2 ^ m * 2 ^ up
-raised k m up e = same k (m + up) e ∙ pow-add 2 m up
-
--- what the mask of a word lacks, as an exponent of 2
-abbrev lack : ℕ → ℕ → ℕ
-lack bits word = 32 - (bits - 32 * word)
+parted : (n bits : ℕ) → 2 ^ (32 + n - bits) + 2 ^ n ≡ 2 ^ (32 - bits) * 2 ^ n + 2 ^ (n - (bits - 32))
+parted n bits =
+    ⊎_elim (λ few. omega (arith, same (32 + n - bits) (32 - bits + n) (omega arith), pow-add 2 (32 - bits) n, same (n - (bits - 32)) n (omega arith)))
+    (λ many. omega (arith, ap (λ m. m * 2 ^ n) (same (32 - bits) 0 (omega arith)), same (32 + n - bits) (n - (bits - 32)) (omega arith))) (cases_lt bits 32)
 
 masks_join : (bits : ℕ) → number_from_digits (2 ^ 32) (first_bits 32 (bits - 32 * 0) ∷ first_bits 32 (bits - 32 * 1) ∷ first_bits 32 (bits - 32 * 2) ∷
     first_bits 32 (bits - 32 * 3) ∷ []) ≡ first_bits 128 bits
-masks_join bits =
-    ⊎_elim (λ first. by (omega (
-      arith,
-      same (lack bits 1) 32 (omega arith),
-      same (lack bits 2) 32 (omega arith),
-      same (lack bits 3) 32 (omega arith),
-      raised (128 - bits) (lack bits 0) 96 (omega arith),
-    )))
-    (λ past_first. ⊎_elim (λ second. by
-    (omega (
-      arith,
-      same (lack bits 0) 0 (omega arith),
-      same (lack bits 2) 32 (omega arith),
-      same (lack bits 3) 32 (omega arith),
-      raised (128 - bits) (lack bits 1) 64 (omega arith),
-    )))
-    (λ past_second. ⊎_elim (λ third. by
-    (omega (
-      arith,
-      same (lack bits 0) 0 (omega arith),
-      same (lack bits 1) 0 (omega arith),
-      same (lack bits 3) 32 (omega arith),
-      raised (128 - bits) (lack bits 2) 32 (omega arith),
-    )))
-    (λ past_third. by (omega (
-      arith,
-      same (lack bits 0) 0 (omega arith),
-      same (lack bits 1) 0 (omega arith),
-      same (lack bits 2) 0 (omega arith),
-      same (128 - bits) (lack bits 3) (omega arith),
-    )))
-    (cases_lt bits 96))
-    (cases_lt bits 64))
-    (cases_lt bits 32)
+masks_join bits = joins _ _ _ _ _ (few 0) (few 1) (few 2) (few 3) (omega (
+  arith,
+  parted 96 bits,
+  parted 64 (bits - 32),
+  parted 32 (bits - 32 - 32),
+  same (32 - bits) (32 - (bits - 32 * 0)) (omega arith),
+  same (32 - (bits - 32 - 32)) (32 - (bits - 32 * 2)) (omega arith),
+  same (32 - (bits - 32 - 32 - 32)) (32 - (bits - 32 * 3)) (omega arith),
+))
   where
-    few : (word : ℕ) → 2 ^ lack bits word ≤ 2 ^ 32
-    few word = pow_mono {i = lack bits word} {j = 32} (omega arith)
-
-    by : 2 ^ (128 - bits) + 2 ^ 96 + 2 ^ 64 + 2 ^ 32 ≡ 2 ^ lack bits 0 * 2 ^ 96 + 2 ^ lack bits 1 * 2 ^ 64 + 2 ^ lack bits 2 * 2 ^ 32 + 2 ^ lack bits
-        3 → number_from_digits (2 ^ 32) (first_bits 32 (bits - 32 * 0) ∷ first_bits 32 (bits - 32 * 1) ∷ first_bits 32 (bits - 32 * 2) ∷ first_bits 32
-        (bits - 32 * 3) ∷ []) ≡ first_bits 128 bits
-    by e = joins _ _ _ _ _ (few 0) (few 1) (few 2) (few 3) e
+    few : (word : ℕ) → 2 ^ (32 - (bits - 32 * word)) ≤ 2 ^ 32
+    few word = pow_mono {i = 32 - (bits - 32 * word)} {j = 32} (omega arith)
 
 -- what is below a word of an address
 pub word_power : (word : ℕ) → 2 ^ (96 - 32 * word) < 2 ^ 128

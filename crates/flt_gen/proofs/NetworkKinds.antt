@@ -29,12 +29,7 @@ pub record Agrees (reading : MatchResult) (header : NetworkHeader) (kind : Netwo
   pub rejects : (reading ≡ Rejected) ↔ ((header ≡ Short) × (carried ≡ true))
 
 kind_agrees : (header : NetworkHeader) (kind : NetworkKind) (carried : Bool) → Agrees (reads_kind header kind carried) header kind carried
-kind_agrees Short kind true = record { matches = (λ e. cc, λ e. cc); rejects = (λ e. (refl, refl), λ e. refl) }
-kind_agrees (Known Ipv4) Ipv4 carried = record { matches = (λ e. refl, λ e. refl); rejects = (λ e. absurd (cc), λ e. let short = e.0 in cc) }
-kind_agrees (Known Ipv6) Ipv6 carried = record { matches = (λ e. refl, λ e. refl); rejects = (λ e. absurd (cc), λ e. let short = e.0 in cc) }
-kind_agrees (Known Arp) Arp carried = record { matches = (λ e. refl, λ e. refl); rejects = (λ e. absurd (cc), λ e. let short = e.0 in cc) }
-kind_agrees (Known Rarp) Rarp carried = record { matches = (λ e. refl, λ e. refl); rejects = (λ e. absurd (cc), λ e. let short = e.0 in cc) }
-kind_agrees _ _ _ = record { matches = (λ e. cc, λ e. cc); rejects = (λ e. absurd (cc), λ e. let short = e.0 in let is = e.1 in cc) }
+kind_agrees header kind carried = grind arith
 
 -- the first bytes are captured, or they aren't
 captured : (kind : NetworkKind) (long short : Bool) (v : ℕ) (test : ℕ → Bool) (header : NetworkHeader) → short ≡ not long

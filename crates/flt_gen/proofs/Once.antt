@@ -1,16 +1,14 @@
 -- The tests of a protocol's accessors stand once: the formula reads the same, and has no more
 -- tests.
 use Rattle.flt_gen.proofs.Ascending.{if_case}
-use Rattle.flt_gen.proofs.Common.{◌≡◌, ℕ, ◌+◌, ◌≤◌, List, [], ◌∷◌, true, refl, sym, ap, ◌∙◌, arith, Comparison, Protocol, Ether, Tcp, NumberTree, load, negated}
+use Rattle.flt_gen.proofs.Common.{◌≡◌, ℕ, ◌+◌, ◌≤◌, List, [], ◌∷◌, true, refl, sym, ap, ◌∙◌, arith, Comparison, Protocol, NumberTree, load, negated}
 use Rattle.flt_gen.proofs.Common.{applied, compared, accessor_test_count, number_tests, truth_tests, Link, Elementary, MatchResult, Yes, elementary_reads}
 use Rattle.flt_gen.proofs.Common.{accessors, accessor_tests, Formula, Compare, both, reads, guarded_formula, checked_formula, nodes, words, equals, length}
 use Rattle.flt_gen.proofs.Common.{without_protocol, protocols_of, relation_formula, formula}
 use Rattle.flt_gen.proofs.Counted.{Sized, bare_within, bare_after}
 
 pub equal_are : (p q : Protocol) → equals p q ≡ true → p ≡ q
-equal_are Ether Ether e = cc
-equal_are _ Ether e = cc
-equal_are _ _ e = cc
+equal_are p q e = grind arith
 
 -- tests in front of a formula add neither nodes nor words
 pub guarded_sizes : {f : Formula} {s w n : ℕ} (ts : List Elementary) → Sized f s w n → Sized (guarded_formula ts f) s w (length ts + n)
@@ -18,8 +16,7 @@ guarded_sizes [] h = bare_within _ (omega arith) h
 guarded_sizes (t ∷ ts) h = bare_within _ (omega arith) (bare_after (guarded_sizes ts h))
 
 pub accessor_tests_are : (link : Link) (p : Protocol) → length (accessor_tests link p) ≡ accessor_test_count p
-accessor_tests_are link Tcp = refl
-accessor_tests_are link _ = refl
+accessor_tests_are link p = grind arith
 
 -- how many tests the accessors of some protocols have
 abbrev checks : List Protocol → ℕ
@@ -34,9 +31,7 @@ checked_sizes link (p ∷ ps) h =
 -- no more tests
 without_tests : (p : Protocol) (qs : List Protocol) → checks (without_protocol p qs) ≤ checks qs
 without_tests p [] = omega arith
-without_tests p (q ∷ qs) =
-    let h = without_tests p qs in
-    if_case (λ xs. checks xs ≤ checks (q ∷ qs)) (equals p q) (without_protocol p qs) (q ∷ without_protocol p qs) (λ e. omega arith) (λ e. omega arith)
+without_tests p (q ∷ qs) = grind (arith, without_tests p qs)
 
 protocols_tests : (a : NumberTree) (rest : List Protocol) → checks (protocols_of a rest) ≤ number_tests a + checks rest
 protocols_tests (load p s a) rest = let h = protocols_tests a rest in let w = without_tests p (protocols_of a rest) in omega arith
@@ -55,13 +50,11 @@ relation_sizes link c l r =
 
 -- the same reading
 pub both_again : (a b r : MatchResult) → both a (both b r) ≡ both (both a b) r
-both_again Yes b r = refl
-both_again _ b r = refl
+both_again a b r = grind arith
 
 -- after a test that holds
 if_yes : (a r s : MatchResult) → (a ≡ Yes → r ≡ s) → both a r ≡ both a s
-if_yes Yes r s h = h refl
-if_yes _ r s h = refl
+if_yes a r s h = grind arith
 
 module _ (link : Link) (p : List ℕ) (n : ℕ) where
   abbrev pub all_read : List Elementary → MatchResult

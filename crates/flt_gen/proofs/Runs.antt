@@ -3,9 +3,9 @@ use Rattle.flt_gen.specs.Formula.{choose, Formula, Single, Compare, Both, Either
 use Rattle.flt_gen.proofs.Ascending.{if_case}
 use Rattle.flt_gen.proofs.Common.{◌≡◌, ℕ, ◌+◌, ◌-◌, ◌≤◌, List, length, Bool, true, false, Option, Some, None, refl, sym, ap, ap₂, ◌∙◌}
 use Rattle.flt_gen.proofs.Common.{arith, nat_le, nat_lt, ◌==◌, not, ◌&&◌, if◌then◌else◌, bit_and, nat_tests, and_parts}
-use Rattle.flt_gen.proofs.Common.{Insn, State, Width, Word, HalfWord, Byte, Test, Operand, Constant, IndexRegister, Compute, JumpIf, answer_of}
+use Rattle.flt_gen.proofs.Common.{Insn, State, Width, Test, Operand, Constant, IndexRegister, Compute, JumpIf, answer_of}
 use Rattle.flt_gen.proofs.Common.{test_holds, operand_value, Comparison, Equal, NotEqual, Less, AtMost, Greater, AtLeast, number_words, NumberTree, Link}
-use Rattle.flt_gen.proofs.Common.{Offset, Fixed, AfterHeader, AtIndex, Elementary, Outcome, Field, FieldTest, MatchResult, Yes, No, Rejected, reading_of}
+use Rattle.flt_gen.proofs.Common.{Offset, Elementary, Outcome, Field, FieldTest, MatchResult, Yes, No, Rejected, reading_of}
 use Rattle.flt_gen.proofs.Common.{with, compares, field_at, under_mask, field_reads, elementary_reads, number, constant, branch_insn, emit_test}
 use Rattle.flt_gen.proofs.Common.{emit_branch, emit_comparison, emit_field, emit_mask, emit_relation, emit_after, emit_formula, words, is_loaded}
 use Rattle.flt_gen.proofs.Common.{nothing, same_offset, same_width, same_mask}
@@ -21,32 +21,25 @@ pick No v w = w
 pick Rejected v w = 0
 
 pick_both : (a b : MatchResult) (v w : ℕ) → pick a (pick b v w) w ≡ pick (both a b) v w
-pick_both Yes b v w = refl
-pick_both _ b v w = refl
+pick_both a b v w = grind arith
 
 pick_chosen : (a b c : MatchResult) (v w : ℕ) → pick a (pick b v w) (pick c v w) ≡ pick (choose a b c) v w
-pick_chosen Yes b c v w = refl
-pick_chosen _ b c v w = refl
+pick_chosen a b c v w = grind arith
 
 pick_either : (a b : MatchResult) (v w : ℕ) → pick a v (pick b v w) ≡ pick (either a b) v w
-pick_either Yes b v w = refl
-pick_either _ b v w = refl
+pick_either a b v w = grind arith
 
 pick_negated : (a : MatchResult) (v w : ℕ) → pick a w v ≡ pick (exchanged a) v w
-pick_negated Yes v w = refl
-pick_negated _ v w = refl
+pick_negated a v w = grind arith
 
 picked : (b : Bool) (v w : ℕ) → (if b then v else w) ≡ pick (reading_of (Some b)) v w
-picked true v w = refl
-picked false v w = refl
+picked b v w = grind arith
 
 for_test : (o : Option ℕ) (b : ℕ → Bool) (v w : ℕ) → answer_for o (λ y. if b y then v else w) ≡ pick (reading_of (with o (λ y. Some (b y)))) v w
-for_test None b v w = refl
-for_test (Some y) b v w = picked (b y) v w
+for_test o b v w = grind arith
 
 exchanged_if : (b : Bool) (v w : ℕ) → (if b then w else v) ≡ (if not b then v else w)
-exchanged_if true v w = refl
-exchanged_if false v w = refl
+exchanged_if b v w = grind arith
 
 less_is : (a b : ℕ) → not (nat_le b a) ≡ nat_lt a b
 less_is a b = grind (arith, nat_tests)
@@ -69,27 +62,18 @@ equal : (a b : ℕ) → (a == b) ≡ true → a ≡ b
 equal a b e = grind (arith, nat_tests)
 
 same_offset_is : (a b : Offset) → same_offset a b ≡ true → a ≡ b
-same_offset_is (Fixed j) (Fixed k) e = ap Fixed (equal j k e)
-same_offset_is (AfterHeader g j) (AfterHeader h k) e = let t = and_parts (g == h) (j == k) e in ap₂ AfterHeader (equal g h t.0) (equal j k t.1)
-same_offset_is (AtIndex g j) (AtIndex h k) e = let t = and_parts (g == h) (j == k) e in ap₂ AtIndex (equal g h t.0) (equal j k t.1)
-same_offset_is _ _ e = cc
+same_offset_is a b e = grind (arith, nat_tests)
 
 same_width_is : (a b : Width) → same_width a b ≡ true → a ≡ b
-same_width_is Word Word e = refl
-same_width_is HalfWord HalfWord e = refl
-same_width_is Byte Byte e = refl
-same_width_is _ _ e = cc
+same_width_is a b e = grind arith
 
 same_mask_is : (a b : Option ℕ) → same_mask a b ≡ true → a ≡ b
-same_mask_is None None e = refl
-same_mask_is (Some j) (Some k) e = ap Some (equal j k e)
-same_mask_is _ _ e = cc
+same_mask_is a b e = grind (arith, nat_tests)
 
 module _ (p : List ℕ) (n : ℕ) where
   two_ways : (c : List Insn) (jt jf v w : ℕ) (s : State) (b : Bool) → answer_of c p n jt s ≡ Some v → answer_of c p n jf s ≡ Some w
       → answer_of c p n (if b then jt else jf) s ≡ Some (if b then v else w)
-  two_ways c jt jf v w s true e f = e
-  two_ways c jt jf v w s false e f = f
+  two_ways c jt jf v w s b e f = grind arith
 
   -- a test of A and its operand, which are these numbers
   branch_tops : {P : State → Type 0} (t : Test) (operand : Operand) (k a b hit miss v w : ℕ) (c : List Insn) → ((s : State) → P s → s.accumulator ≡ a)
@@ -178,8 +162,7 @@ module _ (p : List ℕ) (n : ℕ) where
   -- a relation: the test of both numbers, or of one and a constant
   relation_picks : (o : Option ℕ) (b : ℕ → ℕ → Bool) (q : Option ℕ) (v w : ℕ)
       → answer_for o (λ x. pick (reading_of (with q (λ y. Some (b x y)))) v w) ≡ pick (reading_of (with o (λ x. with q (λ y. Some (b x y))))) v w
-  relation_picks None b q v w = refl
-  relation_picks (Some x) b q v w = refl
+  relation_picks o b q v w = grind arith
 
   relation_tops : (link : Link) (comparison : Comparison) (l r : NumberTree) (hit miss v w : ℕ) (c : List Insn) → Leads p n HasWords c hit v
       → Leads p n HasWords c miss w → number_words l ≤ 16 → 1 + number_words r ≤ 16 → Tops p n HasWords (emit_relation link comparison l r hit miss c)

@@ -31,8 +31,7 @@ fitting_small true at m is fit p x e = λ l. fit refl p x e
 fitting_small false at m is fit p x e = λ l. absurd (omega arith)
 
 pub unmasked_fitting : (b : Bool) (at : Sides) → b ≡ false → Fitting b at
-unmasked_fitting true at e = cc
-unmasked_fitting false at e = λ f. cc
+unmasked_fitting b at e = grind arith
 
 -- a word is below 2^32
 pub word_small : (p : List ℕ) (at x : ℕ) → field p at Word ≡ Some x → x < 2 ^ 32
@@ -49,8 +48,7 @@ abbrev pub PortsReady : Link → Numbers → Type 0
 PortsReady link numbers = Ready link (port_places (ip_transport link)) numbers × Ready link (port_places (ip6_transport link)) numbers
 
 not_both : (b c : Bool) → (b ≡ true → c ≡ true) → c ≡ false → b ≡ false
-not_both false c f e = refl
-not_both true c f e = absurd (let t = f refl in cc)
+not_both b c f e = grind arith
 
 -- one member, on the sides that a direction asks for
 abbrev plain_reads : Direction → Option ℕ → Option ℕ → (ℕ → Bool) → MatchResult
@@ -60,20 +58,16 @@ plain_reads (Direction.Both Or) s d f = either (read_by s f) (read_by d f)
 plain_reads (Direction.Both And) s d f = both (read_by s f) (read_by d f)
 
 yes_and : (b c : Bool) → both (exact b) (exact c) ≡ exact (b && c)
-yes_and true c = refl
-yes_and false c = refl
+yes_and b c = grind arith
 
 yes_or : (b c : Bool) → exact (b || c) ≡ either (exact b) (exact c)
-yes_or true c = refl
-yes_or false c = refl
+yes_or b c = grind arith
 
 read_or : (o : Option ℕ) (f g : ℕ → Bool) → read_by o (λ x. f x || g x) ≡ either (read_by o f) (read_by o g)
-read_or None f g = refl
-read_or (Some x) f g = yes_or (f x) (g x)
+read_or o f g = grind arith
 
 read_seen : (o : Option ℕ) (f g : ℕ → Bool) → ((x : ℕ) → o ≡ Some x → f x ≡ g x) → read_by o f ≡ read_by o g
-read_seen None f g e = refl
-read_seen (Some x) f g e = ap exact (e x refl)
+read_seen o f g e = grind arith
 
 -- where one is no, the field is there
 known_read : (o : Option ℕ) (f g : ℕ → Bool) → read_by o f ≡ No → Known (read_by o g)
@@ -118,18 +112,13 @@ member_tests PortRange protocol d = count.port_tests protocol d 1
 member_tests _ protocol d = 1
 
 more_tests : (d : Direction) → count.side_tests d 1 ≤ count.side_tests d 2
-more_tests (Direction.One s) = omega arith
-more_tests _ = omega arith
+more_tests d = grind arith
 
 module _ (link : Link) (p : List ℕ) (n : ℕ) where
   -- where a test is yes those after it are no
   kinds : (i a x s t : MatchResult) → (i ≡ Yes → (s ≡ No) × (t ≡ No)) → either (both i (either a x)) (either s t) ≡ either (either (both i a) s)
       (either (both i x) t)
-  kinds Yes a x s t only =
-      ap₂ (λ u v. either (either a x) (either u v)) (only refl).0 (only refl).1
-      ∙ or_no (either a x)
-      ∙ sym (ap₂ (λ u v. either (either a u) (either x v)) (only refl).0 (only refl).1 ∙ ap₂ either (or_no a) (or_no x))
-  kinds _ a x s t only = refl
+  kinds i a x s t only = grind (arith, or_no)
 
   abbrev kind_reads : FrameKind → MatchResult
   kind_reads k = elementary_reads (kind_test link k) p
@@ -158,8 +147,7 @@ module _ (link : Link) (p : List ℕ) (n : ℕ) where
       ∙ both_either (transport_reads protocol header) (both (whole_reads header.no_later_fragment) a) (both (whole_reads header.no_later_fragment) b)
 
   whole_is : (o : Option Elementary) (f : Formula) → reads link (following o f) p n ≡ both (whole_reads o) (reads link f p n)
-  whole_is None f = refl
-  whole_is (Some t) f = refl
+  whole_is o f = grind arith
 
   transport_is : (protocol : Option Protocol) (header : Transport) (f : Formula) → reads link (transport protocol header.tcp header.udp f) p n ≡ both
       (transport_reads protocol header) (reads link f p n)
@@ -336,10 +324,7 @@ module _ (link : Link) (p : List ℕ) (n : ℕ) where
   -- the row of a member
   row_sides : (at : Sides) (d : Direction) (s t : List Elementary) (f : ℕ → Bool) → reads link (all_of s) p n ≡ read_by (source_of at) f
       → reads link (all_of t) p n ≡ read_by (destination_of at) f → reads link (sides d s t) p n ≡ plain_reads d (source_of at) (destination_of at) f
-  row_sides at (Direction.One Source) s t f e h = e
-  row_sides at (Direction.One Destination) s t f e h = h
-  row_sides at (Direction.Both Or) s t f e h = ap₂ either e h
-  row_sides at (Direction.Both And) s t f e h = ap₂ both e h
+  row_sides at d s t f e h = grind arith
 
   address_row : (protocol : Option Protocol) (d : Direction) (mask : Option ℕ) (a : ℕ) (f : ℕ → Bool)
       → ((x : ℕ) → x < 2 ^ 32 → (under_mask mask x == a) ≡ f x) → reads link (hosts_formula link protocol (in_net d mask a)) p n ≡ hosts_by protocol
@@ -356,8 +341,7 @@ module _ (link : Link) (p : List ℕ) (n : ℕ) where
           (read_seen (destination_of at) (λ x. under_mask mask x == a) f (λ x g. e x (fit x (inr g))))
 
   both_ends : (o : Option ℕ) (a b : ℕ) → both (read_by o (λ x. nat_le a x)) (read_by o (λ x. nat_le x b)) ≡ read_by o (λ x. nat_le a x && nat_le x b)
-  both_ends None a b = refl
-  both_ends (Some x) a b = yes_and (nat_le a x) (nat_le x b)
+  both_ends o a b = grind arith
 
   port_row : (protocol : Option Protocol) (d : Direction) (tests : Offset → List Elementary) (f : ℕ → Bool)
       → ((at : Offset) → reads link (all_of (tests at)) p n ≡ read_by (field_at at HalfWord p) f)

@@ -48,31 +48,32 @@ last_walked link w (Node.Apply o) = refl
 last_walked link w (Node.Compare Equal) = refl
 last_walked link w _ = refl
 
--- the last of the nodes that are left, and the last two
-one_put : (ns : List Node) (j i : ℕ) (other : Node) → j ≡ suc i → j ≤ length ns → reverse (take j ns) ≡ get_or ns i other ∷ reverse (take i ns)
-one_put ns j i other e within =
-    ap (λ k. reverse (take k ns)) e ∙ ap reverse (take-suc ns i other (omega arith)) ∙ reverse-append (take i ns) (get_or ns i other ∷ [])
+-- the last of the nodes that are left, and the last two or four
+abbrev node : List Node → ℕ → Node
+node ns k = get_or ns k (Check Ether)
 
-two_put : (ns : List Node) (j i h : ℕ) (other : Node) → j ≡ suc i → i ≡ suc h → j ≤ length ns → reverse (take j ns) ≡ get_or ns i other ∷ get_or ns h
-    other ∷ reverse (take h ns)
-two_put ns j i h other e f within = one_put ns j i other e within ∙ ap (λ xs. get_or ns i other ∷ xs) (one_put ns i h other f (omega arith))
+one_put : (ns : List Node) (j i : ℕ) → j ≡ suc i → j ≤ length ns → reverse (take j ns) ≡ node ns i ∷ reverse (take i ns)
+one_put ns j i e within =
+    ap (λ k. reverse (take k ns)) e ∙ ap reverse (take-suc ns i (Check Ether) (omega arith)) ∙ reverse-append (take i ns) (node ns i ∷ [])
+
+two_put : (ns : List Node) (j i h : ℕ) → j ≡ suc i → i ≡ suc h → j ≤ length ns → reverse (take j ns) ≡ node ns i ∷ node ns h ∷ reverse (take h ns)
+two_put ns j i h e f within = one_put ns j i e within ∙ ap (λ xs. node ns i ∷ xs) (one_put ns i h f (omega arith))
+
+four_put : (ns : List Node) (j : ℕ) → 4 ≤ j → j ≤ length ns → reverse (take j ns) ≡ node ns (j - 1) ∷ node ns (j - 2) ∷ node ns (j - 3) ∷
+    node ns (j - 4) ∷ reverse (take (j - 4) ns)
+four_put ns j some within =
+    two_put ns j (j - 1) (j - 2) (omega arith) (omega arith) within
+    ∙ ap (λ xs. node ns (j - 1) ∷ node ns (j - 2) ∷ xs) (two_put ns (j - 2) (j - 3) (j - 4) (omega arith) (omega arith) (omega arith))
 
 pub last_four : (ns : List Node) → 4 ≤ length ns → reverse ns ≡ get_or ns (length ns - 1) (Check Ether) ∷ get_or ns (length ns - 2) (Check Ether) ∷
     get_or ns (length ns - 3) (Check Ether) ∷ get_or ns (length ns - 4) (Check Ether) ∷ reverse (take (length ns - 4) ns)
-last_four ns l =
-    ap reverse (sym (take_all (length ns) ns (omega arith)))
-    ∙ two_put ns (length ns) (length ns - 1) (length ns - 2) (Check Ether) (omega arith) (omega arith) (omega arith)
-    ∙ ap (λ xs. get_or ns (length ns - 1) (Check Ether) ∷ get_or ns (length ns - 2) (Check Ether) ∷ xs)
-    (two_put ns (length ns - 2) (length ns - 3) (length ns - 4) (Check Ether) (omega arith) (omega arith) (omega arith))
+last_four ns l = ap reverse (sym (take_all (length ns) ns (omega arith))) ∙ four_put ns (length ns) l (omega arith)
 
 pub relation_put : (link : Link) (ns : List Node) (j : ℕ) (w : Walk) (e : Entry) → 4 ≤ length (take j ns) → j ≤ length ns
     → relation_in (reverse (take j ns)) ≡ Some e → emit_nodes link (emit_member link e w) (reverse (take (j - 4) ns)) ≡ emit_nodes link w (reverse (take j ns))
 relation_put link ns j w e some within is =
-    let other = Node.Check Ether in
     let long = length-take j ns in
-    let four =
-    two_put ns j (j - 1) (j - 2) other (omega arith) (omega arith) within
-    ∙ ap (λ xs. get_or ns (j - 1) other ∷ get_or ns (j - 2) other ∷ xs) (two_put ns (j - 2) (j - 3) (j - 4) other (omega arith) (omega arith) (omega arith)) in
+    let four = four_put ns j (omega arith) within in
     sym (ap (emit_nodes link w) four ∙ relation_walked link w _ _ _ _ (reverse (take (j - 4) ns)) e (ap relation_in (sym four) ∙ is))
 
 -- what is left to do after so many nodes
@@ -82,25 +83,23 @@ left_walk link ns k w = emit_nodes link w (reverse (take k ns))
 pub first_put : (link : Link) (ns : List Node) (left : ℕ) (w : Walk) → 0 < left → left ≤ length ns → left - 1 ≡ 0 → left_walk link ns (left - 1)
     (emit_node link w (get_or ns (left - 1) (Check Ether))) ≡ left_walk link ns left w
 first_put link ns (suc zero) w some within first =
-    sym (ap (emit_nodes link w) (one_put ns (suc zero) zero (Check Ether) refl within) ∙ last_walked link w (get_or ns zero (Check Ether)))
+    sym (ap (emit_nodes link w) (one_put ns (suc zero) zero refl within) ∙ last_walked link w (node ns zero))
 first_put link ns _ w some within first = absurd (omega arith)
 
 pub node_put : (link : Link) (ns : List Node) (left : ℕ) (w : Walk) → 0 < left - 1 → left ≤ length ns → emit_both_nodes link w
     (get_or ns (left - 1) (Check Ether)) (get_or ns (left - 1 - 1) (Check Ether)) ≡ None → left_walk link ns (left - 1)
     (emit_node link w (get_or ns (left - 1) (Check Ether))) ≡ left_walk link ns left w
 node_put link ns left w some within none =
-    let one = one_put ns (left - 1) (left - 1 - 1) (Check Ether) (omega arith) (omega arith) in
-    let two = two_put ns left (left - 1) (left - 1 - 1) (Check Ether) (omega arith) (omega arith) within in
-    sym (ap (emit_nodes link w) two ∙ one_walked link w (get_or ns (left - 1) (Check Ether)) (get_or ns (left - 1 - 1) (Check Ether))
-    (reverse (take (left - 1 - 1) ns)) none ∙ ap (emit_nodes link (emit_node link w (get_or ns (left - 1) (Check Ether)))) (sym one))
+    sym (ap (emit_nodes link w) (two_put ns left (left - 1) (left - 1 - 1) (omega arith) (omega arith) within)
+    ∙ one_walked link w (node ns (left - 1)) (node ns (left - 1 - 1)) (reverse (take (left - 1 - 1) ns)) none
+    ∙ ap (emit_nodes link (emit_node link w (node ns (left - 1)))) (sym (one_put ns (left - 1) (left - 1 - 1) (omega arith) (omega arith))))
 
 pub both_put : (link : Link) (ns : List Node) (left : ℕ) (w v : Walk) → 0 < left - 1 → left ≤ length ns → relation_in (reverse (take left ns)) ≡ None
     → emit_both_nodes link w (get_or ns (left - 1) (Check Ether)) (get_or ns (left - 1 - 1) (Check Ether)) ≡ Some v → left_walk link ns (left - 1 - 1)
     v ≡ left_walk link ns left w
 both_put link ns left w v some within none both =
-    let two = two_put ns left (left - 1) (left - 1 - 1) (Check Ether) (omega arith) (omega arith) within in
-    sym (ap (emit_nodes link w) two ∙ both_walked link w v (get_or ns (left - 1) (Check Ether)) (get_or ns (left - 1 - 1) (Check Ether))
-    (reverse (take (left - 1 - 1) ns)) (ap relation_in (sym two) ∙ none) both)
+    let two = two_put ns left (left - 1) (left - 1 - 1) (omega arith) (omega arith) within in
+    sym (ap (emit_nodes link w) two ∙ both_walked link w v _ _ _ (ap relation_in (sym two) ∙ none) both)
 
 -- of what is left after each way to emit the last nodes
 pub ruleset node_steps = (first_put, node_put, both_put, relation_put)

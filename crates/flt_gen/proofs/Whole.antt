@@ -47,37 +47,32 @@ no_branches : branches returns_code ≡ 0
 unfolding operation_of
 no_branches = refl
 
-hit_leads : (p : List ℕ) (n : ℕ) → Leads p n HasWords returns_code 2 262144
+returns_lead : (p : List ℕ) (n : ℕ) → Leads p n HasWords returns_code 2 262144 × Leads p n HasWords returns_code 1 0
 unfolding step operation_of
-hit_leads p n = record { inside = omega arith; by = λ s long. refl }
-
-miss_leads : (p : List ℕ) (n : ℕ) → Leads p n HasWords returns_code 1 0
-unfolding step operation_of
-miss_leads p n = record { inside = omega arith; by = λ s long. refl }
+returns_lead p n = (record { inside = omega arith; by = λ s long. refl }, record { inside = omega arith; by = λ s long. refl })
 
 pick_right : (r : MatchResult) → (pick r 262144 0 ≢ 0) ↔ (r ≡ Yes)
-pick_right Yes = (λ h. refl, λ e z. absurd (omega arith))
-pick_right _ = (λ h. absurd (h refl), λ e. cc)
+pick_right r = grind arith
 
 -- how the code of an expression stands on the two returns, and where it leads
 fits : (link : Link) (e : Expression) → some_primitive is_unfilled e ≡ false → words_of e ≤ 16 → FitsBy true returns_code (expression_code link e)
     (4 * tests_of e + 6 * nodes_of e) (6 * (tests_of e + nodes_of e))
 fits link empty filled few = more_by true _ _ (omega arith) (omega arith)
-    (record { grows = none_by true returns_sound; entry = record { low = omega arith; upper_bound = omega arith } })
+    (record { grows = none_by true returns_sound; entry = omega arith })
 fits link (truth a) filled few =
     let s = grouped_stands link a no_group kept_none filled in
     more_by true _ _ (omega (arith, s.short_fit, s.nodes_fit)) (omega (arith, s.light_fit, s.nodes_fit))
     (emitted_by true nothing link (grouped_formula link no_group a) 2 1 returns_code (omega (arith, s.words_fit)) returns_sound
-    (record { low = omega arith; upper_bound = omega arith }) (record { low = omega arith; upper_bound = omega arith }))
+    (omega arith) (omega arith))
 
 leads : (link : Link) (e : Expression) → some_primitive is_unfilled e ≡ false → words_of e ≤ 16 → (p : List ℕ) (n : ℕ)
     → Leads p n HasWords (expression_code link e).code (expression_code link e).entry (pick (holds e link p n) 262144 0)
-leads link empty filled few p n = hit_leads p n
+leads link empty filled few p n = (returns_lead p n).0
 leads link (truth a) filled few p n =
     let s = grouped_stands link a no_group kept_none filled in
     leads_to p n (ap (λ r. pick r 262144 0) (s.reads_are p n ∙ or_no _))
-    (emitted_leads p n link (grouped_formula link no_group a) 2 1 262144 0 returns_code (omega (arith, s.words_fit)) (hit_leads p n)
-    (miss_leads p n))
+    (emitted_leads p n link (grouped_formula link no_group a) 2 1 262144 0 returns_code (omega (arith, s.words_fit)) (returns_lead p n).0
+    (returns_lead p n).1)
 
 -- what is left of code
 branches_drop : (c : List Insn) (k : ℕ) → branches (drop k c) ≤ branches c

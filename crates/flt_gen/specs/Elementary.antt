@@ -44,7 +44,7 @@ abbrev pub header_at : List ℕ → ℕ → Option ℕ
 header_at p at = with (field p at Byte) (λ byte. Some (header_length byte))
 
 -- a field of a packet, or none if it isn't all captured, or the first byte of the header before
--- it isn't; a place after a header is taken modulo 2^32
+-- it isn't; a place that is a sum is taken modulo 2^32
 abbrev pub field_at : Offset → Width → List ℕ → Option ℕ
 field_at (Fixed k) width p = field p k width
 field_at (AfterHeader header k) width p =

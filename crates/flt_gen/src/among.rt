@@ -1,4 +1,4 @@
-//! Emits the search whether a field, or one of two, is in one of some intervals: a tree of tests.
+//! Searches for a field, or either of two, in some intervals: trees of tests.
 
 ghost use Rattle.std.specs.Prelude.{◌≡◌};
 ghost use Rattle.flt_gen.specs.inside.{Emits.Emits, Emits.EmitsFormula, Code.emit_after};
@@ -78,8 +78,8 @@ fn are_at_index(link: Link, at: Sides, numbers: &Numbers<'_>) -> bool
         && numbers.all.len() >= fewest_at_index(at.width, first.low == first.high)
 }
 
-/// What X holds if both sides are read at it: as many bytes as the destination is past that of an
-/// IPv4 address, or of a port right after the link header. So it is at the same place after X in
+/// What X holds if both sides are read at it: how much further on the destination is than that of
+/// an IPv4 header, or than a port right after the link header. So it is at the same place after X in
 /// headers of each kind.
 fn index_of(link: Link, at: Sides) -> u32
     ensures { result ≡ index_of link at }
@@ -106,7 +106,7 @@ fn sides_at_index(link: Link, at: Sides) -> Sides
     }
 }
 
-/// The place that is read at X, from which both sides are counted.
+/// The same place, read at X, which holds `index`.
 fn at_index(index: u32, offset: Offset) -> Offset
     ensures { result ≡ at_index index offset }
 {
@@ -117,10 +117,10 @@ fn at_index(index: u32, offset: Offset) -> Offset
 }
 
 impl<A: Allocator> Code<A> {
-    /// Emits whether a field is in some intervals, which ascend, by one after the other. Returns
-    /// the place where the code begins; for no interval that is `to.no`. It calls itself for each:
-    /// they are few, once `emit_search` has halved them. `is_above`: the field is known to be no
-    /// less than the first one. The test `held` comes before.
+    /// Emits whether a field is in some intervals, which ascend, by one after the other, right after
+    /// the test `held`. Returns the place where the code begins; for no interval that is `to.no`. It
+    /// calls itself for each: they are few, once `emit_search` has halved them. `is_above`: the
+    /// field is known to be no less than the first one.
     fn emit_chain(
         &mut self,
         field: FieldPlace,
@@ -152,8 +152,8 @@ impl<A: Allocator> Code<A> {
         self.emit_test(held, bottom, Targets { yes, no: to.no })
     }
 
-    /// As `emit_chain`, by a binary search: the intervals are halved at most `halvings` times, by a
-    /// test whether the field is in the lower half.
+    /// As `emit_chain`, by a binary search: the intervals are halved at most `halvings` times. A
+    /// test decides whether the field is in the lower half.
     #[tactic(auto, using(crate::proofs::Search::search_steps))]
     fn emit_search(
         &mut self,

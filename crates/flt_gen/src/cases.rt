@@ -1,8 +1,7 @@
 //! Lists of MAC addresses, of addresses and networks of IPv6, of protocol numbers, and of relations of
 //! one accessor, as decision trees: the first words are compared by halves, and then the next ones.
-//! Addresses are on one side, or on either, if all of their words but the last are the same. Each
-//! test loads its word, but where halves of one word come one after the other; `flt_short` leaves out
-//! further repeated loads.
+//! Addresses are on one side, or on either if all of their words but the last are the same. A test
+//! right below one of the same word, which halves the members, doesn't load it again.
 
 ghost use Rattle.std.specs.Prelude.{◌≡◌, ◌≤◌, ◌+◌, drop, length, OnOk, count_by, nat_lt};
 ghost use Rattle.flt_gen.specs.inside.Cases.{case_of, same_words, key_of, insert_case, case_front};
@@ -393,8 +392,8 @@ impl<A: Allocator> Code<A> {
         }
     }
 
-    /// Emits cases by halves, down to `few`, of one word after the other: `most` times at most. Each
-    /// test of a half is made on what the test `held` before it left in A.
+    /// Emits cases by halves of one word after the other, down to `few`, or `most` times. The code
+    /// comes right after the test `held`, whose word A holds.
     fn emit_decision(
         &mut self,
         held: Elementary,

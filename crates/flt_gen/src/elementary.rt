@@ -25,15 +25,15 @@ pub enum FrameKind {
     Rarp,
 }
 
-/// The place where a field stands, in bytes.
+/// The place where a field begins, in bytes from the start of the packet.
 #[derive(Clone, Copy)]
 pub enum Offset {
-    /// A given number of bytes after the start of the packet.
+    /// At this number.
     Fixed(u32),
     /// At the second number plus the length of the header that begins at the first. The low half of
     /// that header's first byte gives its length, in words of 4 bytes.
     AfterHeader(u32, u32),
-    /// At the sum of both: it is read at X, which holds the first.
+    /// At the sum of both. It is read at X, which holds the first.
     AtIndex(u32, u32),
 }
 
@@ -112,7 +112,7 @@ fn same_width(one: Width, other: Width) -> bool
     )
 }
 
-/// Whether there is no mask twice, or the same one.
+/// Whether both masks are the same, or there is none.
 fn same_mask(one: Option<u32>, other: Option<u32>) -> bool
     ensures { result ≡ same_mask one other }
 {

@@ -16,11 +16,11 @@ use flt_bpf::operation::{AluOperation, Operand, Operation, Register, Source, Tes
 use flt_words::{Comparison, Join, Side, Size};
 use std::alloc::{AllocError, Allocator};
 
-/// A test after which A holds no field, in place of one before the first test.
+/// In place of the test before, if A holds no field.
 pub const NOTHING: Elementary = Elementary::Outcome(false);
 
 impl<A: Allocator> Code<A> {
-    /// Emits the load of a field into A. That of one after a header or at X also sets X.
+    /// Emits the load of a field into A. Before a load after a header or at X, X is set.
     pub fn emit_field(&mut self, offset: Offset, width: Width) -> Result<(), AllocError>
         ensures { OnOk result (self.new ≡ emit_field offset width self.old) }
     {
@@ -106,7 +106,7 @@ impl<A: Allocator> Code<A> {
         }
     }
 
-    /// Emits one test, of a field that A doesn't hold, as `emit_test`.
+    /// Emits one test, as `emit_test`, of a field that A doesn't hold.
     pub fn emit_elementary(&mut self, test: Elementary, to: Targets) -> Result<usize, AllocError>
         ensures { Emits result (emit_elementary test to.yes to.no self.old) self.new }
     {

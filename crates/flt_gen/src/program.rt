@@ -102,10 +102,9 @@ pub fn generate<A: Allocator + Clone, B: Allocator>(
 {
     let nodes = folded_nodes(alloc.clone()?, expr.expr.nodes())?;
     let code = wide_code(alloc.clone()?, &nodes, link)?;
-    // A load at X becomes a load at a fixed place in the first round if X is a constant. A walk of
-    // the second round can pass it. In a long chain such a walk gets further than the first one,
-    // since less code is left. `has_index_copy` and `has_many_loads` need no clause: a mistake
-    // would only cost length or time.
+    // A walk of the second round gets further than one of the first, since less code is left.
+    // `has_index_copy` and `has_many_loads` need no clause: a mistake would only cost length or
+    // time.
     let copies_to_index = has_index_copy(&code);
     let once = optimised(alloc.clone()?, code, true)?;
     let is_wanted = copies_to_index || has_many_loads(&once);

@@ -218,11 +218,27 @@ impl<A: Allocator + Clone> Walk<A> {
         }
     }
 
-    /// Emits a value or a relation. One that goes with the group of those after it joins it: as the
-    /// right operand of an `or` it waits there for one more; else the group is emitted. Any other
-    /// comes after the group that waits: as the right operand of an `or` it begins a new one if it
-    /// may be a member, and else it is emitted by itself.
+    /// Emits a value or a relation. One that stands alone is never put into the group, which costs
+    /// allocations.
+    #[tactic(auto, using(crate::proofs::Alone::alone_emitted))]
     fn emit_entry(&mut self, link: Link, entry: Entry) -> Result<(), AllocError>
+        ensures { OnOk result (self.new ≡ emit_entry link entry self.old
+            (larger_group entry self.old.group)) }
+    {
+        match self.pending {
+            Pending::Nothing if self.group.is_empty() => {
+                self.group.clear();
+                self.emit_alone(link, entry)
+            }
+            _ => self.emit_listed(link, entry),
+        }
+    }
+
+    /// As `emit_entry`. One that goes with the group of those after it joins it: as the right
+    /// operand of an `or` it waits there for one more; else the group is emitted. Any other comes
+    /// after the group that waits: as the right operand of an `or` it begins a new one if it may be
+    /// a member, and else it is emitted by itself.
+    fn emit_listed(&mut self, link: Link, entry: Entry) -> Result<(), AllocError>
         ensures { OnOk result (self.new ≡ emit_entry link entry self.old
             (larger_group entry self.old.group)) }
     {

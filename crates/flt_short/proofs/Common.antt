@@ -1,7 +1,7 @@
 -- The names that most proofs here cite, passed on from one place. Declares nothing.
 pub use Rattle.std.proofs.Common.{ℕ, zero, suc, List, [], ◌∷◌, inl, inr, ◌≡◌, ◌+◌, ◌*◌, length, Bool, true, false, Option, Some, None, refl, ap, if◌then◌else◌}
 pub use Rattle.std.proofs.Common.{nat_lt, nat_le, slice_get, sym, ◌∙◌, subst, arith, ◌⊎◌, ◌==◌, ◌&&◌, not, map, slice_set, bit_and, ◌-◌, ◌<◌, ◌≤◌, drop}
-pub use Rattle.std.proofs.Common.{length-drop, ◌≢◌, All, count_by, ◌||◌, get_or, cond}
+pub use Rattle.std.proofs.Common.{ap₂, length-drop, ◌≢◌, All, count_by, ◌||◌, get_or, cond}
 pub use Rattle.std.proofs.lemmas.Bool.{and_parts, or_cases, Decides.nat_tests}
 pub use Rattle.std.proofs.lemmas.List.Elements.{All-cons, All-head, All-tail, All-take, All-replicate}
 pub use Rattle.std.proofs.lemmas.Option.{slice_get_within, get_or_from_slice_get, slice_get_read}

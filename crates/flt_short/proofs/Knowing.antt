@@ -1,13 +1,12 @@
 -- What is known holds of the packet and of the registers.
-use Rattle.flt_short.proofs.Common.{◌≡◌, ℕ, zero, suc, ◌+◌, ◌≤◌, List, [], ◌∷◌, length, true, false, Option, Some, None, sym, ap, ◌∙◌, subst, arith, ◌⊎◌, inl}
+use Rattle.flt_short.proofs.Common.{◌≡◌, ℕ, zero, suc, ◌+◌, ◌≤◌, List, [], ◌∷◌, length, true, false, Option, Some, sym, ◌∙◌, subst, arith, ◌⊎◌, inl}
 use Rattle.flt_short.proofs.Common.{inr, ◌==◌, if◌then◌else◌, slice_set, nat_tests, State, Operation, Insn, Next, Goes, does, goes_on_or_rejects, compute}
 use Rattle.flt_short.proofs.Common.{LoadIndirect, Field, Held, IndexValue, Known, same_optional, same_index, same_load, same_field, claims_nothing, allows}
-use Rattle.flt_short.proofs.Common.{Implies, JoinsClaims, same_held, common_index, holds_field, known_after, masked_held, held_at, and_parts, field_at}
-use Rattle.flt_short.proofs.Common.{index_number, loaded, loaded_at, masked, value_of, IsThere, is_said, Says, HeldHolds, IndexHolds, Holds, HoldsAt}
-use Rattle.flt_short.proofs.Common.{LearnsEqual, Learns, Test, JumpIf, Constant, operand_value, test_holds, bit_and, not, Bool, refl, JoinsBy, JoinsFact}
+use Rattle.flt_short.proofs.Common.{Implies, JoinsClaims, same_held, common_index, holds_field, known_after, masked_held, held_at, field_at}
+use Rattle.flt_short.proofs.Common.{index_number, loaded, masked, value_of, IsThere, is_said, Says, HeldHolds, IndexHolds, Holds, HoldsAt}
+use Rattle.flt_short.proofs.Common.{LearnsEqual, Learns, Test, JumpIf, Constant, bit_and, not, Bool, JoinsBy, JoinsFact}
 use Rattle.flt_short.proofs.Common.{JoinsFacts, Arrives}
-use Rattle.std.proofs.Common.{◌<◌, ◌&&◌, ◌%◌, ◌^◌, All, get_or, take}
-use Rattle.std.proofs.Math.Bool.{not-not}
+use Rattle.std.proofs.Common.{◌<◌, ◌%◌, ◌^◌, All, get_or, take}
 use Rattle.std.proofs.lemmas.List.{take_more_set, take_all}
 use Rattle.std.proofs.lemmas.List.Elements.{All-set, All-push}
 use Rattle.flt_bpf.specs.{Instructions.operation_of, Machine.field, declared.operation.AluOperation.AluOperation, declared.operation.Width.Width}
@@ -30,25 +29,18 @@ same_indexes x y e = grind (arith, nat_tests)
 
 same_loaded : (p : List ℕ) (n : ℕ) (f g : Field) → same_load f g ≡ true → loaded (operation_of f.code) p n f.index f.k ≡ loaded (operation_of g.code)
     p n g.index g.k
-same_loaded p n f g e =
-    let q = and_parts (f.code == g.code && f.k == g.k) (same_index f.index g.index) e in
-    let r = and_parts (f.code == g.code) (f.k == g.k) q.0 in
-    ap (λ c. loaded (operation_of c) p n f.index f.k) (numbers f.code g.code r.0) ∙ ap (λ x. loaded (operation_of g.code) p n x f.k)
-    (same_indexes f.index g.index q.1) ∙ ap (loaded (operation_of g.code) p n g.index) (numbers f.k g.k r.1)
+same_loaded p n f g e = grind (arith, nat_tests, same_indexes)
 
 pub same_value : (p : List ℕ) (n : ℕ) (f g : Field) → same_field f g ≡ true → value_of p n f ≡ value_of p n g
-same_value p n f g e =
-    let q = and_parts (same_load f g) (same_optional f.mask g.mask) e in
-    ap (λ m. masked m (loaded (operation_of f.code) p n f.index f.k)) (same_masks f.mask g.mask q.1) ∙ ap (masked g.mask) (same_loaded p n f g q.0)
+same_value p n f g e = grind (arith, nat_tests, same_masks, same_loaded)
 
 -- what a fact claims of its field
 pub claimed : (p : List ℕ) (n : ℕ) (x : Fact) (f : Field) (number : ℕ) → same_field x.field f ≡ true → Says p n x → value_of p n f ≡ Some number
     → allows x.claim number ≡ true
-claimed p n x f number same h is = sym (ap (is_said x.claim) (same_value p n x.field f same ∙ is)) ∙ h
+claimed p n x f number same h is = grind (arith, same_value)
 
 implied : (c d : Claim) (o : Option ℕ) → Implies c d → is_said c o ≡ true → is_said d o ≡ true
-implied c d None i h = i.1 h
-implied c d (Some n) i h = i.0 n h
+implied c d o i h = grind arith
 
 -- facts where two ways meet
 pub joined_one : (x : Fact) (ys : List Fact) (k : ℕ) (d : Fact) (claim : Claim) → k < length ys → same_field x.field (get_or ys k d).field ≡ true
@@ -59,8 +51,7 @@ joined_one x ys k d claim l same joins p n (inr h) =
     implied y.claim claim (value_of p n x.field) joins.1 (subst (λ o. is_said y.claim o ≡ true) (sym (same_value p n x.field y.field same)) (h k d l))
 
 said_nothing : (o : Option ℕ) → is_said Claim.Nothing o ≡ true
-said_nothing None = refl
-said_nothing (Some n) = refl
+said_nothing o = grind arith
 
 -- nothing is claimed
 pub joined_none : (x : Fact) (ys : List Fact) → JoinsFact x ys (record { field = x.field; claim = Claim.Nothing })
@@ -100,9 +91,7 @@ module _ (p : List ℕ) (len : ℕ) where
       there_of x.field g said.0 said.1 same
 
   pub field_there : (h : Held) (g : Field) (s : State) → HeldHolds p len h s → holds_field h g ≡ true → IsThere p len g
-  field_there (held.Field f) g s x e = there_of f g s.accumulator x e
-  field_there held.Unreached g s x e = absurd x
-  field_there _ g s x e = cc
+  field_there h g s x e = grind (arith, there_of)
 
   -- A and X
   pub same_holds : (g h : Held) (s : State) → same_held g h ≡ true → HeldHolds p len h s → HeldHolds p len g s
@@ -118,15 +107,11 @@ module _ (p : List ℕ) (len : ℕ) where
   -- a load at X puts the same into A by what is known of X
   pub loaded_by : (x : IndexValue) (n k v : ℕ) (w : Width) → IndexHolds p x n → field_at p (index_number p x) k w ≡ Some v
       → field p ((n + k) % 2 ^ 32) w ≡ Some v
-  loaded_by IndexValue.Unknown n k v w h e = cc
-  loaded_by (IndexValue.HeaderLength m) n k v w h e = sym (ap (λ o. field_at p o k w) h) ∙ e
-  loaded_by (IndexValue.Number m) n k v w h e = sym (ap (λ o. field_at p o k w) h) ∙ e
+  loaded_by x n k v w h e = grind arith
 
   pub loads_at : (x : IndexValue) (i : Insn) (w : Width) (v : ℕ) (s : State) → operation_of i.code ≡ Some (LoadIndirect w) → IndexHolds p x s.index
       → field p ((s.index + i.k) % 2 ^ 32) w ≡ Some v → HeldHolds p len (held_at x i) (record s { accumulator = v })
-  loads_at IndexValue.Unknown i w v s o h e = ap (λ op. loaded_at op p s.index i.k) o ∙ e
-  loads_at (IndexValue.HeaderLength m) i w v s o h e = ap (λ op. loaded op p len (IndexValue.HeaderLength m) i.k) o ∙ ap (λ x. field_at p x i.k w) h ∙ e
-  loads_at (IndexValue.Number m) i w v s o h e = ap (λ op. loaded op p len (IndexValue.Number m) i.k) o ∙ ap (λ x. field_at p x i.k w) h ∙ e
+  loads_at x i w v s o h e = grind arith
 
   joins_by : (h : Held) (k came new : Known) (s : State) → JoinsBy h k came new → (HeldHolds p len h s × Holds p len k s) ⊎ Holds p len came s
       → Holds p len new s
@@ -151,8 +136,7 @@ module _ (p : List ℕ) (len : ℕ) where
   masks h m v s x e = grind arith
 
   kept_small : (b : Bool) (x : IndexValue) (v : ℕ) → IndexHolds p x v → IndexHolds p (if b then x else IndexValue.Unknown) v
-  kept_small true x v h = h
-  kept_small false x v h = tt
+  kept_small b x v h = grind arith
 
   pub after : (op : Operation) (k : Known) (i : Insn) (s : State) → operation_of i.code ≡ Some op → goes_on_or_rejects op ≡ true → Holds p len k s
       → After (known_after (Some op) k i) (does op i p len s)
@@ -184,23 +168,8 @@ arrives_nowhere (h ∷ seen) (suc place) k l = record { keeps = λ p n q s x. x;
 -- what the outcome of a test shows of the field that A holds
 pub learns_equal : (k : Known) (i : Insn) (f : Field) (outcome : Bool) (new : Known) → operation_of i.code ≡ Some (JumpIf Test.Equal Constant)
     → k.held ≡ held.Field f → LearnsEqual k f i.k outcome new → Learns k i outcome new
-learns_equal k i f outcome new o is learned p n s test operand e t h =
-    let same : Some (JumpIf test operand) ≡ Some (JumpIf Test.Equal Constant) = sym e ∙ o in
-    let equal : test ≡ Test.Equal = cc in
-    let constant : operand ≡ Constant = cc in
-    let holds : value_of p n f ≡ Some s.accumulator = subst (λ z. HeldHolds p n z s) is h.a in
-    learned p n s.accumulator s holds
-    (sym (ap (λ u. test_holds u s.accumulator (operand_value operand i.k s.index)) equal
-    ∙ ap (λ u. test_holds Test.Equal s.accumulator (operand_value u i.k s.index)) constant) ∙ t) h
+learns_equal k i f outcome new o is learned p n s test operand e t h = grind (arith, learned p n s.accumulator s)
 
 pub learns_bits : (k : Known) (i : Insn) (f : Field) (outcome : Bool) (new : Known) → operation_of i.code ≡ Some (JumpIf Test.AnyBit Constant)
     → masked_held k.held i.k ≡ held.Field f → LearnsEqual k f 0 (not outcome) new → Learns k i outcome new
-learns_bits k i f outcome new o is learned p n s test operand e t h =
-    let same : Some (JumpIf test operand) ≡ Some (JumpIf Test.AnyBit Constant) = sym e ∙ o in
-    let any : test ≡ Test.AnyBit = cc in
-    let constant : operand ≡ Constant = cc in
-    let bits = bit_and s.accumulator i.k in
-    let holds : value_of p n f ≡ Some bits = subst (λ z. HeldHolds p n z (record s { accumulator = bits })) is (masks p n k.held i.k bits s h.a refl) in
-    let shown : not (bits == 0) ≡ outcome = sym (ap (λ u. test_holds u s.accumulator (operand_value operand i.k s.index)) any
-    ∙ ap (λ u. test_holds Test.AnyBit s.accumulator (operand_value u i.k s.index)) constant) ∙ t in
-    learned p n bits s holds (sym (not-not (bits == 0)) ∙ ap not shown) h
+learns_bits k i f outcome new o is learned p n s test operand e t h = grind (arith, masks, learned p n (bit_and s.accumulator i.k) s)

@@ -1,6 +1,6 @@
 -- Code that is alike has the answers of the old code, and a run of it meets no more instructions.
 use Rattle.flt_short.proofs.Common.{◌≡◌, inl, inr, ℕ, zero, suc, ◌+◌, ◌-◌, ◌<◌, ◌≤◌, List, [], ◌∷◌, length, drop, length-drop, Bool, true, false, Option, Some}
-use Rattle.flt_short.proofs.Common.{None, refl, sym, ap, ◌∙◌, subst, arith, ◌≢◌, All, count_by, ◌==◌, ◌&&◌, ◌||◌, not, if◌then◌else◌, slice_get, bit_and}
+use Rattle.flt_short.proofs.Common.{None, refl, sym, ap, ap₂, ◌∙◌, subst, arith, ◌≢◌, All, count_by, ◌==◌, ◌&&◌, ◌||◌, not, if◌then◌else◌, slice_get, bit_and}
 use Rattle.flt_short.proofs.Common.{and_parts, or_cases, nat_tests, slice_get_within, get_or_from_slice_get, Insn, State, Operation, Load, Compute, Negate}
 use Rattle.flt_short.proofs.Common.{Jump, JumpIf, ReturnConstant, ReturnAccumulator, CopyToIndex, CopyToAccumulator, Accumulator, Index, Immediate, Length}
 use Rattle.flt_short.proofs.Common.{Constant, IndexRegister, code_of, Next, Goes, Ends, Lost, does, does_if_known, operand_value, test_holds, Answered}
@@ -127,18 +127,11 @@ module _ (p : List ℕ) (n : ℕ) where
   -- both codes go on by an instruction
   both : (d is : List Insn) (j i : Insn) (t s : State) (u v : Next) → step j p n t ≡ u → step i p n s ≡ v → Follows d is p n u v
       → AsGood (j ∷ d) (i ∷ is) p n 0 0 t s
-  both d is j i t s u v new old g =
-      let upper_bound = g.1 in
-      let steps_new = ap (steps_after (steps_of d p n)) new in
-      let steps_old = ap (steps_after (steps_of is p n)) old in
-      (λ b eb. ap (answer_after (answer_of d p n)) new ∙ g.0 b (sym (ap (answer_after (answer_of is p n)) old) ∙ eb), omega arith)
+  both d is j i t s u v new old g = grind (arith, g)
 
   -- the old one goes on by an instruction of its own
   old_alone : (d is : List Insn) (i : Insn) (k : ℕ) (t s s' : State) → step i p n s ≡ Goes k s' → AsGood d is p n 0 k t s' → AsGood d (i ∷ is) p n 0 0 t s
-  old_alone d is i k t s s' e g =
-      let upper_bound = g.1 in
-      let steps = ap (steps_after (steps_of is p n)) e in
-      (λ b eb. g.0 b (sym (ap (answer_after (answer_of is p n)) e) ∙ eb), omega arith)
+  old_alone d is i k t s s' e g = grind (arith, g)
 
   -- copies do the same
   same_tails : (c : List Insn) (x y : ℕ) → length (drop x c) ≡ length (drop y c) → drop x c ≡ drop y c
@@ -223,9 +216,6 @@ module _ (p : List ℕ) (n : ℕ) where
         (λ b eb. sym (answer_drop following p n far (other s u v)) ∙ ap (λ z. answer_of z p n 0 (other s u v)) there ∙ good.0 b eb, omega arith)
 
     -- one instruction, with the same A and X where they are read
-    abbrev Fits : ℕ → ℕ → Bool → Bool → Type 0
-    Fits k far a x = lands_at c ls k (l.place - (1 + far)) a x ≡ true
-
     way : (hit miss near next : ℕ) → (lands_at c ls hit (l.place - (1 + near)) l.accumulator l.index && lands_at c ls miss (l.place - (1 + next))
         l.accumulator l.index) ≡ true → (s : State) (a x : ℕ) → Same l.accumulator a s.accumulator → Same l.index x s.index → (b : Bool)
         → AsGood following is p n (if b then near else next) (if b then hit else miss) (other s a x) s
@@ -234,48 +224,45 @@ module _ (p : List ℕ) (n : ℕ) where
     way hit miss near next f s a x ha hx false = fit miss next l.accumulator l.index
         (and_parts (lands_at c ls hit (l.place - (1 + near)) l.accumulator l.index) _ f).1 s a x ha hx
 
-    -- what the operation does, with the values of A and X that it reads
-    plain_good : (op : Operation) (j i : Insn) → goes_on_or_rejects op ≡ true → Fits 0 0 (sets_accumulator op || l.accumulator)
-        (sets_index op || l.index) → (s : State) (a x : ℕ) → Same l.accumulator a s.accumulator → Same l.index x s.index → Follows following is p n
-        (does op (record j { k = i.k }) p n (other s (read (reads_accumulator op) a s.accumulator) (read (reads_index op) x s.index))) (does op i p n s)
-    plain_good op j i e f s a x ha hx =
-        let same_a = λ (q : sets_accumulator op ≡ false). read_same (reads_accumulator op) (sets_accumulator op) l.accumulator a s.accumulator q ha in
-        let same_x = λ (q : sets_index op ≡ false). read_same (reads_index op) (sets_index op) l.index x s.index q hx in
-        let to = fit 0 0 (sets_accumulator op || l.accumulator) (sets_index op || l.index) f in
-        does_both (Follows following is p n) op j i s a x e (ends following is) (lost following is)
-        (λ q v. to (record s { accumulator = v }) v _ (λ z. refl) (same_x q)) (λ q v. to (record s { index = v }) _ v (same_a q) (λ z. refl))
-        (λ q r m. to (record s { memory = m }) _ _ (same_a q) (same_x r))
+    module _ (j i : Insn) (s : State) (a x : ℕ) (ha : Same l.accumulator a s.accumulator) (hx : Same l.index x s.index) where
+      -- what an operation does is as good with the values of A and X that it reads
+      abbrev Does : Operation → Type 0
+      Does op = Follows following is p n
+          (does op (record j { k = i.k }) p n (other s (read (reads_accumulator op) a s.accumulator) (read (reads_index op) x s.index))) (does op i p n s)
 
-    does_good : (op : Operation) (j i : Insn) → goes_on c op j l i ls ≡ true → (s : State) (a x : ℕ) → Same l.accumulator a s.accumulator
-        → Same l.index x s.index → Follows following is p n
-        (does op (record j { k = i.k }) p n (other s (read (reads_accumulator op) a s.accumulator) (read (reads_index op) x s.index))) (does op i p n s)
-    does_good Jump j i f s a x ha hx = cc
-    does_good (JumpIf o Constant) j i f s a x ha hx = way i.jt i.jf j.jt j.jf f s s.accumulator x (λ z. refl) hx (test_holds o s.accumulator i.k)
-    does_good (JumpIf o IndexRegister) j i f s a x ha hx = way i.jt i.jf j.jt j.jf f s s.accumulator s.index (λ z. refl) (λ z. refl)
-        (test_holds o s.accumulator s.index)
-    does_good ReturnConstant j i f s a x ha hx = (λ b eb. eb, omega arith)
-    does_good ReturnAccumulator j i f s a x ha hx = (λ b eb. eb, omega arith)
-    does_good op j i f s a x ha hx = plain_good op j i refl f s a x ha hx
+      plain_good : (op : Operation) → goes_on_or_rejects op ≡ true
+          → lands_at c ls 0 (l.place - 1) (sets_accumulator op || l.accumulator) (sets_index op || l.index) ≡ true → Does op
+      plain_good op e f =
+          let same_a = λ (q : sets_accumulator op ≡ false). read_same (reads_accumulator op) (sets_accumulator op) l.accumulator a s.accumulator q ha in
+          let same_x = λ (q : sets_index op ≡ false). read_same (reads_index op) (sets_index op) l.index x s.index q hx in
+          let to = fit 0 0 (sets_accumulator op || l.accumulator) (sets_index op || l.index) f in
+          does_both (Follows following is p n) op j i s a x e (ends following is) (lost following is)
+          (λ q v. to (record s { accumulator = v }) v _ (λ z. refl) (same_x q)) (λ q v. to (record s { index = v }) _ v (same_a q) (λ z. refl))
+          (λ q r m. to (record s { memory = m }) _ _ (same_a q) (same_x r))
 
-  -- the same instruction
-  same_good : (c is : List Insn) (ls : List Landing) (l : Landing) (all : AllLand c is ls) (low : l.place ≤ length c) (j i : Insn)
-      (op : Option Operation) → operation_of i.code ≡ op → same_step c op j l i ls ≡ true → (s : State) (a x : ℕ) → Same l.accumulator a s.accumulator
-      → Same l.index x s.index → AsGood (j ∷ code_from c (l.place - 1)) (i ∷ is) p n 0 0 (other s a x) s
-  unfolding same_step
-  same_good c is ls l all low j i None e f s a x ha hx = cc
-  same_good c is ls l all low j i (Some op) e f s a x ha hx =
-      let d = code_from c (l.place - 1) in
-      let q : (i.code ≡ j.code) × (i.k ≡ j.k) × ((not (reads_accumulator op) || l.accumulator) ≡ true) × ((not (reads_index op) || l.index) ≡ true)
-      × (goes_on c op j l i ls ≡ true) = grind (arith, nat_tests) in
-      let a_is = read_is (reads_accumulator op) a s.accumulator (implied_same (reads_accumulator op) l.accumulator a s.accumulator q.2 ha) in
-      let x_is = read_is (reads_index op) x s.index (implied_same (reads_index op) l.index x s.index q.3 hx) in
-      both (code_from c (l.place - 1)) is j i (other s a x) s _ _ (known_step p n j (Some op) (other s a x) (ap operation_of (sym q.0) ∙ e))
-      (known_step p n i (Some op) s e)
-      (subst (λ m. Follows (code_from c (l.place - 1)) is p n (does op (record j { k = m }) p n (other s a x)) (does op i p n s)) q.1
-      (subst (λ (v : ℕ). Follows (code_from c (l.place - 1)) is p n (does op (record j { k = i.k }) p n (other s v x)) (does op i p n s)) (sym a_is)
-      (subst (λ (v : ℕ). Follows (code_from c (l.place - 1)) is p n
-      (does op (record j { k = i.k }) p n (other s (read (reads_accumulator op) a s.accumulator) v)) (does op i p n s)) (sym x_is)
-      (does_good c is ls l all low op j i q.4 s a x ha hx))))
+      does_good : (op : Operation) → goes_on c op j l i ls ≡ true → Does op
+      does_good Jump f = cc
+      does_good (JumpIf o Constant) f = way i.jt i.jf j.jt j.jf f s s.accumulator x (λ z. refl) hx (test_holds o s.accumulator i.k)
+      does_good (JumpIf o IndexRegister) f = way i.jt i.jf j.jt j.jf f s s.accumulator s.index (λ z. refl) (λ z. refl)
+          (test_holds o s.accumulator s.index)
+      does_good ReturnConstant f = (λ b eb. eb, omega arith)
+      does_good ReturnAccumulator f = (λ b eb. eb, omega arith)
+      does_good op f = plain_good op refl f
+
+      -- the same instruction
+      same_good : (op : Option Operation) → operation_of i.code ≡ op → same_step c op j l i ls ≡ true
+          → AsGood (j ∷ following) (i ∷ is) p n 0 0 (other s a x) s
+      unfolding same_step
+      same_good None e f = cc
+      same_good (Some op) e f =
+          let q : (i.code ≡ j.code) × (i.k ≡ j.k) × ((not (reads_accumulator op) || l.accumulator) ≡ true) × ((not (reads_index op) || l.index) ≡ true)
+          × (goes_on c op j l i ls ≡ true) = grind (arith, nat_tests) in
+          let a_is = read_is (reads_accumulator op) a s.accumulator (implied_same (reads_accumulator op) l.accumulator a s.accumulator q.2 ha) in
+          let x_is = read_is (reads_index op) x s.index (implied_same (reads_index op) l.index x s.index q.3 hx) in
+          both following is j i (other s a x) s _ _ (known_step p n j (Some op) (other s a x) (ap operation_of (sym q.0) ∙ e))
+          (known_step p n i (Some op) s e)
+          (subst (λ m. Follows following is p n (does op (record j { k = m }) p n (other s a x)) (does op i p n s)) q.1
+          (rw (a_is, x_is) (does_good op q.4)))
 
   coded_step : (o : Operation) (j : Insn) (s : State) → j.code ≡ code_of o → step j p n s ≡ does o j p n s
   coded_step o j s e = known_step p n j (Some o) s (ap operation_of e ∙ code_is o)
@@ -290,33 +277,31 @@ module _ (p : List ℕ) (n : ℕ) where
       let q : (i.code ≡ 84) × (u.code ≡ 21) × (u.k ≡ 0) × (j.code ≡ 69) × (i.k ≡ j.k) × (l.accumulator ≡ true)
       × (lands_at c ls (1 + u.jt) (l.place - (1 + j.jf)) false l.index ≡ true)
       × (lands_at c ls (1 + u.jf) (l.place - (1 + j.jt)) false l.index ≡ true) = grind (arith, nat_tests) in
-      let s' : State = record s { accumulator = bit_and s.accumulator i.k } in
-      let z = bit_and s.accumulator i.k == 0 in
       let second = coded_step (JumpIf Test.Equal Constant) u s' q.1 ∙ ap (λ m. Goes (if bit_and s.accumulator i.k == m then u.jt else u.jf) s') q.2 in
       let new = coded_step (JumpIf Test.AnyBit Constant) j (other s a x) q.3
-      ∙ ap (λ m. Goes (if not (bit_and m j.k == 0) then j.jt else j.jf) (other s a x)) (ha q.5)
-      ∙ ap (λ m. Goes (if not (bit_and s.accumulator m == 0) then j.jt else j.jf) (other s a x)) (sym q.4) in
-      old_alone (j ∷ code_from c (l.place - 1)) (u ∷ is) i 0 (other s a x) s s' (coded_step (Compute AluOperation.And Constant) i s q.0)
-      (both (code_from c (l.place - 1)) is j u (other s a x) s' _ _ new second (ways q.6 q.7 z))
+      ∙ ap₂ (λ m k. Goes (if not (bit_and m k == 0) then j.jt else j.jf) (other s a x)) (ha q.5) (sym q.4) in
+      old_alone (j ∷ d) (u ∷ is) i 0 (other s a x) s s' (coded_step (Compute AluOperation.And Constant) i s q.0)
+      (both d is j u (other s a x) s' _ _ new second (ways (way u.jt j.jf q.6) (way u.jf j.jt q.7) (bit_and s.accumulator i.k == 0)))
     where
-      ways : lands_at c ls (1 + u.jt) (l.place - (1 + j.jf)) false l.index ≡ true → lands_at c ls (1 + u.jf) (l.place - (1 + j.jt)) false l.index ≡
-          true → (z : Bool) → AsGood (code_from c (l.place - 1)) is p n (if not z then j.jt else j.jf) (if z then u.jt else u.jf) (other s a x)
-          (record s { accumulator = bit_and s.accumulator i.k })
-      ways f g true =
-          let one : 1 + u.jt ≡ suc u.jt = omega arith in
-          subst (λ m. AsGood (code_from c (l.place - 1)) (u ∷ is) p n j.jf m (other s a x) (record s { accumulator = bit_and s.accumulator i.k })) one
-          (fit c (u ∷ is) ls l all low (1 + u.jt) j.jf false l.index f (record s { accumulator = bit_and s.accumulator i.k }) a x (λ q. cc) hx)
-      ways f g false =
-          let one : 1 + u.jf ≡ suc u.jf = omega arith in
-          subst (λ m. AsGood (code_from c (l.place - 1)) (u ∷ is) p n j.jt m (other s a x) (record s { accumulator = bit_and s.accumulator i.k })) one
-          (fit c (u ∷ is) ls l all low (1 + u.jf) j.jt false l.index g (record s { accumulator = bit_and s.accumulator i.k }) a x (λ q. cc) hx)
+      d : List Insn
+      d = code_from c (l.place - 1)
+
+      s' : State
+      s' = record s { accumulator = bit_and s.accumulator i.k }
+
+      way : (k far : ℕ) → lands_at c ls (1 + k) (l.place - (1 + far)) false l.index ≡ true → AsGood d is p n far k (other s a x) s'
+      way k far f =
+          let one : 1 + k ≡ suc k = omega arith in
+          subst (λ m. AsGood d (u ∷ is) p n far m (other s a x) s') one (fit c (u ∷ is) ls l all low (1 + k) far false l.index f s' a x (λ q. cc) hx)
+
+      ways : AsGood d is p n j.jf u.jt (other s a x) s' → AsGood d is p n j.jt u.jf (other s a x) s' → (z : Bool)
+          → AsGood d is p n (if not z then j.jt else j.jf) (if z then u.jt else u.jf) (other s a x) s'
+      ways f g true = f
+      ways f g false = g
 
   -- an instruction that is left out
   rejected : (j : Insn) (js : List Insn) (s : State) → rejects j ≡ true → (answer_of (j ∷ js) p n 0 s ≡ Some 0) × (steps_of (j ∷ js) p n 0 s ≡ 1)
-  rejected j js s e =
-      let q : (j.code ≡ 6) × (j.k ≡ 0) = grind (arith, nat_tests) in
-      let does = coded_step ReturnConstant j s q.0 in
-      (ap (answer_after (answer_of js p n)) does ∙ ap Some q.1, ap (λ o. suc (steps_after (steps_of js p n) o)) does)
+  rejected j js s e = grind (arith, nat_tests, coded_step ReturnConstant j s)
 
   module _ (c is : List Insn) (ls : List Landing) (l : Landing) (all : AllLand c is ls) (i : Insn) (s : State) (a x : ℕ)
       (ha : Same l.accumulator a s.accumulator) (hx : Same l.index x s.index) where
@@ -392,7 +377,7 @@ module _ (p : List ℕ) (n : ℕ) where
       elim (or_cases (same_step c op j l i ls || one_test c j l i is ls) (left_out c op j l i ls) f) [
         | inl g ↦
             subst (λ d. AsGood d (i ∷ is) p n 0 0 (other s a x) s) (sym whole) (elim (or_cases (same_step c op j l i ls) (one_test c j l i is ls) g) [
-              | inl h ↦ same_good c is ls l all low j i op refl h s a x ha hx
+              | inl h ↦ same_good c is ls l all low j i s a x ha hx op refl h
               | inr h ↦ one_good c is ls l all low j i h s a x ha hx
             ])
         | inr g ↦ left_good c is ls l all i s a x ha hx op j js e refl g

@@ -22,7 +22,7 @@ pub record Grows (c d : List Insn) (most : ℕ) : Type 0 where
   few : length d ≤ length c + most
 
 test_grows : (a b : Bool) (i : Insn) (hit miss : ℕ) (l : PlacedCode) → Grows l.code (with_test_by a b i hit miss l).code 3
-test_grows a b i hit miss l = record { more = grind arith; few = grind arith }
+test_grows a b i hit miss l = grind arith
 
 pub emitted_grows : (op : Option Operation) (i : Insn) (l : PlacedCode) → Grows l.code (with_insn op i l).code (1 + 2 * cond (is_branch op) 1 0)
 unfolding with_test
@@ -186,8 +186,7 @@ both_more h g = record {
 }
 
 pub way_more : (near : Bool) (to : ℕ) (l : PlacedCode) → Extends l (with_way near to l)
-way_more true to l = record { more = omega arith; places = refl; same = λ to p n s b. refl; ends = λ some. refl }
-way_more false to l = one_more _ l _
+way_more near to l = grind (arith, one_more)
 
 pub emitted_more : (o : Option Operation) (i : Insn) (l : PlacedCode) → Extends l (with_insn o i l)
 unfolding with_test
@@ -398,8 +397,7 @@ unfolding fault_of
 test_sound i t o jt jf c e yes_in no_in sound = (grind (arith, nat_tests), sound)
 
 way_sound : (near : Bool) (to : ℕ) (l : PlacedCode) → 0 < to → to ≤ length l.code → IsFaultless l.code → IsFaultless (with_way near to l).code
-way_sound true to l some within sound = sound
-way_sound false to l some within sound = jump_sound to l.code some within sound
+way_sound near to l some within sound = grind (arith, jump_sound)
 
 reached_sound : (a b : Bool) (i : Insn) (t : Test) (o : Operand) (hit miss : ℕ) (l : PlacedCode) → operation_of i.code ≡ Some (JumpIf t o) → 0 < hit
     → hit ≤ length l.code → 0 < miss → miss ≤ length l.code → IsFaultless l.code → IsFaultless (with_test_by a b i hit miss l).code

@@ -3,11 +3,11 @@
 use Rattle.flt_short.proofs.Common.{◌≡◌, ℕ, zero, suc, ◌+◌, ◌<◌, List, [], ◌∷◌, length, drop, Bool, true, false, Option, Some, None, refl, sym, ap, ◌∙◌, subst}
 use Rattle.flt_short.proofs.Common.{arith, if◌then◌else◌, slice_get, slice_set, bit_and, nat_tests, map, Insn, State, Operation, LoadAbsolute, LoadIndirect}
 use Rattle.flt_short.proofs.Common.{Load, LoadHeaderLength, Compute, Jump, JumpIf, Accumulator, Index, Immediate, Length, Constant, Next, Goes, does_if_known}
-use Rattle.flt_short.proofs.Common.{into, answer_of, answer_after, operand_value, test_holds, is_branch, not, Field, Held, IndexValue, Known, same_held}
-use Rattle.flt_short.proofs.Common.{same_index, IsOutcome, masked_held, load_of, held_after, is_free_by, is_free, known_step, count_by, get_or, cond, start}
-use Rattle.flt_short.proofs.Common.{does, goes_on_or_rejects, ends_in_return, known_after, loaded, loaded_at, IsThere, HeldHolds, IndexHolds, Holds, HoldsAt}
-use Rattle.flt_short.proofs.Common.{IsClaimAbout, Learns, Arrives, with_a, IsDecided, Passes, LeadsTo, Moves, Alike, IsThreaded, AreThreaded}
-use Rattle.flt_short.proofs.Knowing.{same_indexes, same_value, same_holds, loaded_by, loads_at, After, after, masks}
+use Rattle.flt_short.proofs.Common.{answer_of, answer_after, operand_value, test_holds, is_branch, not, Held, IndexValue, Known, same_held}
+use Rattle.flt_short.proofs.Common.{same_index, masked_held, load_of, held_after, is_free_by, is_free, known_step, count_by, get_or, cond, start}
+use Rattle.flt_short.proofs.Common.{does, goes_on_or_rejects, ends_in_return, known_after, IsThere, HeldHolds, Holds, HoldsAt}
+use Rattle.flt_short.proofs.Common.{Learns, Arrives, with_a, IsDecided, Passes, LeadsTo, Moves, Alike, IsThreaded, AreThreaded}
+use Rattle.flt_short.proofs.Knowing.{same_indexes, same_holds, loaded_by, loads_at, After, after, masks}
 use Rattle.flt_short.proofs.Likeness.{at_step}
 use Rattle.std.proofs.Common.{◌≤◌, ◌++◌, take, append_assoc}
 use Rattle.std.proofs.Math.Seq.{drop-cons}
@@ -19,7 +19,7 @@ use Rattle.flt_bpf.specs.{Check.fault_of, Instructions.operation_of}
 use Rattle.flt_bpf.specs.Machine.{step}
 use Rattle.flt_bpf.specs.declared.{operation.Width.Width}
 use Rattle.flt_bpf.specs.declared.operation.{AluOperation.AluOperation, Operand.Operand, Test.Test}
-use Rattle.flt_short.specs.{Threads.Threads, declared.facts.Claim.Claim, declared.thread.Spot.Spot}
+use Rattle.flt_short.specs.{Threads.Threads, declared.thread.Spot.Spot}
 use Rattle.flt_short.specs.declared.facts.Held.TheVariants as held
 
 module _ (p : List ℕ) (n : ℕ) where
@@ -40,63 +40,37 @@ module _ (p : List ℕ) (n : ℕ) where
       ∙ sym (ap (answer_after (answer_of is p n)) (known_step p n i (operation_of i.code) s refl))
 
 -- what a walk passes
-pub decides : (k : Known) (h : Held) (f : Field) (c : Claim) (number : ℕ) (b : Bool) → h ≡ held.Field f → IsClaimAbout k.facts f c
-    → IsOutcome c number b → IsDecided k h number b
-decides k h f c number b is about outcome p n s a holds x = outcome a (about p n a holds.facts (subst (λ z. HeldHolds p n z (with_a s a)) is x))
+pub decides_bits : (k : Known) (h : Held) (m : ℕ) (none : Bool) → IsDecided k Test.Equal 0 (masked_held h m) none
+    → IsDecided k Test.AnyBit m h (not none)
+decides_bits k h m none decided p n s a holds x = ap not (decided p n s (bit_and a m) holds (masks p n h m (bit_and a m) (with_a s a) x refl))
 
-pub passes_test : (k : Known) (i : Insn) (h : Held) (b : Bool) (far : ℕ) → operation_of i.code ≡ Some (JumpIf Test.Equal Constant)
-    → IsDecided k h i.k b → (if b then i.jt else i.jf) ≡ far → Passes k i h far
-passes_test k i h b far o decided there p n s a holds x = (
+pub passes_test : (k : Known) (i : Insn) (test : Test) (h : Held) (b : Bool) (far : ℕ) → operation_of i.code ≡ Some (JumpIf test Constant)
+    → IsDecided k test i.k h b → (if b then i.jt else i.jf) ≡ far → Passes k i h far
+passes_test k i test h b far o decided there p n s a holds x = (
   a,
-  known_step p n i (Some (JumpIf Test.Equal Constant)) (with_a s a) o ∙ ap (λ z. Goes (if z then i.jt else i.jf) (with_a s a))
+  known_step p n i (Some (JumpIf test Constant)) (with_a s a) o ∙ ap (λ z. Goes (if z then i.jt else i.jf) (with_a s a))
       (decided p n s a holds x) ∙ ap (λ m. Goes m (with_a s a)) there,
 )
 
-pub passes_bits : (k : Known) (i : Insn) (h : Held) (b : Bool) (far : ℕ) → operation_of i.code ≡ Some (JumpIf Test.AnyBit Constant)
-    → IsDecided k (masked_held h i.k) 0 b → (if not b then i.jt else i.jf) ≡ far → Passes k i h far
-passes_bits k i h b far o decided there p n s a holds x =
-    let bits = decided p n s (bit_and a i.k) holds (masks p n h i.k (bit_and a i.k) (with_a s a) x refl) in (
-      a,
-      known_step p n i (Some (JumpIf Test.AnyBit Constant)) (with_a s a) o ∙ ap (λ z. Goes (if not z then i.jt else i.jf) (with_a s a)) bits
-          ∙ ap (λ m. Goes m (with_a s a)) there,
-    )
-
 pub passes_load : (k : Known) (i : Insn) (h : Held) (w : Width) → operation_of i.code ≡ Some (LoadAbsolute w)
     → ((p : List ℕ) (n : ℕ) (s : State) → Holds p n k s → IsThere p n (load_of i IndexValue.Unknown)) → Passes k i h 0
-passes_load k i h w o there p n s a holds x =
-    let t = there p n s holds in (
-      t.0,
-      known_step p n i (Some (LoadAbsolute w)) (with_a s a) o ∙ ap (λ z. into Accumulator z (with_a s a))
-          (ap (λ z. loaded z p n IndexValue.Unknown i.k) (sym o) ∙ t.1),
-    )
+passes_load k i h w o there p n s a holds x = let t = there p n s holds in (t.0, grind (arith, t, known_step p n i _ (with_a s a) o))
 
 pub passes_known_at : (k : Known) (i : Insn) (h : Held) (w : Width) → operation_of i.code ≡ Some (LoadIndirect w)
     → ((p : List ℕ) (n : ℕ) (s : State) → Holds p n k s → IsThere p n (load_of i k.index)) → Passes k i h 0
-passes_known_at k i h w o there p n s a holds x =
-    let t = there p n s holds in
-    let is = loaded_by p n k.index s.index i.k t.0 w holds.x (ap (λ z. loaded z p n k.index i.k) (sym o) ∙ t.1) in
-    (t.0, known_step p n i (Some (LoadIndirect w)) (with_a s a) o ∙ ap (λ z. into Accumulator z (with_a s a)) is)
+passes_known_at k i h w o there p n s a holds x = let t = there p n s holds in (t.0, grind (arith, t, loaded_by, known_step p n i _ (with_a s a) o))
 
 pub passes_load_at : (k : Known) (i : Insn) (h : Held) (w : Width) → operation_of i.code ≡ Some (LoadIndirect w) → same_held (held.AtIndex i.code i.k)
     k.held ≡ true → Passes k i h 0
-passes_load_at k i h w o e p n s a holds x = (
-  s.accumulator,
-  known_step p n i (Some (LoadIndirect w)) (with_a s a) o ∙ ap (λ z. into Accumulator z (with_a s a))
-      (ap (λ z. loaded_at z p s.index i.k) (sym o) ∙ same_holds p n (held.AtIndex i.code i.k) k.held s e holds.a),
-)
+passes_load_at k i h w o e p n s a holds x = (s.accumulator, grind (arith, same_holds, known_step p n i _ (with_a s a) o))
 
 pub passes_header : (k : Known) (i : Insn) (h : Held) → operation_of i.code ≡ Some LoadHeaderLength
     → same_index k.index (IndexValue.HeaderLength i.k) ≡ true → Passes k i h 0
-passes_header k i h o e p n s a holds x =
-    let is : IndexHolds p (IndexValue.HeaderLength i.k) s.index = subst (λ z. IndexHolds p z s.index)
-    (same_indexes k.index (IndexValue.HeaderLength i.k) e) holds.x in
-    (a, known_step p n i (Some LoadHeaderLength) (with_a s a) o ∙ ap (λ z. into Index z (with_a s a)) is)
+passes_header k i h o e p n s a holds x = (a, grind (arith, same_indexes, known_step p n i _ (with_a s a) o))
 
 pub passes_number : (k : Known) (i : Insn) (h : Held) → operation_of i.code ≡ Some (Load Index Immediate)
     → same_index k.index (IndexValue.Number i.k) ≡ true → Passes k i h 0
-passes_number k i h o e p n s a holds x =
-    let is : IndexHolds p (IndexValue.Number i.k) s.index = subst (λ z. IndexHolds p z s.index) (same_indexes k.index (IndexValue.Number i.k) e) holds.x in
-    (a, known_step p n i (Some (Load Index Immediate)) (with_a s a) o ∙ ap (λ z. into Index z (with_a s a)) is)
+passes_number k i h o e p n s a holds x = (a, grind (arith, same_indexes, known_step p n i _ (with_a s a) o))
 
 pub passes_length : (k : Known) (i : Insn) (h : Held) → operation_of i.code ≡ Some (Load Accumulator Length) → Passes k i h 0
 passes_length k i h o p n s a holds x = (n, known_step p n i (Some (Load Accumulator Length)) (with_a s a) o)
@@ -143,10 +117,7 @@ forks_on k c spot best here found i g branch near by_yes by_no p n s a holds x e
 
 -- A is as at the start of the walk, or doesn't matter
 a_same : (p : List ℕ) (n : ℕ) (s : State) (g h : Held) (a : ℕ) → same_held g h ≡ true → HeldHolds p n g (with_a s a) → HeldHolds p n h s → a ≡ s.accumulator
-a_same p n s (held.Field f) (held.Field g) a e x y = (let one : Some a ≡ Some s.accumulator = sym x ∙ same_value p n f g e ∙ y in cc)
-a_same p n s (held.AtIndex d m) (held.AtIndex f j) a e x y =
-    (let one : Some a ≡ Some s.accumulator = sym x ∙ same_holds p n (held.AtIndex d m) (held.AtIndex f j) s e y in cc)
-a_same p n s _ _ a e x y = cc
+a_same p n s g h a e x y = let z = same_holds p n g h s e y in grind arith
 
 pub stops_same : (k : Known) (c : List Insn) (spot : Spot) (best : ℕ) → same_held spot.held k.held ≡ true → LeadsTo k c spot best spot.place
 stops_same k c spot best same p n s a holds x e = sym (ap (λ m. answer_of c p n spot.place (with_a s m)) (a_same p n s spot.held k.held a same x holds.a)) ∙ e

@@ -506,11 +506,11 @@ pub fn learn(known: &mut Known, insn: Wide, outcome: bool)
     }
 }
 
-/// The most instructions of code whose states lie on the stack, so that threading it takes no
-/// memory: about 220 bytes for each.
+/// The most instructions whose states are kept on the stack, about 220 bytes for each, so that
+/// threading them allocates no memory.
 pub const FEW: usize = 16;
 
-/// The state at a place; past the end of the states `nothing`, in which nothing is known.
+/// The state at a place; if there is none, `nothing`, a state in which nothing is known.
 pub fn known_at<'a>(seen: &'a [Known], place: usize, nothing: &'a Known) -> &'a Known
     ensures { (p : List ℕ) (n : ℕ) (s : State)
         → HoldsAt p n seen.now place s → Holds p n nothing.now s → Holds p n result.now s }

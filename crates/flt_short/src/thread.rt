@@ -14,7 +14,7 @@ ghost use Rattle.std.specs.Prelude.{IfOk, ◌≡◌, ◌<◌, ◌≤◌, ◌^◌
 ghost use Rattle.flt_bpf.specs.Instructions.{operation_of};
 ghost use Rattle.flt_bpf.specs.declared.operation.Operand.TheVariants.{Constant};
 ghost use Rattle.flt_bpf.specs.declared.operation.Operation.TheVariants.{JumpIf};
-ghost use Rattle.flt_bpf.specs.declared.operation.Test.TheVariants.{Equal, AnyBit};
+ghost use Rattle.flt_bpf.specs.declared.operation.Test.TheVariants.{Equal};
 ghost use Rattle.flt_short.specs.Threads.{Threads};
 ghost use Rattle.flt_short.specs.inside.Threads.{IsDecided, Passes, is_free, LeadsTo, GoesOn};
 ghost use Rattle.flt_short.specs.inside.Threads.{Moves, IsThreaded};
@@ -54,7 +54,7 @@ pub struct Spot {
 
 /// Whether A is this number if it is `held`; `None` if the facts don't decide it.
 fn is_number(known: &Known, held: &Held, number: u32) -> Option<bool>
-    ensures { IfSome result (λ outcome. IsDecided known.now held.now number outcome) }
+    ensures { IfSome result (λ outcome. IsDecided known.now Equal number held.now outcome) }
 {
     let Held::Field(field) = held else {
         return None;
@@ -62,27 +62,29 @@ fn is_number(known: &Known, held: &Held, number: u32) -> Option<bool>
     outcome_by_claim(claim_about(&known.facts, field, number), number)
 }
 
-/// How many instructions a test for equality with a constant skips if A is `held`; `None` if the
-/// facts don't decide it.
-fn skipped_by_test(known: &Known, insn: Wide, held: &Held) -> Option<u32>
-    ensures { operation_of insn.code ≡ Some (JumpIf Equal Constant)
-        → IfSome result (λ skipped. Passes known.now insn held.now skipped) }
+/// The outcome of a test of A and a number if A is `held`; `None` if the facts don't decide it.
+fn outcome_of(known: &Known, test: Test, number: u32, held: &Held) -> Option<bool>
+    ensures { IfSome result (λ outcome. IsDecided known.now test number held.now outcome) }
 {
-    match is_number(known, held, insn.k) {
-        Some(true) => Some(insn.yes),
-        Some(false) => Some(insn.no),
-        None => None,
+    match test {
+        Test::Equal => is_number(known, held, number),
+        Test::AnyBit => match is_number(known, &masked_held(*held, number), 0) {
+            Some(is_zero) => Some(!is_zero),
+            None => None,
+        },
+        _ => None,
     }
 }
 
-/// How many instructions a test of bits skips if A is `held`; `None` if the facts don't decide it.
-fn skipped_by_bits(known: &Known, insn: Wide, held: &Held) -> Option<u32>
-    ensures { operation_of insn.code ≡ Some (JumpIf AnyBit Constant)
+/// How many instructions a test with a constant skips if A is `held`; `None` if the facts don't
+/// decide it.
+fn skipped_by_test(known: &Known, insn: Wide, test: Test, held: &Held) -> Option<u32>
+    ensures { operation_of insn.code ≡ Some (JumpIf test Constant)
         → IfSome result (λ skipped. Passes known.now insn held.now skipped) }
 {
-    match is_number(known, &masked_held(*held, insn.k), 0) {
-        Some(true) => Some(insn.no),
-        Some(false) => Some(insn.yes),
+    match outcome_of(known, test, insn.k, held) {
+        Some(true) => Some(insn.yes),
+        Some(false) => Some(insn.no),
         None => None,
     }
 }
@@ -95,11 +97,8 @@ fn skipped_after(known: &Known, insn: Wide, held: &Held) -> Option<u32>
     ensures { IfSome result (λ skipped. Passes known.now insn held.now skipped) }
 {
     match decode(insn.code) {
-        Some(Operation::JumpIf(Test::Equal, Operand::Constant)) => {
-            skipped_by_test(known, insn, held)
-        }
-        Some(Operation::JumpIf(Test::AnyBit, Operand::Constant)) => {
-            skipped_by_bits(known, insn, held)
+        Some(Operation::JumpIf(test, Operand::Constant)) => {
+            skipped_by_test(known, insn, test, held)
         }
         Some(Operation::LoadAbsolute(_))
             if is_captured(known, &load_of(insn, IndexValue::Unknown)) => { Some(0) }
@@ -195,7 +194,7 @@ fn is_reached(seen: &[Known], place: usize) -> bool {
     }
 }
 
-/// Whether the instruction at a place is a return. No walk goes past it, so none need be tried.
+/// Whether the instruction at a place is a return. A walk from there would stay there.
 fn is_return_at(code: &[Wide], place: usize) -> bool {
     match code.get(place) {
         Some(insn) => is_return(insn.code),
@@ -203,10 +202,10 @@ fn is_return_at(code: &[Wide], place: usize) -> bool {
     }
 }
 
-/// The end of the last of some walks, each of which begins at the end of the one before it. None
-/// follows one that ends at its beginning. After `WALKS` of them the result is the last of these
-/// ends that is reached already, since code for no other path is kept then. If none is, walks go on
-/// while some are `left` of those that all targets share.
+/// The end of a chain of walks: each begins at the end of the one before it, and the last one stays
+/// at its beginning. If there are more than `WALKS`, it is the last of their ends that another path
+/// reaches too, since that code is kept anyway. If there is none, the chain goes on while some are
+/// `left` of the walks that all targets share.
 fn last_place(known: &Known, code: &[Wide], from: usize, seen: &[Known], left: &mut usize) -> usize
     ensures { GoesOn known.now code.now from result }
 {
@@ -355,8 +354,8 @@ fn repeats_a_load(insns: &[Wide]) -> bool {
     false
 }
 
-/// Threads at most `FEW` instructions, with their states on the stack. The states are filled first,
-/// so there are no more than needed; the last two instructions, the returns, need none.
+/// Threads at most `FEW` instructions, with their states on the stack: one for each but the last
+/// two, which are returns. All states are filled at first, so there are few more than that.
 fn thread_few(insns: &mut [Wide])
     ensures { Threads insns.new insns.old }
 {

@@ -1,4 +1,4 @@
-//! What the file header, of 24 bytes, and a record of a pcap capture say, though they are refused.
+//! What the file header and a record of pcap state, even if they fail a check.
 ghost use Rattle.std.specs.Prelude.{◌≡◌, ◌≤◌, length};
 ghost use Rattle.cap_pcap.specs.Record.{record_size};
 ghost use Rattle.capkit_c.specs.Skipping.{head_by_low_bits};

@@ -124,8 +124,7 @@ pub fn next_unit(
         entries: table,
         count,
     };
-    // Apart from the other units, though `unit_in` finds records too: so the compiler knows that each
-    // has a packet.
+    // `unit_in` finds records too, but the compiler doesn't know there that each has a packet.
     if let FileState::Pcap(head) = form {
         return match record_in(&head, text) {
             Ok(spans) => {

@@ -44,9 +44,9 @@ impl Interfaces for KnownInterfaces<'_> {
     }
 }
 
-/// Enters the interface that a block adds to the first `count` of a table, and returns how many the
-/// section has after the block. `None` if the table has no room for it: then nothing changes, nor
-/// is one added to a table of `count`.
+/// Appends the interface that a block describes, if it does, to the first `count` of a table, and
+/// returns how many the section has after the block. `None` if the table has no room for it: it is
+/// unchanged then.
 pub(crate) fn enter(table: &mut [Interface], count: usize, effect: BlockEffect<'_>) -> Option<usize>
     requires { count ≤ length table.old }
     ensures entered { IfSome result (λ after. first_interfaces after table.new

@@ -185,7 +185,7 @@ same_width HalfWord HalfWord = true
 same_width Byte Byte = true
 same_width _ _ = false
 
--- there is no mask twice, or the same one
+-- both masks are the same, or there is none
 abbrev pub same_mask : Option ℕ → Option ℕ → Bool
 same_mask None None = true
 same_mask (Some j) (Some k) = j == k
@@ -214,8 +214,8 @@ nothing = Outcome false
 abbrev pub emit_elementary : Elementary → ℕ → ℕ → List Insn → Block
 emit_elementary t hit miss c = emit_test nothing t hit miss c
 
--- the code of a formula that goes on at one of two places. It comes right after a test, which may
--- have left its field in A: that counts for a test by which one of two formulas is chosen
+-- the code of a formula that goes on at one of two places, right after a test. If A still holds the
+-- field of that test, a test by which one of two formulas is chosen doesn't load it again
 abbrev pub emit_after : Elementary → Link → Formula → ℕ → ℕ → List Insn → Block
 emit_after held link (Single t) hit miss c = emit_elementary t hit miss c
 emit_after held link (Compare comparison l r) hit miss c =

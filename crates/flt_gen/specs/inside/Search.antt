@@ -25,10 +25,11 @@ pub record Numbers : Type 0 where
 abbrev pub field_test : FieldPlace → Comparison → ℕ → Elementary
 field_test f comparison value = compares_under f.mask f.offset f.width comparison value
 
--- no packet, and each
+-- no packet matches
 abbrev pub never : Formula
 never = Single (Outcome false)
 
+-- each packet matches
 abbrev pub always : Formula
 always = Single (Outcome true)
 

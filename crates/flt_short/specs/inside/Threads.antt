@@ -1,12 +1,12 @@
 -- Jump threading, as `thread.rt` does it: the targets of tests are moved further on. In a walk a
 -- place is an index of the code c that follows the test, k is the state at the start of the walk, h
 -- the value of A after the passed instructions, and i an instruction.
-use Rattle.std.specs.Prelude.{◌≡◌, ℕ, ◌+◌, ◌<◌, Bool, true, false, ◌&&◌, ◌||◌, not, List, [], ◌∷◌, length, map, Option, Some, None, ◌==◌}
+use Rattle.std.specs.Prelude.{◌≡◌, ℕ, ◌+◌, ◌<◌, Bool, true, false, ◌&&◌, ◌||◌, not, List, [], ◌∷◌, length, map, Option, Some, None}
 use Rattle.flt_bpf.specs.{Answer.answer_of, Check.fault_of, Check.IsFaultless}
-use Rattle.flt_bpf.specs.{Instructions.operation_of, Machine.Goes, Machine.step}
+use Rattle.flt_bpf.specs.{Instructions.operation_of, Machine.Goes, Machine.step, Machine.test_holds}
 use Rattle.flt_bpf.specs.Registers.{reads_accumulator, sets_accumulator}
 use Rattle.flt_bpf.specs.declared.{insn.Insn.Insn, machine.State.State}
-use Rattle.flt_bpf.specs.declared.operation.Operation.{Operation}
+use Rattle.flt_bpf.specs.declared.operation.{Operation.Operation, Test.Test}
 use Rattle.flt_bpf.specs.declared.operation.Operation.TheVariants.{Jump, JumpIf, ReturnConstant}
 use Rattle.flt_short.specs.declared.{facts.Held.Held, facts.Known.Known, thread.Spot.Spot}
 use Rattle.flt_short.specs.inside.Facts.{HeldHolds, Holds, HoldsAt}
@@ -15,10 +15,10 @@ use Rattle.flt_short.specs.inside.Facts.{HeldHolds, Holds, HoldsAt}
 abbrev pub with_a : State → ℕ → State
 with_a s a = record s { accumulator = a }
 
--- in a run with the state k, in which A is h instead, whether A is a number has this outcome
-abbrev pub IsDecided : Known → Held → ℕ → Bool → Type 0
-IsDecided k h number outcome = (p : List ℕ) (n : ℕ) (s : State) (a : ℕ)
-    → Holds p n k s → HeldHolds p n h (with_a s a) → (a == number) ≡ outcome
+-- in a run with the state k, in which A is h instead, the test of A and a number has this outcome
+abbrev pub IsDecided : Known → Test → ℕ → Held → Bool → Type 0
+IsDecided k test number h outcome = (p : List ℕ) (n : ℕ) (s : State) (a : ℕ)
+    → Holds p n k s → HeldHolds p n h (with_a s a) → test_holds test a number ≡ outcome
 
 -- in a run with the state k, in which A is h instead, the instruction goes on past `skipped` others
 -- and changes only A

@@ -1,6 +1,9 @@
 -- The programs so far and the next one are right, and haven't run.
-use Rattle.cap_filter.proofs.Common.{◌≡◌, ◌++◌, ◌∷◌, [], All, List, sym, subst, take_more, Content, Link, Ether, AreMade}
-use Rattle.cap_filter.proofs.Filters.{fresh-put, made-put}
+use Rattle.std.proofs.Common.{◌≡◌, ◌++◌, ◌∷◌, [], All, List, sym, subst}
+use Rattle.std.proofs.lemmas.List.{take_more}
+use Rattle.flt_bpf.specs.Content.{Content}
+use Rattle.cap_octet.specs.declared.{link.Link.Link, link.Link.TheVariants.Ether}
+use Rattle.cap_filter.{specs.Programs.AreMade, proofs.Filters.fresh-put, proofs.Filters.made-put}
 use Rattle.cap_filter.proofs.compiled.make_programs.Goals as goal
 
 pub loop-link-preserved : goal.loop-link-preserved

@@ -1,5 +1,7 @@
 -- Each link type so far has a right program, which hasn't run.
-use Rattle.cap_filter.proofs.Common.{◌≡◌, All, take, Content, AreMade}
+use Rattle.std.proofs.Common.{◌≡◌, All, take}
+use Rattle.flt_bpf.specs.Content.{Content}
+use Rattle.cap_filter.specs.Programs.{AreMade}
 use Rattle.cap_filter.proofs.compiled.make_programs.Given as goal
 
 abbrev pub invariant-loop-link : goal.invariant-loop-link

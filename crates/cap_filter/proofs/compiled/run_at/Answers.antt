@@ -1,6 +1,8 @@
 -- The program at a place runs as the machine does, and the others don't change.
-use Rattle.cap_filter.proofs.Common.{◌≡◌, subst, get_or_default, captured, Content, Answered, met_on}
-use Rattle.cap_filter.proofs.Filters.{set-ran}
+use Rattle.std.proofs.{Common.◌≡◌, Common.subst, lemmas.List.get_or_default}
+use Rattle.cap_octet.specs.Packet.{captured}
+use Rattle.flt_bpf.specs.{Content.Content, Machine.Answered}
+use Rattle.cap_filter.{specs.Programs.met_on, proofs.Filters.set-ran}
 use Rattle.cap_filter.proofs.compiled.run_at.Goals as goal
 
 pub returns-clause-answer : goal.returns-clause-answer

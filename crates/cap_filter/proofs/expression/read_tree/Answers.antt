@@ -1,5 +1,6 @@
 -- A text has a tree if the lexer and the parser accept it; otherwise one of them refuses it.
-use Rattle.cap_filter.proofs.Common.{List, Ok, sym, subst, Token, Tokens}
+use Rattle.std.proofs.Common.{List, Ok, sym, subst}
+use Rattle.flt_words.specs.{declared.token.Token.Token, Tokens.Tokens}
 use Rattle.cap_filter.proofs.Expressions.{lexed-reason, parsed-reads, parsed-refused}
 use Rattle.cap_filter.proofs.expression.read_tree.Goals as goal
 

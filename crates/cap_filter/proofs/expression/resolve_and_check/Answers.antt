@@ -1,6 +1,7 @@
 -- A tree is accepted if its qualifiers can be completed and the checks find no fault; otherwise one
 -- of the two refuses it.
-use Rattle.cap_filter.proofs.{Common.inl, Expressions.settled-ok, Expressions.settled-refused}
+use Rattle.std.proofs.Common.{inl}
+use Rattle.cap_filter.proofs.Expressions.{settled-ok, settled-refused}
 use Rattle.cap_filter.proofs.expression.resolve_and_check.Goals as goal
 
 pub returns-in-Ok-clause-settled : goal.returns-in-Ok-clause-settled

@@ -1,6 +1,8 @@
 -- A packet is kept if the window doesn't have its mark.
-use Rattle.cap_process.proofs.Common.{Option, None, not, Ok, subst, sym, Captured, captured, WindowView, unique, marks_in, state_of, IsWindowFor}
-use Rattle.cap_process.proofs.Common.{ReturnsVerdict}
+use Rattle.std.proofs.Common.{Option, None, not, Ok, subst, sym}
+use Rattle.cap_octet.specs.Packet.{Captured, captured}
+use Rattle.cap_process.specs.{Window.WindowView, Verdict.unique, Selector.marks_in, Selector.state_of}
+use Rattle.cap_process.specs.inside.Selector.{IsWindowFor, ReturnsVerdict}
 use Rattle.cap_process.proofs.Selectors.{unique-keeps}
 use Rattle.cap_process.proofs.edit.mark_and_check_unique.Goals as goal
 

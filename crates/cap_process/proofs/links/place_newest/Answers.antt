@@ -1,6 +1,8 @@
 -- The newest mark goes on top of its tree, and each mark that it displaces moves one level down.
-use Rattle.cap_process.proofs.Common.{◌≡◌, ◌==◌, ◌∙◌, ℕ, zero, suc, true, false, ◌-◌, ◌<◌, sym, ap, refl, arith, length, not, length-set, get_or_from_slice_get}
-use Rattle.cap_process.proofs.Common.{option_copied, mark_bit, links_at, mark_at}
+use Rattle.std.proofs.Common.{◌≡◌, ◌==◌, ◌∙◌, ℕ, zero, suc, true, false, ◌-◌, ◌<◌, sym, ap, refl, arith, length, not}
+use Rattle.std.proofs.lemmas.List.{length-set}
+use Rattle.cap_process.specs.inside.Index.{mark_bit, links_at, mark_at}
+use Rattle.cap_process.proofs.Marks.{got}
 use Rattle.cap_process.proofs.Trees.{after_links, placing_end, placing_equal, placing_next, step_at}
 use Rattle.cap_process.proofs.links.place_newest.Goals as goal
 
@@ -24,12 +26,10 @@ returns-then-is_same_mark-clause-placed g c = λ some mask hung.
     let marks = c.args.marks.now.items in
     let place = c.loop-step.place in
     let top = place - c.loop-step.step in
-    let above : mark_at marks place ≡ c.unwrap-above.result.now =
-    get_or_from_slice_get marks place c.unwrap-above.result.now _ (sym c.get.ensures ∙ ap option_copied c.unwrap-above.ensures) in
-    let below : mark_at marks top ≡ c.unwrap-below.result.now =
-    get_or_from_slice_get marks top c.unwrap-below.result.now _ (sym c.get-in-loop-step.ensures ∙ ap option_copied c.unwrap-below.ensures) in
+    let above : mark_at marks place ≡ c.unwrap-above.result.now = got marks place _ _ _ c.get.ensures c.unwrap-above.ensures in
+    let below : mark_at marks top ≡ c.unwrap-below.result.now = got marks top _ _ _ c.get-in-loop-step.ensures c.unwrap-below.ensures in
     let under : links_at c.loop-step.links.items top ≡ c.unwrap.result.now =
-    get_or_from_slice_get c.loop-step.links.items top c.unwrap.result.now _ (sym c.get-in-loop-step-2.ensures ∙ ap option_copied c.unwrap.ensures) in
+    got c.loop-step.links.items top _ _ _ c.get-in-loop-step-2.ensures c.unwrap.ensures in
     placing_equal (c.loop-step.invariant.placing mask hung) c.plus_step.result (omega arith) (omega arith) (omega arith) (omega arith)
     (above ∙ c.is_same_mark.ensures.0 c.if-is_same_mark.true ∙ sym below)
     (rw under (after_links c.unwrap.result.now c.plus_step.result c.loop-step.step c.plus_step.ensures.zeros c.plus_step.ensures.ones))
@@ -39,10 +39,9 @@ loop-step-preserved g c =
     let marks = c.args.marks.now.items in
     let place = c.loop-step.place in
     let top = place - c.loop-step.step in
-    let below : mark_at marks top ≡ c.unwrap-below.result.now =
-    get_or_from_slice_get marks top c.unwrap-below.result.now _ (sym c.get-in-loop-step.ensures ∙ ap option_copied c.unwrap-below.ensures) in
+    let below : mark_at marks top ≡ c.unwrap-below.result.now = got marks top _ _ _ c.get-in-loop-step.ensures c.unwrap-below.ensures in
     let under : links_at c.loop-step.links.items top ≡ c.unwrap.result.now =
-    get_or_from_slice_get c.loop-step.links.items top c.unwrap.result.now _ (sym c.get-in-loop-step-2.ensures ∙ ap option_copied c.unwrap.ensures) in
+    got c.loop-step.links.items top _ _ _ c.get-in-loop-step-2.ensures c.unwrap.ensures in
     let bit = c.mark_bit-bit.result in
     let step = step_at (c.loop-step.invariant.placing (c.requires.hung (omega arith)).0 (c.requires.hung (omega arith)).1) in
     record {

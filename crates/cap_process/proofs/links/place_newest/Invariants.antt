@@ -1,6 +1,6 @@
 -- The mark at `place` is about to displace the one `step` places before it.
-use Rattle.cap_process.proofs.Common.{◌≡◌, ℕ, ◌+◌, ◌-◌, ◌<◌, length, IsHung}
-use Rattle.cap_process.proofs.Trees.{IsPlacing}
+use Rattle.std.proofs.Common.{◌≡◌, ℕ, ◌+◌, ◌-◌, ◌<◌, length}
+use Rattle.cap_process.{specs.inside.Index.IsHung, proofs.Trees.IsPlacing}
 use Rattle.cap_process.proofs.links.place_newest.Given as goal
 
 abbrev pub decreases-loop-step : goal.decreases-loop-step

@@ -1,5 +1,6 @@
 -- The parts that are written are the report's lines of sizes.
-use Rattle.cap_process.proofs.Common.{refl, appends-as}
+use Rattle.std.proofs.Common.{refl}
+use Rattle.cap_io.proofs.Parts.{appends-as}
 use Rattle.cap_process.proofs.report.write_sizes.Goals as goal
 
 pub returns-clause-exact : goal.returns-clause-exact

@@ -1,7 +1,5 @@
 -- Closing an input reports on it if the job counts, and changes nothing else.
-use Rattle.cap_tools.proofs.Coming.{get-input}
-use Rattle.cap_tools.proofs.Common.{◌≡◌, ℕ, List, Option, true, sym, ◌∙◌, ap₂, subst, is_in_turn, Reports, Tally, file_report, is_count, TakesTally}
-use Rattle.cap_tools.proofs.Common.{policy_state}
+use Rattle.cap_tools.proofs.Common.{◌≡◌, true, sym, ◌∙◌, ap₂, is_in_turn, is_count, get-input, policy_state}
 use Rattle.cap_tools.proofs.Fetches.{closes-by, counted, uncounted, unreported}
 use Rattle.cap_process.proofs.Selectors.{closes-policy}
 use Rattle.cap_tools.proofs.step.close.Goals as goal
@@ -9,7 +7,6 @@ use Rattle.cap_tools.proofs.step.close.Goals as goal
 pub returns-clause-exact : goal.returns-clause-exact
 returns-clause-exact g c = λ to.
     let turn : is_in_turn c.args.inputs.now.order ≡ true = sym c.is_in_turn.ensures ∙ c.if-not-is_in_turn.false in
-    let F : List ℕ → Type 0 = λ n. Reports (file_report n c.kind.result c.offset.result c.in-Some.tally) c.args.output.now c.report.result c.report.new.self in
     record {
       cursor = c.cursor-cursor.result.now;
       among = get-input c.args.inputs.now.cursors c.args.input c.cursor-cursor.result.now c.cursor-cursor.ensures;
@@ -17,7 +14,7 @@ returns-clause-exact g c = λ to.
           (policy_state c.close.new.self) c.args.messages.now.names c.args.output.now c.report.new.self c.unless_failed.result c.in-Some.tally _
           c.report.result turn
           c.in-Some.ensures.closes (ap₂ (λ k n. record { input = c.args.input; kind = k; size = n; tally = c.in-Some.tally }) c.kind.ensures
-          c.offset.ensures) (subst F c.name.ensures (c.report.ensures.exact to)) c.unless_failed.ensures;
+          c.offset.ensures) (rw c.name.ensures at (c.report.ensures.exact to)) c.unless_failed.ensures;
     }
 
 pub returns-clause-policy : goal.returns-clause-policy
@@ -42,11 +39,9 @@ returns-then-not-is_in_turn-clause-exact g c = λ to.
 pub returns-in_default-clause-exact : goal.returns-in_default-clause-exact
 returns-in_default-clause-exact g c = λ to.
     let turn : is_in_turn c.args.inputs.now.order ≡ true = sym c.is_in_turn.ensures ∙ c.if-not-is_in_turn.false in
-    let T : Option Tally → Type 0 = λ r. TakesTally (is_count c.args.selector.now.policy) (policy_state c.args.selector.now) r
-    (policy_state c.close.new.self) in
     record {
       cursor = c.cursor-cursor.result.now;
       among = get-input c.args.inputs.now.cursors c.args.input c.cursor-cursor.result.now c.cursor-cursor.ensures;
       by = uncounted c.args.inputs.now.order c.args.input c.cursor-cursor.result.now (policy_state c.args.selector.now)
-          (policy_state c.close.new.self) c.args.messages.now.names c.args.output.now turn (subst T c.in_default.is c.close.ensures.closes);
+          (policy_state c.close.new.self) c.args.messages.now.names c.args.output.now turn (rw c.in_default.is at c.close.ensures.closes);
     }

@@ -1,7 +1,7 @@
 -- A packet goes to the capture or to the lines; a text output ignores it.
-use Rattle.cap_process.proofs.Common.{ℕ, List, refl, Lines}
+use Rattle.std.proofs.Common.{ℕ, List, refl, ap₂, rules}
+use Rattle.cap_process.specs.Output.{Lines}
 use Rattle.cap_process.proofs.output.JobOutput.put.Goals.{in-Capture, in-Text, in-Lines}
-use Rattle.std.proofs.Common.{ap₂, rules}
 use Rattle.cap_process.proofs.output.JobOutput.put.Goals as goal
 
 pub returns-clause-exact : goal.returns-clause-exact

@@ -1,5 +1,6 @@
 -- A flush changes nothing of what contracts see of an output.
-use Rattle.cap_process.proofs.Common.{ap, refl, Capture}
+use Rattle.std.proofs.Common.{ap, refl}
+use Rattle.cap_process.specs.Output.{Capture}
 use Rattle.cap_process.proofs.output.JobOutput.release.Goals.{in-Capture, in-Text, in-Lines}
 use Rattle.cap_process.proofs.output.JobOutput.release.Goals as goal
 

@@ -1,7 +1,7 @@
 -- A report goes to the text output; the other outputs ignore it.
-use Rattle.cap_process.proofs.Common.{ℕ, List, refl, Text}
+use Rattle.std.proofs.Common.{ℕ, List, refl, ap₂}
+use Rattle.cap_process.specs.Output.{Text}
 use Rattle.cap_process.proofs.output.JobOutput.report.Goals.{in-Capture, in-Text, in-Lines}
-use Rattle.std.proofs.Common.{ap₂}
 use Rattle.cap_process.proofs.output.JobOutput.report.Goals as goal
 
 pub returns-clause-exact : goal.returns-clause-exact

@@ -1,5 +1,6 @@
 -- The mark isn't in the window from place `limit` on.
-use Rattle.cap_process.proofs.Common.{◌+◌, ◌≤◌, length, IsWay, Lacks}
+use Rattle.std.proofs.Common.{◌+◌, ◌≤◌, length}
+use Rattle.cap_process.specs.inside.Index.{IsWay, Lacks}
 use Rattle.cap_process.proofs.window.Window.contains.Given as goal
 
 abbrev pub decreases-loop-step : goal.decreases-loop-step

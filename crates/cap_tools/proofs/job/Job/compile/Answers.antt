@@ -1,22 +1,20 @@
 -- A compilation writes the listing, or refuses the expression, in its only step.
 use Rattle.cap_tools.proofs.CommandStarts.{first-step, lists-some, refused-step}
-use Rattle.cap_tools.proofs.Common.{ℕ, List, inr, ap, subst, string_bytes, spent_in, Compiles, IsCompiled}
+use Rattle.cap_tools.proofs.Common.{inr, ap, string_bytes, spent_in, Compiles}
 use Rattle.cap_filter.specs.{Expressions.IsTextFault, declared.filter.Refusal.TheVariants.Expression}
 use Rattle.cap_tools.proofs.job.Job.compile.Goals as goal
 
 pub returns-in-Ok : goal.returns-in-Ok
 returns-in-Ok g c =
-    let P : List ℕ → Type 0 = λ text. IsCompiled text c.args.compile.now.link c.in-Ok.program.insns in
     first-step g.I.Input.tells g.O.Output.tells g.E.Output.tells (Compiles (string_bytes c.args.compile.now.expr) c.args.compile.now.link)
     c.args.self.now c.list.result c.list.new.self c.requires.fresh
     (λ to. lists-some g.E.Output.tells _ c.args.compile.now.link c.in-Ok.program.insns _ c.args.self.now c.list.new.self c.list.result
-    (subst P c.as_str.ensures.value c.in-Ok.ensures.compiled) (c.list.ensures.exact to)) c.list.ensures.keeps
+    (rw c.as_str.ensures.value at c.in-Ok.ensures.compiled) (c.list.ensures.exact to)) c.list.ensures.keeps
     (record { inputs = c.list.ensures.reads.inputs; decided = c.list.ensures.reads.decided; unspent = ap spent_in c.list.ensures.reads.programs })
 
 pub returns-in-Err : goal.returns-in-Err
 returns-in-Err g c =
-    let W : List ℕ → Type 0 = λ text. IsTextFault text c.in-Err.fault in
     refused-step g.I.Input.tells g.O.Output.tells g.E.Output.tells (Compiles (string_bytes c.args.compile.now.expr) c.args.compile.now.link)
     (Expression c.in-Err.fault) c.args.self.now c.refuse.result c.refuse.new.self c.requires.fresh c.refuse.ensures.done c.refuse.ensures.refused
-    (λ refuses to. inr (record { fault = c.in-Err.fault; why = subst W c.as_str.ensures.value c.in-Err.ensures.refused; refuses = refuses }))
+    (λ refuses to. inr (record { fault = c.in-Err.fault; why = rw c.as_str.ensures.value at c.in-Err.ensures.refused; refuses = refuses }))
     c.refuse.ensures.keeps

@@ -1,15 +1,14 @@
 -- Deciding a packet is a step of the job, and keeps it sound.
 use Rattle.cap_tools.proofs.CommandStarts.{ready-none}
-use Rattle.cap_tools.proofs.Common.{◌+◌, subst, sym, ◌∙◌, ap, arith, JobView, IsNext, Next}
-use Rattle.cap_tools.proofs.{Lefts.to-decide, Programs.have-decided}
+use Rattle.cap_tools.proofs.Common.{◌+◌, ◌∙◌, ap, arith, JobView, decided-waits}
+use Rattle.cap_tools.proofs.Programs.{have-decided}
 use Rattle.cap_tools.proofs.Steps.{decided-step, decides-move, failed-step, moves-sound}
 use Rattle.cap_tools.proofs.job.Job.decide_next.Goals as goal
 
 pub decide-requires : goal.decide-requires
 decide-requires g c =
-    let N : JobView → Type 0 = λ v. IsNext v.state.inputs (Next.Decide c.args.input) in
-    to-decide c.self.inside.inputs.order c.self.inside.inputs.cursors c.args.input c.cursor.result.now (subst N (sym c.self.view_is) c.requires.next)
-    c.cursor.ensures
+    decided-waits c.self.inside.inputs.order c.self.inside.inputs.cursors c.args.input c.cursor.result.now c.cursor.ensures
+    (rw (← c.self.view_is) at c.requires.next)
 
 pub invariant_of-self : goal.invariant_of-self
 invariant_of-self g c =

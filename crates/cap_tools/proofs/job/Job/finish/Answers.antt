@@ -22,6 +22,6 @@ returns g c =
     (λ ti to ss before d.
     let E : JobEnd → Type 0 = λ e. EndLeaves d e left in
     subst E (sym c.end_of_write.ensures)
-    (finish-leaves ss before m.inputs.cursors m.inputs.order m.policy m.state m.names m.output m.decided c.finish.result left
-    (subst N (sym c.self.view_is) c.requires.next) refl (subst F c.first_link-first.ensures (c.finish.ensures.exact to)) d))
+    (finish-leaves ss before m.inputs.cursors m.inputs.order m.policy m.state m.names m.output m.decided left
+    (subst N (sym c.self.view_is) c.requires.next) refl d c.finish.result (subst F c.first_link-first.ensures (c.finish.ensures.exact to))))
     (reads_nothing refl (record { inputs = refl; decided = refl; programs = refl }))

@@ -1,5 +1,5 @@
 -- A new job is sound, and has decided nothing.
-use Rattle.cap_tools.proofs.CommandStarts.{few-inputs, first-decided, first-made, first-ready, first-few, first-left}
+use Rattle.cap_tools.proofs.CommandStarts.{few-inputs, first-decided, first-made, first-ready, first-few, first-less}
 use Rattle.cap_tools.proofs.Common.{length-map, most_inputs, ◌≡◌, ◌≤◌, List, map, length, string_bytes, sym, ap, subst, ◌∙◌, arith, All, option_map, Content}
 use Rattle.cap_tools.proofs.Common.{IsSmall, most_turns, steps_owed_in_all, HasFewOutputInterfaces, Target, InputsView, steps_left, HavePrograms, SelectorView}
 use Rattle.cap_tools.proofs.Common.{policy_of, initial_state, HasFewMarks, PacketOrder, order_of, Assignment, preparing_of, Call, call_of, JobView, fresh_input}
@@ -15,7 +15,7 @@ invariant_of-result g c =
     let count : length call.inputs ≡ length c.args.inputs.items = length-map c.args.inputs.items (fresh_input g.I.Input) in
     let proper = few-inputs c.args.command _ c.requires.proper in
     let within : length call.inputs ≤ most_inputs = omega (arith, proper, count) in
-    let bound = first-left order call.inputs within in
+    let bound = first-less order call.inputs within in
     let left : steps_left c.in-Some.inputs ≡ steps_left (fresh_inputs order call.inputs) = ap steps_left c.in-Some.ensures in
     let owes : steps_owed_in_all c.in-Some.inputs ≡ steps_owed_in_all (fresh_inputs order call.inputs) = ap steps_owed_in_all c.in-Some.ensures in
     let most : most_turns c.in-Some.inputs ≡ most_turns (fresh_inputs order call.inputs) = ap most_turns c.in-Some.ensures in

@@ -1,7 +1,6 @@
 -- Reading an input is a step of the job, and keeps it sound.
 use Rattle.cap_tools.proofs.CommandStarts.{ready-none}
-use Rattle.cap_tools.proofs.Common.{◌≡◌, ◌∙◌, true, false, Ok, Err, refl, sym, ap, arith, subst, None, Some, InputsView, asks_report, JobView, IsNext, Next}
-use Rattle.cap_tools.proofs.Common.{JobEnd}
+use Rattle.cap_tools.proofs.Common.{◌≡◌, ◌∙◌, true, false, Ok, Err, refl, ap, arith, None, Some, InputsView, asks_report, JobView, JobEnd}
 use Rattle.cap_tools.proofs.{Lefts.counted-turns, Lefts.read-on, Programs.have-kept}
 use Rattle.cap_tools.proofs.Steps.{moves-sound, read-step, reads-move, same-kept}
 use Rattle.cap_tools.proofs.Weights.{read_input-small}
@@ -33,8 +32,7 @@ invariant_of-self-in-Ok-false g c =
 
 pub invariant_of-self-in-Err : goal.invariant_of-self-in-Err
 invariant_of-self-in-Err g c =
-    let N : JobView → Type 0 = λ v. IsNext v.state.inputs (Next.Read c.args.input) in
-    let less = (read-on c.self.inside.inputs c.read_input.new.self c.args.input c.read_input.result (subst N (sym c.self.view_is) c.requires.next)
+    let less = (read-on c.self.inside.inputs c.read_input.new.self c.args.input c.read_input.result (rw (← c.self.view_is) at c.requires.next)
     c.read_input.ensures.steps).kept in
     let was = c.self.invariant.0 in (
       omega (arith, less, was),

@@ -1,26 +1,49 @@
 -- A growth that is admitted is the inner allocator's; the refused one has no memory. Assumes
 -- `Logic`.
-use Rattle.cap_trial.proofs.Common.{◌≡◌, ℕ, Bool, ◌+◌, ◌^◌, ◌<◌, true, false, List, [], ◌∷◌, Ok, Err, refl, w64, Bor, proved, Al, α, seen, token, Answer}
-use Rattle.cap_trial.proofs.Common.{answer_val, Answer-typed, Answer-Ok, Answer-err, takes_key, Takes, at_takes, Answered, Takes-goes, Takes-gives, answers}
-use Rattle.cap_trial.proofs.Common.{Ura, Ty, Args, Fn, a_type, dnil, dcons, Val, vbool, vint, vptr, inst_fn, SProp, ent, id⊢, Lft, Share, ftrue, fsep, froom}
-use Rattle.cap_trial.proofs.Common.{flft, Memory, size, align, capped, up, Routine, WpFn, Tables, Logic, ◌⊑◌, ⊑_trans, Fun, fact, tables, fm_of, ‵, raw, ◌⊛◌}
-use Rattle.cap_trial.proofs.Common.{some, later, given, learn, ◌$◌, ◌∵◌, !, Sq, qed, move, keep, use0, use1, use2, split, join, pick, fsplit, fjoin, suffices}
-use Rattle.cap_trial.proofs.Common.{await, prop, at_ret, done, stop, fld, addr, lit, no_more, and_then, first, branches, skips, exec, returns, returns_within}
-use Rattle.cap_trial.proofs.Common.{enter, alloc_all, pass_all, free_all, look_at, get, through, sets, lands_as, env, usize, RefOf, yes, unhide, bounded, param}
-use Rattle.cap_trial.proofs.Common.{hidden_shr, uint_vals, uint_Tells, owns, block_ptr, shr_vals, Slot, plain, types_at, heard, nothing, calls_at, Ended}
-use Rattle.cap_trial.proofs.Common.{Clauses, Triple, Stays, stay_dropped, walk_of, ends_at, Goes-dropped}
-use Rattle.std.proofs.VecSteps.Shapes.{after}
-use contract.Running.{tables_of}
+use Rattle.std.proofs.Common.{◌≡◌, ℕ, Bool, ◌+◌, ◌^◌, ◌<◌, true, false, List, [], ◌∷◌, Ok, Err, refl, w64, Bor}
+use Rattle.std.proofs.alloc.Calls.{Al, α, seen, token, Answer, answer_val, Answer-typed, Answer-Ok, Answer-err, takes_key, Takes, at_takes, Answered}
+use Rattle.std.proofs.alloc.Calls.{Takes-goes, Takes-gives, answers}
+use Rattle.std.proofs.{raw_atomic.Walks.proved, VecSteps.Shapes.after}
+use seplogic.Ra.Ura.{Ura}
+use mir.Syntax.{Ty, Args, Fn, a_type, dnil, dcons}
+use mir.Val.{Val, vbool, vint, vptr}
+use mir.MapTy.{inst_fn}
+use base.Logic.{SProp, ent, id⊢}
+use base.Fml.{Lft, Share, ftrue, fsep, froom, flft}
+use prog.Memory.{Memory, size, align, capped, up}
+use prog.Routine.{Routine}
+use prog.Wp.{WpFn, Tables}
+use types.Logic.{Logic}
+use contract.BorrowLft.{◌⊑◌, ⊑_trans}
+use contract.Monad.{Fun, fact}
+use contract.Running.{tables, tables_of}
+use sound.WpLaws.{fm_of}
+use types.Kit.{‵, raw, ◌⊛◌, some, later, given, learn, ◌$◌, ◌∵◌, !, Sq, qed, move, keep, use0, use1, use2, split, join, pick, fsplit, fjoin, suffices, await}
+use types.Kit.{prop, at_ret, done}
+use types.Run.{stop, fld, addr, lit, no_more, and_then, first, branches, skips, exec, returns, returns_within, enter}
+use types.ByLocal.{alloc_all, pass_all, free_all, look_at, get, through, sets, lands_as, env}
+use denote.Builtin.{usize, RefOf}
+use denote.Exit.{yes}
+use denote.Opens.{unhide}
+use denote.Param.{bounded, param}
+use denote.Memory.{hidden_shr}
+use denote.Plain.{uint_vals, uint_Tells}
+use denote.RattleType.{owns}
+use denote.RawPtr.{block_ptr}
+use denote.Ref.{shr_vals}
+use denote.Signature.{Slot, plain, types_at}
+use denote.Steps.{heard, nothing}
+use denote.Triple.Walked.{Stays, stay_dropped, walk_of, ends_at, Goes-dropped}
+use denote.Triple.{Call.calls_at, Clauses.Ended, Clauses.Clauses, Statement.Triple, Table.cited}
 use types.Part.{agg}
-use denote.Triple.Table.{cited}
+use Rattle.cap_trial.proofs.allocator.TrialAllocator.allocate.Statement.{statement}
+use Rattle.cap_trial.proofs.Counting.{Admits, at_plan, Admits-goes, Admits-gives}
 use Rattle.cap_trial.specs.contracts.allocator.Plan as P
 use Rattle.cap_trial.specs.contracts.allocator.Trial as T
 use Rattle.cap_trial.specs.contracts.allocator.TrialAllocator.allocate as F
-use Rattle.cap_trial.proofs.allocator.TrialAllocator.allocate.Statement.{statement}
 use Rattle.cap_trial.proofs.allocator.TrialAllocator.allocate.Code as code
 use Rattle.cap_trial.proofs.allocator.admits.Symbol as symbol
 use Rattle.cap_trial.proofs.allocator.admits.Met as admits
-use Rattle.cap_trial.proofs.Counting.{Admits, at_plan, Admits-goes, Admits-gives}
 
 module _ (Z : Al) where
   abbrev args : Args

@@ -1,16 +1,39 @@
 -- A block goes back to the inner allocator. Assumes `Logic`.
-use Rattle.cap_trial.proofs.Common.{◌≡◌, ℕ, ◌+◌, ◌^◌, ◌<◌, List, [], ◌∷◌, refl, w64, Bor, proved, Al, α, seen, token, gives_key, Gives, at_gives, Gives-goes}
-use Rattle.cap_trial.proofs.Common.{Gives-Gives, Ura, Ty, Args, Fn, a_type, dnil, dcons, Val, vint, vptr, vunit, inst_fn, SProp, ent, id⊢, never_e, Lft, Share}
-use Rattle.cap_trial.proofs.Common.{ffalse, ftrue, fsep, froom, flft, Memory, size, align, capped, up, Routine, WpFn, Tables, Logic, ◌⊑◌, ⊑_trans, Fun, fact}
-use Rattle.cap_trial.proofs.Common.{tables, fm_of, Item, ‵, raw, ◌⊛◌, later, given, learn, ◌$◌, ◌∵◌, !, qed, by, move, keep, use1, split, split3, join, fsplit}
-use Rattle.cap_trial.proofs.Common.{fjoin, feq_i, suffices, await, done, stop, fld, addr, of_opd, unit_lit, no_more, and_then, returns, enter, alloc_all}
-use Rattle.cap_trial.proofs.Common.{pass_all, free_all, look_at, get, through, sets, lands_as, usize, RawPtr, RefOf, yes, unhide, bounded, param, uint_vals}
-use Rattle.cap_trial.proofs.Common.{uint_Tells, owns, Ptr, block_ptr, null_ptr, ptr_val, rawptr_vals, rawptr_Tells, shr_vals, Slot, plain, types_at, heard}
-use Rattle.cap_trial.proofs.Common.{nothing, calls_at, Ended, Clauses, Triple, Stays, stay_dropped, walk_of, ends_at, Goes-dropped}
-use contract.Running.{tables_of}
+use Rattle.std.proofs.Common.{◌≡◌, ℕ, ◌+◌, ◌^◌, ◌<◌, List, [], ◌∷◌, refl, w64, Bor}
+use Rattle.std.proofs.raw_atomic.Walks.{proved}
+use Rattle.std.proofs.alloc.Calls.{Al, α, seen, token, gives_key, Gives, at_gives, Gives-goes, Gives-Gives}
+use seplogic.Ra.Ura.{Ura}
+use mir.Syntax.{Ty, Args, Fn, a_type, dnil, dcons}
+use mir.Val.{Val, vint, vptr, vunit}
+use mir.MapTy.{inst_fn}
+use base.Logic.{SProp, ent, id⊢, never_e}
+use base.Fml.{Lft, Share, ffalse, ftrue, fsep, froom, flft}
+use prog.Memory.{Memory, size, align, capped, up}
+use prog.Routine.{Routine}
+use prog.Wp.{WpFn, Tables}
+use types.Logic.{Logic}
+use contract.BorrowLft.{◌⊑◌, ⊑_trans}
+use contract.Monad.{Fun, fact}
+use contract.Running.{tables, tables_of}
+use sound.WpLaws.{fm_of}
+use types.Kit.{Item, ‵, raw, ◌⊛◌, later, given, learn, ◌$◌, ◌∵◌, !, qed, by, move, keep, use1, split, split3, join, fsplit, fjoin, feq_i, suffices, await, done}
+use types.Run.{stop, fld, addr, of_opd, unit_lit, no_more, and_then, returns, enter}
+use types.ByLocal.{alloc_all, pass_all, free_all, look_at, get, through, sets, lands_as}
+use denote.Builtin.{usize, RawPtr, RefOf}
+use denote.Exit.{yes}
+use denote.Opens.{unhide}
+use denote.Param.{bounded, param}
+use denote.Plain.{uint_vals, uint_Tells}
+use denote.RattleType.{owns}
+use denote.RawPtr.{Ptr, block_ptr, null_ptr, ptr_val, rawptr_vals, rawptr_Tells}
+use denote.Ref.{shr_vals}
+use denote.Signature.{Slot, plain, types_at}
+use denote.Steps.{heard, nothing}
+use denote.Triple.Walked.{Stays, stay_dropped, walk_of, ends_at, Goes-dropped}
+use denote.Triple.{Call.calls_at, Clauses.Ended, Clauses.Clauses, Statement.Triple}
+use Rattle.cap_trial.proofs.allocator.TrialAllocator.deallocate.Statement.{statement}
 use Rattle.cap_trial.specs.contracts.allocator.Trial as T
 use Rattle.cap_trial.specs.contracts.allocator.TrialAllocator.deallocate as F
-use Rattle.cap_trial.proofs.allocator.TrialAllocator.deallocate.Statement.{statement}
 use Rattle.cap_trial.proofs.allocator.TrialAllocator.deallocate.Code as code
 
 module _ (Z : Al) where
