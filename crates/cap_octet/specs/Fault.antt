@@ -1,6 +1,56 @@
--- The texts of faults in messages.
-use Rattle.std.specs.Prelude.{ℕ, List, codes}
+-- The numbers of faults, and their texts in messages.
+use Rattle.std.specs.Prelude.{ℕ, ◌==◌, if◌then◌else◌, List, codes, Option, Some, None}
 use Rattle.cap_octet.specs.declared.fault.Fault.{Fault}
+
+-- the number of a fault
+abbrev pub fault_number : Fault → ℕ
+fault_number Fault.NotACaptureFile = 1
+fault_number Fault.Truncated = 2
+fault_number Fault.BadVersion = 3
+fault_number Fault.TooLong = 4
+fault_number Fault.BadBlockLength = 5
+fault_number Fault.BadByteOrderMagic = 6
+fault_number Fault.UnknownInterface = 7
+fault_number Fault.BadOption = 8
+fault_number Fault.BadBody = 9
+fault_number Fault.TimeOutOfRange = 10
+fault_number Fault.TooManyInterfaces = 11
+fault_number Fault.BadTimeResolution = 12
+fault_number Fault.BadLinkTypeField = 13
+fault_number Fault.ObsoletePacketBlock = 14
+fault_number Fault.ReadFailed = 15
+fault_number Fault.NoMemory = 16
+fault_number Fault.WriteFailed = 17
+fault_number Fault.LinkTypesDiffer = 18
+fault_number Fault.LinkTypeNotFiltered = 19
+fault_number Fault.TooManyPackets = 20
+fault_number Fault.TooManyOutputInterfaces = 21
+
+-- the fault with this number; None for any other number
+abbrev pub numbered_fault : ℕ → Option Fault
+numbered_fault n =
+    if n == 1 then Some Fault.NotACaptureFile else (
+    if n == 2 then Some Fault.Truncated else (
+    if n == 3 then Some Fault.BadVersion else (
+    if n == 4 then Some Fault.TooLong else (
+    if n == 5 then Some Fault.BadBlockLength else (
+    if n == 6 then Some Fault.BadByteOrderMagic else (
+    if n == 7 then Some Fault.UnknownInterface else (
+    if n == 8 then Some Fault.BadOption else (
+    if n == 9 then Some Fault.BadBody else (
+    if n == 10 then Some Fault.TimeOutOfRange else (
+    if n == 11 then Some Fault.TooManyInterfaces else (
+    if n == 12 then Some Fault.BadTimeResolution else (
+    if n == 13 then Some Fault.BadLinkTypeField else (
+    if n == 14 then Some Fault.ObsoletePacketBlock else (
+    if n == 15 then Some Fault.ReadFailed else (
+    if n == 16 then Some Fault.NoMemory else (
+    if n == 17 then Some Fault.WriteFailed else (
+    if n == 18 then Some Fault.LinkTypesDiffer else (
+    if n == 19 then Some Fault.LinkTypeNotFiltered else (
+    if n == 20 then Some Fault.TooManyPackets else (
+    if n == 21 then Some Fault.TooManyOutputInterfaces else (
+    None)))))))))))))))))))))
 
 -- the words for a fault in messages
 abbrev pub fault_text : Fault → List ℕ

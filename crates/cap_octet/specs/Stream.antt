@@ -2,7 +2,7 @@
 use Rattle.std.specs.Io.{ReadsAtMost, StartsWith, WritesAtMost}
 use Rattle.std.specs.Io.KnownBytes.{Consumes, ReadConsumes, WriteAppends}
 use Rattle.std.specs.IoError.{error_kind}
-use Rattle.std.specs.Prelude.{◌≡◌, ◌⊎◌, ℕ, ◌+◌, ◌^◌, ◌≤◌, ◌<◌, Bool, true, false, List, length, take, Option, Some, Result, Ok, Err}
+use Rattle.std.specs.Prelude.{◌≡◌, ◌⊎◌, ℕ, ◌+◌, ◌^◌, ◌≤◌, ◌<◌, Bool, true, false, if◌then◌else◌, nat_lt, List, [], length, take, Option, Some, Result, Ok, Err}
 use Rattle.std.specs.declared.io.{Error.Error, ErrorKind.ErrorKind, ErrorKind.TheVariants.WriteZero}
 use Rattle.cap_octet.specs.declared.device.DeviceFault.{DeviceFault}
 
@@ -33,6 +33,11 @@ pub record IsOneRead (held : List ℕ) (remaining : Option (List ℕ)) (given ca
   pub bound : ReadsAtMost answer buf'
   pub bytes : ReadConsumes remaining remaining' answer buf'
   pub hands : HandsOver given answer result
+
+-- The bytes at hand of a device that has given this many: those that its reader's buffer holds, or
+-- none if 2^63 in all would be reached by them.
+abbrev pub shown : (given : ℕ) (buffer : List ℕ) → List ℕ
+shown given buffer = if nat_lt (given + length buffer) (2 ^ 63) then buffer else []
 
 -- The next `count` bytes, which the reader's buffer held, are consumed as by a read (true); or no
 -- bytes are, and the same remain as before (false).

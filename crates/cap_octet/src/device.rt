@@ -50,16 +50,12 @@ pub trait Input {
         ensures exact { IsTrue tells
             → Reads (unread self.old) buf.old result (unread self.new) buf.new };
 
-    /// Bytes that it has already, which the next reads give. They stay the same until it is read or
-    /// passes some. A device without such bytes shows none.
+    /// Bytes that it has already, which the next reads give, and which `pass` passes. They stay the
+    /// same until it is read or passes some. A device without such bytes shows none.
     fn at_hand(&self) -> &[u8]
         ensures exact { IsTrue tells → StartsWith (unread self.now) result.now }
-        ensures held { result.now ≡ held self.now };
-
-    /// Whether `pass` would pass this count of bytes, which isn't 0.
-    fn can_pass(&self, count: usize) -> bool
-        ensures { result ≡ true → (count ≤ length (held self.now))
-            × (given self.now + count < 2 ^ 63) };
+        ensures held { result.now ≡ held self.now }
+        ensures bounded { given self.now + length result.now < 2 ^ 63 };
 
     /// Moves past the next `count` bytes, of those that `at_hand` shows, as a read of them would,
     /// and returns `true`; or takes none, and returns `false`. What was at hand after them still
@@ -72,8 +68,7 @@ pub trait Input {
         ensures rest { unread self.new ≡ drop (if result then count else 0) (unread self.old) }
         ensures exact { IsTrue tells
             → Passes (unread self.old) count result (unread self.new) }
-        ensures passes { 0 < count → count ≤ length (held self.old)
-            → given self.old + count < 2 ^ 63 → result ≡ true }
+        ensures passes { count ≤ length (held self.old) → result ≡ true }
         ensures stays { StartsWith (held self.new)
             (drop (if result then count else 0) (held self.old)) };
 

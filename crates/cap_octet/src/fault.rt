@@ -1,6 +1,6 @@
 //! What can be wrong with a capture, a device, memory or a job.
 ghost use Rattle.std.specs.Prelude.{◌≡◌};
-ghost use Rattle.cap_octet.specs.Fault.{fault_text};
+ghost use Rattle.cap_octet.specs.Fault.{fault_number, fault_text, numbered_fault};
 
 use std::error::Error;
 use std::fmt;
@@ -55,6 +55,65 @@ pub enum Fault {
 }
 
 impl Fault {
+    /// Its number, 1 to 21.
+    pub fn number(self) -> u32
+        ensures { result ≡ fault_number self }
+    {
+        match self {
+            Fault::NotACaptureFile => 1,
+            Fault::Truncated => 2,
+            Fault::BadVersion => 3,
+            Fault::TooLong => 4,
+            Fault::BadBlockLength => 5,
+            Fault::BadByteOrderMagic => 6,
+            Fault::UnknownInterface => 7,
+            Fault::BadOption => 8,
+            Fault::BadBody => 9,
+            Fault::TimeOutOfRange => 10,
+            Fault::TooManyInterfaces => 11,
+            Fault::BadTimeResolution => 12,
+            Fault::BadLinkTypeField => 13,
+            Fault::ObsoletePacketBlock => 14,
+            Fault::ReadFailed => 15,
+            Fault::NoMemory => 16,
+            Fault::WriteFailed => 17,
+            Fault::LinkTypesDiffer => 18,
+            Fault::LinkTypeNotFiltered => 19,
+            Fault::TooManyPackets => 20,
+            Fault::TooManyOutputInterfaces => 21,
+        }
+    }
+
+    /// The fault with a number; `None` if no fault has it.
+    pub fn from_number(number: u32) -> Option<Self>
+        ensures { result ≡ numbered_fault number }
+    {
+        Some(match number {
+            1 => Fault::NotACaptureFile,
+            2 => Fault::Truncated,
+            3 => Fault::BadVersion,
+            4 => Fault::TooLong,
+            5 => Fault::BadBlockLength,
+            6 => Fault::BadByteOrderMagic,
+            7 => Fault::UnknownInterface,
+            8 => Fault::BadOption,
+            9 => Fault::BadBody,
+            10 => Fault::TimeOutOfRange,
+            11 => Fault::TooManyInterfaces,
+            12 => Fault::BadTimeResolution,
+            13 => Fault::BadLinkTypeField,
+            14 => Fault::ObsoletePacketBlock,
+            15 => Fault::ReadFailed,
+            16 => Fault::NoMemory,
+            17 => Fault::WriteFailed,
+            18 => Fault::LinkTypesDiffer,
+            19 => Fault::LinkTypeNotFiltered,
+            20 => Fault::TooManyPackets,
+            21 => Fault::TooManyOutputInterfaces,
+            _ => return None,
+        })
+    }
+
     /// What messages call the fault.
     pub fn text(self) -> &'static str
         ensures { result.now ≡ fault_text self }

@@ -67,11 +67,6 @@ impl Input for MemInput<'_> {
         self.rest
     }
 
-    /// Whether as many bytes are left.
-    fn can_pass(&self, count: usize) -> bool {
-        count <= self.rest.len()
-    }
-
     /// Takes `count` bytes where as many are left; else none, and returns `false`.
     fn pass(&mut self, count: usize) -> bool
         ensures counted { self.new.given ≡ self.old.given + (if result then count else 0) }
@@ -80,11 +75,9 @@ impl Input for MemInput<'_> {
         ensures sure { ◌≡◌ {A = Option ℕ} None None }
         ensures rest { self.new.rest.now ≡ drop (if result then count else 0) self.old.rest.now }
         ensures exact { IsTrue true → Passes self.old.rest.now count result self.new.rest.now }
-        ensures passes { 0 < count → count ≤ length self.old.rest.now
-            → self.old.given + count < 2 ^ 63 → result ≡ true }
+        ensures passes { count ≤ length self.old.rest.now → result ≡ true }
         ensures stays { StartsWith self.new.rest.now
             (drop (if result then count else 0) self.old.rest.now) }
-        ensures always { count ≤ length self.old.rest.now → result ≡ true }
     {
         if count > self.rest.len() {
             return false;

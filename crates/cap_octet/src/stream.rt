@@ -5,7 +5,7 @@ ghost use Rattle.std.specs.Prelude.{Some, false, [], List, true, drop, if◌then
 ghost use Rattle.std.specs.{Io.StartsWith, Prelude.length, Io.KnownBytes.Keeps};
 ghost use Rattle.std.proofs.Common.{rules};
 ghost use Rattle.std.specs.Io.Buffered.{writer_contents};
-ghost use Rattle.cap_octet.specs.Stream.{IsOneRead, IsOneWrite, IsPassed};
+ghost use Rattle.cap_octet.specs.Stream.{IsOneRead, IsOneWrite, IsPassed, shown};
 ghost use Rattle.cap_octet.specs.Device.{Passes, Reads, Writes, count_of, failures_of};
 
 use crate::count::ContractCount;
@@ -82,7 +82,7 @@ impl<R: Read> Input for StdInput<R> {
 
     ghost failures = { λ s. s.failures.count };
 
-    ghost held = { λ s. reader_buffer s.reader.reader };
+    ghost held = { λ s. shown s.given (reader_buffer s.reader.reader) };
 
     /// Fills this buffer from the reader's own, if that holds as many bytes; else makes one read
     /// of the reader into this buffer and returns what that returned. A read that would reach 2^63
@@ -120,16 +120,14 @@ impl<R: Read> Input for StdInput<R> {
         }
     }
 
-    /// The bytes that the reader's own buffer holds.
+    /// The bytes that the reader's own buffer holds; none if 2^63 in all would be reached by them.
     #[inline(always)]
     fn at_hand(&self) -> &[u8] {
-        self.reader.buffer()
-    }
-
-    /// Whether the reader's buffer holds as many bytes, and 2^63 in all wouldn't be reached.
-    #[inline(always)]
-    fn can_pass(&self, count: usize) -> bool {
-        count <= self.reader.buffer().len() && self.given + (count as u64) < GIVEN_END
+        let held = self.reader.buffer();
+        if self.given + held.len() as u64 >= GIVEN_END {
+            return &[];
+        }
+        held
     }
 
     /// Takes `count` bytes of what the reader's buffer holds, if it holds as many, and returns
@@ -143,10 +141,11 @@ impl<R: Read> Input for StdInput<R> {
         ensures sure { ◌≡◌ {A = Option ℕ} (Some 0) (Some 0) }
         ensures rest { ◌≡◌ {A = List ℕ} [] (drop (if result then count else 0) []) }
         ensures exact { IsTrue false → Passes [] count result [] }
-        ensures passes { 0 < count → count ≤ length (reader_buffer self.old.reader.reader)
-            → self.old.given + count < 2 ^ 63 → result ≡ true }
-        ensures stays { StartsWith (reader_buffer self.new.reader.reader)
-            (drop (if result then count else 0) (reader_buffer self.old.reader.reader)) }
+        ensures passes { count ≤ length (shown self.old.given
+            (reader_buffer self.old.reader.reader)) → result ≡ true }
+        ensures stays { StartsWith (shown self.new.given (reader_buffer self.new.reader.reader))
+            (drop (if result then count else 0)
+            (shown self.old.given (reader_buffer self.old.reader.reader))) }
         ensures bytes { IsPassed (reader_buffer self.old.reader.reader)
             (reader_remaining R.remaining self.old.reader.reader) count result
             (reader_remaining R.remaining self.new.reader.reader) }

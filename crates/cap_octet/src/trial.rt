@@ -109,11 +109,6 @@ impl Input for TrialInput<'_> {
         &hand[..hand.len().min(self.piece)]
     }
 
-    /// Whether one read gives as many bytes, and no read must fail.
-    fn can_pass(&self, count: usize) -> bool {
-        self.fails_at.is_none() && count <= self.piece && self.inner.can_pass(count)
-    }
-
     /// Takes `count` bytes if one read gives as many and no read must fail; else none, and
     /// returns `false`.
     fn pass(&mut self, count: usize) -> bool
@@ -127,19 +122,16 @@ impl Input for TrialInput<'_> {
             ≡ drop (if result then count else 0) self.old.inner.rest.now }
         ensures exact { IsTrue true
             → Passes self.old.inner.rest.now count result self.new.inner.rest.now }
-        ensures passes { 0 < count → count ≤ length (if is_some self.old.fails_at then []
-            else take self.old.piece self.old.inner.rest.now)
-            → self.old.inner.given + count < 2 ^ 63 → result ≡ true }
+        ensures passes { count ≤ length (if is_some self.old.fails_at then []
+            else take self.old.piece self.old.inner.rest.now) → result ≡ true }
         ensures stays { StartsWith (if is_some self.new.fails_at then []
             else take self.new.piece self.new.inner.rest.now)
             (drop (if result then count else 0) (if is_some self.old.fails_at then []
             else take self.old.piece self.old.inner.rest.now)) }
-        ensures always { self.old.fails_at ≡ None → count ≤ self.old.piece
-            → count ≤ length self.old.inner.rest.now → result ≡ true }
         ensures settings { (self.new.piece ≡ self.old.piece)
             × (self.new.fails_at ≡ self.old.fails_at) × (self.new.reads ≡ self.old.reads) }
     {
-        if self.fails_at.is_some() || count > self.piece {
+        if count > self.at_hand().len() {
             return false;
         }
         self.inner.pass(count)
