@@ -36,8 +36,8 @@ pub record IsOneRead (held : List ℕ) (remaining : Option (List ℕ)) (given ca
 
 -- The bytes at hand of a device that has given this many: those that its reader's buffer holds, or
 -- none if 2^63 in all would be reached by them.
-abbrev pub shown : (given : ℕ) (buffer : List ℕ) → List ℕ
-shown given buffer = if nat_lt (given + length buffer) (2 ^ 63) then buffer else []
+abbrev pub bytes_at_hand : (given : ℕ) (buffer : List ℕ) → List ℕ
+bytes_at_hand given buffer = if nat_lt (given + length buffer) (2 ^ 63) then buffer else []
 
 -- The next `count` bytes, which the reader's buffer held, are consumed as by a read (true); or no
 -- bytes are, and the same remain as before (false).

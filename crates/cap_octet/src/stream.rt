@@ -5,7 +5,7 @@ ghost use Rattle.std.specs.Prelude.{Some, false, [], List, true, drop, if◌then
 ghost use Rattle.std.specs.{Io.StartsWith, Prelude.length, Io.KnownBytes.Keeps};
 ghost use Rattle.std.proofs.Common.{rules};
 ghost use Rattle.std.specs.Io.Buffered.{writer_contents};
-ghost use Rattle.cap_octet.specs.Stream.{IsOneRead, IsOneWrite, IsPassed, shown};
+ghost use Rattle.cap_octet.specs.Stream.{IsOneRead, IsOneWrite, IsPassed, bytes_at_hand};
 ghost use Rattle.cap_octet.specs.Device.{Passes, Reads, Writes, count_of, failures_of};
 
 use crate::count::ContractCount;
@@ -82,7 +82,7 @@ impl<R: Read> Input for StdInput<R> {
 
     ghost failures = { λ s. s.failures.count };
 
-    ghost held = { λ s. shown s.given (reader_buffer s.reader.reader) };
+    ghost held = { λ s. bytes_at_hand s.given (reader_buffer s.reader.reader) };
 
     /// Fills this buffer from the reader's own, if that holds as many bytes; else makes one read
     /// of the reader into this buffer and returns what that returned. A read that would reach 2^63
@@ -141,11 +141,12 @@ impl<R: Read> Input for StdInput<R> {
         ensures sure { ◌≡◌ {A = Option ℕ} (Some 0) (Some 0) }
         ensures rest { ◌≡◌ {A = List ℕ} [] (drop (if result then count else 0) []) }
         ensures exact { IsTrue false → Passes [] count result [] }
-        ensures passes { count ≤ length (shown self.old.given
+        ensures passes { count ≤ length (bytes_at_hand self.old.given
             (reader_buffer self.old.reader.reader)) → result ≡ true }
-        ensures stays { StartsWith (shown self.new.given (reader_buffer self.new.reader.reader))
+        ensures stays { StartsWith (bytes_at_hand self.new.given
+            (reader_buffer self.new.reader.reader))
             (drop (if result then count else 0)
-            (shown self.old.given (reader_buffer self.old.reader.reader))) }
+            (bytes_at_hand self.old.given (reader_buffer self.old.reader.reader))) }
         ensures bytes { IsPassed (reader_buffer self.old.reader.reader)
             (reader_remaining R.remaining self.old.reader.reader) count result
             (reader_remaining R.remaining self.new.reader.reader) }
