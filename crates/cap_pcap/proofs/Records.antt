@@ -15,16 +15,10 @@ captured_len-append head front more enough = number_in-append head.order 4 front
 
 pub field_checks-append : (head : Head) (front more : List ℕ) → 16 ≤ length front → field_checks head (front ++ more) ≡ field_checks head front
 field_checks-append head front more enough =
-    rw (captured_len-append head front more enough, number_in-append head.order 4 front more 4 (omega arith)) refl
+    grind (arith, number_in-append)
 
 pub record_header_in-append : (head : Head) (front more : List ℕ) → 16 ≤ length front → record_header_in head (front ++ more) ≡ record_header_in head front
-record_header_in-append head front more enough =
-    rw (
-      number_in-append head.order 4 front more 0 (omega arith),
-      number_in-append head.order 4 front more 4 (omega arith),
-      captured_len-append head front more enough,
-      number_in-append head.order 4 front more 12 (omega arith),
-    ) refl
+record_header_in-append head front more enough = grind (arith, number_in-append)
 
 -- ---- the checks, one after another
 
