@@ -1,7 +1,8 @@
 #!/usr/bin/env python3
 """Compares the public calls and types of the sources with tools/surface.txt.
 
-That file lists those that other programs use. The gate runs this script.
+That file lists those that other programs use. It also finds packages whose numbers aren't those of
+capkit.h (library_numbers.py). The gate runs this script.
 
 usage: check_surface.py      prints each difference; the status is 1 if there is any
 
@@ -11,6 +12,7 @@ variants, or a method of a trait. Names of arguments, bounds, contracts and priv
 import re
 import sys
 
+from library_numbers import differing
 from source_files import end_of_group
 from sources import ROOT, Sources
 
@@ -80,6 +82,7 @@ def main():
     found, wanted = surface(Sources()), LIST.read_text().splitlines()
     differences = [f"wanted: {line}\nfound:  {found.get(path, 'nothing')}" for line in wanted
                    if line and found.get(path := re.match(r"\w+ ([\w:]+)", line)[1]) != line]
+    differences += differing()
     print("\n".join([*differences, f"{len(wanted)} calls and types, {len(differences)} differ"]))
     return bool(differences)
 

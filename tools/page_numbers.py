@@ -31,7 +31,7 @@ STATED = {
     "crates below the library": r"the (\d+) crates below it",
     "crates of the library": r"only \d+ of the (\d+) are left",
     "crates of the library that the program hasn't": r"only (\d+) of the \d+ are left",
-    "faults": r"have the numbers 1 to (\d+)",
+    "faults": r"Each of the (\d+) faults",
     "tips": r"(\d+) tips",
     "jobs closed after each step": r"(\d+) jobs, closed after each step",
     "kinds of damage": r"in (\d+) ways",

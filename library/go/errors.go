@@ -9,6 +9,8 @@ type Code uint32
 // What an expression is refused for, the rules of programs, and the checks of captures and of packets
 // that are written, as capkit.h has them.
 const (
+	// tools/library_numbers.py writes these from capkit.h.
+
 	ErrTooLong                Code = 1
 	ErrUnknownCharacter       Code = 2
 	ErrUnknownWord            Code = 3

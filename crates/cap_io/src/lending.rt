@@ -42,12 +42,13 @@ impl<I: Input> Lending<I> {
         ensures held { result.now ≡ drop self.now.lent (I.held self.now.input) }
         ensures exact { IsTrue I.tells
             → StartsWith (drop self.now.lent (I.unread self.now.input)) result.now }
+        ensures bounded { I.given self.now.input + self.now.lent + length result.now < 2 ^ 63 }
     {
         &self.input.at_hand()[self.lent..]
     }
 
-    /// Lends the next `count` bytes, which aren't 0, if the input has them at hand and would pass
-    /// them: what was lent before is passed. Else it changes nothing, and returns `false`.
+    /// Lends the next `count` bytes, which aren't 0, if the input has them at hand: what was lent
+    /// before is passed. Else it changes nothing, and returns `false`.
     #[inline(always)]
     pub(crate) fn lend(&mut self, count: usize) -> bool
         requires some { 0 < count }
@@ -57,7 +58,7 @@ impl<I: Input> Lending<I> {
         ensures lends { result ≡ true → Lends I.Input count self.old.input self.old.lent
             self.new.input self.new.lent }
     {
-        if !self.input.can_pass(self.lent + count) {
+        if count > self.next_bytes().len() {
             return false;
         }
         self.settle();
@@ -77,7 +78,7 @@ impl<I: Input> Lending<I> {
             (drop self.old.lent (I.held self.old.input)) }
     {
         if self.lent > 0 {
-            // It does, since `lend` asked whether it would.
+            // It does, since what is lent is at hand.
             let _ = self.input.pass(self.lent);
             self.lent = 0;
         }
@@ -113,17 +114,13 @@ impl<I: Input> Input for Lending<I> {
         self.input.read(buf)
     }
 
-    // `Lending` itself lends what is at hand.
+    // `Lending` itself lends what is at hand, so that it shows no bytes.
     fn at_hand(&self) -> &[u8] {
-        &[]
+        &self.input.at_hand()[..0]
     }
 
-    fn can_pass(&self, _count: usize) -> bool {
-        false
-    }
-
-    fn pass(&mut self, _count: usize) -> bool {
-        false
+    fn pass(&mut self, count: usize) -> bool {
+        count <= self.at_hand().len()
     }
 
     ghost unfailed = { Prim.search rules };

@@ -1,11 +1,12 @@
 //! What can be wrong with a capture, a device, memory or a job.
-ghost use Rattle.std.specs.Prelude.{◌≡◌};
+ghost use Rattle.std.specs.Prelude.{◌≡◌, ◌<◌};
 ghost use Rattle.cap_octet.specs.Fault.{fault_number, fault_text, numbered_fault};
 
 use std::error::Error;
 use std::fmt;
 
-/// The faults, in the order of their numbers, 1 to 21.
+/// The faults, in the order of their numbers, 1 to 21. A further one has 29: 22 to 28 are other
+/// results of the library for C.
 #[derive(Clone, Copy, Debug, PartialEq, Eq)]
 pub enum Fault {
     /// 1: the file has fewer than four bytes, or the first four aren't a magic number, or a block
@@ -57,7 +58,8 @@ pub enum Fault {
 impl Fault {
     /// Its number, 1 to 21.
     pub fn number(self) -> u32
-        ensures { result ≡ fault_number self }
+        ensures number { result ≡ fault_number self }
+        ensures below_100 { result < 100 }
     {
         match self {
             Fault::NotACaptureFile => 1,

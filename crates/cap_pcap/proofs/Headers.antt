@@ -1,49 +1,29 @@
 -- The first 24 bytes determine the file header and its first failing check.
-use Rattle.std.proofs.Common.{◌≡◌, ℕ, ◌+◌, ◌<◌, ◌≤◌, true, List, ◌++◌, length, Some, None, is_some, refl, arith}
-use Rattle.std.proofs.lemmas.{Bool.leb-true, Bool.le-leb, Bool.lt-leb, List.length-append}
+use Rattle.std.proofs.Common.{◌≡◌, ℕ, ◌<◌, ◌≤◌, true, List, ◌++◌, length, Some, None, is_some, arith}
+use Rattle.std.proofs.lemmas.{Bool.leb-true, List.length-append}
 use Rattle.cap_octet.specs.declared.fault.Fault.TheVariants.{NotACaptureFile, Truncated}
-use Rattle.cap_octet.specs.declared.number.Order.{Order, TheVariants.Little, TheVariants.Big}
 use Rattle.cap_octet.proofs.{Checks.all_met, Numbers.number_in-append}
-use Rattle.cap_pcap.specs.Header.{form_in, form_of, header_checks, header_fault, header_in}
+use Rattle.cap_pcap.specs.Header.{form_in, header_checks, header_fault, header_in}
 
 -- ---- more bytes after
 
 pub form_in-append : (front more : List ℕ) → 4 ≤ length front → form_in (front ++ more) ≡ form_in front
-form_in-append front more enough =
-    rw (number_in-append Little 4 front more 0 (omega arith), number_in-append Big 4 front more 0 (omega arith)) refl
+form_in-append front more enough = grind (arith, number_in-append)
 
 pub header_in-append : (front more : List ℕ) → 24 ≤ length front → header_in (front ++ more) ≡ header_in front
-header_in-append front more enough =
-    let order : Order = (form_of front).0 in
-    rw (
-      form_in-append front more (omega arith),
-      number_in-append order 4 front more 16 (omega arith),
-      number_in-append order 4 front more 20
-          (omega arith),
-    ) refl
+header_in-append front more enough = grind (arith, number_in-append, form_in-append front more (omega arith))
 
 pub header_fault-append : (front more : List ℕ) → 24 ≤ length front → header_fault (front ++ more) ≡ header_fault front
 header_fault-append front more enough =
-    let order : Order = (form_of front).0 in
-    let size : length (front ++ more) ≡ length front + length more = length-append front more in
-    rw (
-      form_in-append front more (omega arith),
-      number_in-append order 2 front more 4 (omega arith),
-      number_in-append order 2 front more 6 (omega arith),
-      number_in-append order 4 front more 20 (omega arith),
-      le-leb 24 (length (front ++ more)) (omega arith),
-      le-leb 24 (length front) enough,
-      le-leb 4 (length (front ++ more)) (omega arith),
-      le-leb 4 (length front) (omega arith),
-    ) refl
+    grind (arith, number_in-append, length-append {A = ℕ}, form_in-append front more (omega arith))
 
 -- ---- the first checks
 
 pub header_fault-no_magic : (text : List ℕ) → form_in text ≡ None → header_fault text ≡ Some NotACaptureFile
-header_fault-no_magic text none = rw none (grind arith)
+header_fault-no_magic text none = grind arith
 
 pub header_fault-short : (text : List ℕ) → is_some (form_in text) ≡ true → 4 ≤ length text → length text < 24 → header_fault text ≡ Some Truncated
-header_fault-short text some enough short = rw (le-leb 4 (length text) enough, some, lt-leb 24 (length text) short) refl
+header_fault-short text some enough short = grind arith
 
 -- ---- all checks
 

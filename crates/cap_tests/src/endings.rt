@@ -28,17 +28,20 @@ type WatchedJob<'d, 'm> = Job<Watched<'d>, MemOutput<'d>, MemOutput<'d>, &'m Mem
 /// What is asked of two inputs.
 type Counts = [Cell<Asked>; 2];
 
-/// The words of a line, its files, with which status it ends, and how many bytes it reads of each.
-/// Most end before all is read.
+/// The words of a line, its files, with which status it ends, how many bytes it reads of each, and
+/// how many of these are still lent at its end, if its files are lent: those of the last packet,
+/// unless it is the first one or was read past. Most end before all is read.
 const WORKS: &str = "\
-print -c 1 a len = 4 | pcap 1 2 | - | 0 | 44 | 0
-print -c 1 a len = 4 | section ether raw on-0 on-1 | - | 0 | 104 | 0
-merge -F pcap -w out a b | pcap 1 cut | pcap 2 3 | 1 | 53 | 44
-merge -a -F pcap -w out a b | pcap 1 cut | pcap 2 3 | 1 | 53 | 0
-infos a b | pcap 1 cut | pcap 2 3 | 1 | 53 | 0
-edit -D 3 -F pcap a out | section ether raw on-0 on-1 on-0 | - | 1 | 140 | 0
-infos a b | pcap 1 | pcap-2.3 2 3 | 1 | 44 | 24
-merge -F pcap -w out a b | pcap 1 3 | pcap 2 | 0 | 64 | 44";
+print -c 1 a len = 4 | pcap 1 2 | - | 0 | 44 | 0 | 0 | 0
+print -c 2 a len = 4 | pcap 1 2 3 | - | 0 | 64 | 0 | 20 | 0
+print -c 1 a len = 4 | section ether raw on-0 on-1 | - | 0 | 104 | 0 | 0 | 0
+merge -F pcap -w out a b | pcap 1 cut | pcap 2 3 | 1 | 53 | 44 | 0 | 0
+merge -F pcap -w out a b | pcap 2 cut | pcap 1 3 | 1 | 53 | 64 | 0 | 20
+merge -a -F pcap -w out a b | pcap 1 cut | pcap 2 3 | 1 | 53 | 0 | 0 | 0
+infos a b | pcap 1 cut | pcap 2 3 | 1 | 53 | 0 | 0 | 0
+edit -D 3 -F pcap a out | section ether raw on-0 on-1 on-0 | - | 1 | 140 | 0 | 36 | 0
+infos a b | pcap 1 | pcap-2.3 2 3 | 1 | 44 | 24 | 0 | 0
+merge -F pcap -w out a b | pcap 1 3 | pcap 2 | 0 | 64 | 44 | 0 | 0";
 
 /// A row of the table.
 #[derive(Drop)]
@@ -47,6 +50,7 @@ struct Work {
     files: [Vec<u8>; 2],
     status: u8,
     bytes: [usize; 2],
+    lent: [usize; 2],
 }
 
 /// The work of a row.
@@ -55,12 +59,18 @@ fn work_of(alloc: Global, row: &'static str) -> Result<Work, Fail> {
     let (first, rest) = field(rest);
     let (second, rest) = field(rest);
     let (status, rest) = field(rest);
-    let (of_first, of_second) = field(rest);
+    let (of_first, rest) = field(rest);
+    let (of_second, rest) = field(rest);
+    let (lent_of_first, lent_of_second) = field(rest);
     Ok(Work {
         line: line_of(alloc, words)?,
         files: [capture_of(alloc, first)?, capture_of(alloc, second)?],
         status: status.parse::<u8>()?,
         bytes: [of_first.parse::<usize>()?, of_second.parse::<usize>()?],
+        lent: [
+            lent_of_first.parse::<usize>()?,
+            lent_of_second.parse::<usize>()?,
+        ],
     })
 }
 
@@ -199,10 +209,15 @@ fn do_work(alloc: Global, work: &Work, way: Way) -> Result<Seen, Fail> {
     })
 }
 
-/// Whether a work was done with its status, after as many bytes as it says.
-fn is_done(work: &Work, seen: &Seen) -> bool {
+/// Whether a work was done with its status, after as many bytes as it says: given, or lent.
+fn is_done(work: &Work, lends: bool, seen: &Seen) -> bool {
+    let mut given = work.bytes;
+    if lends {
+        given[0] = given[0].saturating_sub(work.lent[0]);
+        given[1] = given[1].saturating_sub(work.lent[1]);
+    }
     let [first, second] = seen.asked;
-    seen.ended.status == Some(work.status) && [first.bytes, second.bytes] == work.bytes
+    seen.ended.status == Some(work.status) && [first.bytes, second.bytes] == given
 }
 
 /// Whether the job, closed after each number of steps, reads as much of its inputs as its steps
@@ -219,7 +234,7 @@ fn closes_quietly(alloc: Global, work: &Work, lends: bool) -> Result<bool, Fail>
             return Ok(false);
         }
         if seen.ended.status.is_some() {
-            return Ok(is_done(work, &seen));
+            return Ok(is_done(work, lends, &seen));
         }
     }
     Ok(false)
@@ -278,7 +293,8 @@ fn a_run_reads_no_more_than_its_steps(rt: HostRuntime) -> Result<(), Fail> {
                 steps: None,
                 growth: 0,
             };
-            assert!(rt; is_done(&work, &do_work(rt.alloc(), &work, way)?), "{row}");
+            let seen = do_work(rt.alloc(), &work, way)?;
+            assert!(rt; is_done(&work, lends, &seen), "{row}");
         }
     }
     Ok(())

@@ -10,7 +10,7 @@ use std::cell::Cell;
 pub struct Asked {
     /// The calls that take bytes, or would.
     pub calls: u64,
-    /// The bytes that it gave, with those that it may pass after them, since they are lent.
+    /// The bytes that it gave. Those that are lent at the end aren't among them.
     pub bytes: usize,
 }
 
@@ -31,19 +31,12 @@ pub struct Watched<'a> {
 }
 
 impl Watched<'_> {
-    /// Counts a call that takes bytes, or would.
+    /// Counts a call that takes bytes, or would, and the bytes that are given with it.
     fn count(&self) {
-        let mut new = self.asked.get();
-        new.calls = new.calls.saturating_add(1);
-        self.asked.set(new);
-        self.count_bytes(0);
-    }
-
-    /// Counts the bytes that it gave, and as many after them.
-    fn count_bytes(&self, more: usize) {
-        let mut new = self.asked.get();
-        new.bytes = new.bytes.max(self.inner.given().saturating_add(more));
-        self.asked.set(new);
+        self.asked.set(Asked {
+            calls: self.asked.get().calls.saturating_add(1),
+            bytes: self.inner.given(),
+        });
     }
 }
 
@@ -72,16 +65,8 @@ impl Input for Watched<'_> {
         }
     }
 
-    fn can_pass(&self, count: usize) -> bool {
-        let can_pass = self.lends && self.inner.can_pass(count);
-        if can_pass {
-            self.count_bytes(count);
-        }
-        can_pass
-    }
-
     fn pass(&mut self, count: usize) -> bool {
-        let passes = self.lends && self.inner.pass(count);
+        let passes = count <= self.at_hand().len() && self.inner.pass(count);
         self.count();
         passes
     }

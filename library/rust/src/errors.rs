@@ -34,6 +34,7 @@ macro_rules! numbers {
 numbers! {
     /// Why an expression isn't compiled.
     Status {
+        // tools/library_numbers.py writes these from capkit.h.
         TooLong = 1, UnknownCharacter = 2, UnknownWord = 3, NumberTooLarge = 4,
         NotAnExpression = 5, NestedTooDeep = 6, QualifiersDoNotFit = 7, ValueOutOfRange = 8,
         BitsPastMask = 9, DivisionByZero = 10, TooManyWords = 11, ProgramTooLong = 12,
@@ -44,6 +45,7 @@ numbers! {
 numbers! {
     /// The rules of programs.
     Rule {
+        // tools/library_numbers.py writes these from capkit.h.
         Empty = 101, TooMany = 102, UnknownCode = 103, JumpOut = 104, NoSuchWord = 105,
         DivisionByZero = 106, ShiftTooFar = 107, NoReturn = 108,
     }
@@ -52,6 +54,7 @@ numbers! {
 numbers! {
     /// The checks of a capture's units, and of packets that are written.
     Check {
+        // tools/library_numbers.py writes these from capkit.h.
         NotACaptureFile = 201, Truncated = 202, BadVersion = 203, TooLong = 204,
         BadBlockLength = 205, BadByteOrderMagic = 206, UnknownInterface = 207, BadOption = 208,
         BadBody = 209, TimeOutOfRange = 210, TooManyInterfaces = 211, BadTimeResolution = 212,

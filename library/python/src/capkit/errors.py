@@ -13,6 +13,7 @@ if TYPE_CHECKING:
 class Status(enum.IntEnum):
     """Why an expression isn't compiled."""
 
+    # tools/library_numbers.py writes these from capkit.h.
     TOO_LONG = 1
     UNKNOWN_CHARACTER = 2
     UNKNOWN_WORD = 3
@@ -33,6 +34,7 @@ class Status(enum.IntEnum):
 class Rule(enum.IntEnum):
     """The rules that a program keeps."""
 
+    # tools/library_numbers.py writes these from capkit.h.
     EMPTY = 101
     TOO_MANY = 102
     UNKNOWN_CODE = 103
@@ -46,6 +48,7 @@ class Rule(enum.IntEnum):
 class Check(enum.IntEnum):
     """The checks of a capture's units, and of packets that are written."""
 
+    # tools/library_numbers.py writes these from capkit.h.
     NOT_A_CAPTURE_FILE = 201
     TRUNCATED = 202
     BAD_VERSION = 203
