@@ -4,20 +4,18 @@ use Rattle.cap_io.proofs.BlocksCame.{BlockCame, BlockMissing, Describes}
 use Rattle.cap_io.proofs.Came.{Taken-following, most_taken-file}
 use Rattle.cap_io.proofs.Common.{◌≡◌, ℕ, ◌+◌, ◌<◌, ◌≤◌, ◌^◌, IsTrue, Result, Ok, Err, inl, inr, Bool, true, false, List, [], ◌∷◌, ◌++◌, length, take, Option}
 use Rattle.cap_io.proofs.Common.{rules}
-use Rattle.cap_io.proofs.Common.{Some, None, is_some, refl, sym, ap, ◌∙◌, subst, arith, unwrap_or, if◌then◌else◌, nat_le, slice_get, option_map, option_or}
-use Rattle.cap_io.proofs.Common.{option_to_list, length-append, length-take-le, All-nil, Captured, Fault, ReadFailed, Truncated, Order, Little, u32_in, Head}
-use Rattle.cap_io.proofs.Common.{Parts, SectionParts, EnhancedParts, SimpleParts, body_in, parts_in, parts_in_body, frame_in, is_section, magic_order, order_in}
-use Rattle.cap_io.proofs.Common.{type_in, type_of_block, Described, FitSection, IsBlock, Section, frame_after, interfaces_before, order_before, packet_by}
+use Rattle.cap_io.proofs.Common.{Some, None, is_some, refl, sym, ap, ◌∙◌, subst, arith, unwrap_or, if◌then◌else◌, slice_get, option_map, option_or}
+use Rattle.cap_io.proofs.Common.{option_to_list, length-append, length-take-le, All-nil, Captured, Fault, Truncated, Order, Little, Head}
+use Rattle.cap_io.proofs.Common.{Parts, SectionParts, EnhancedParts, SimpleParts, frame_in, is_section, magic_order, order_in}
+use Rattle.cap_io.proofs.Common.{Described, FitSection, IsBlock, Section, interfaces_before, order_before, packet_by}
 use Rattle.cap_io.proofs.Common.{packets_in, parts_after, section_after, section_by, unit_fault, passes, unit_fault-few, Frame, PacketSpans, FileState, Enters}
 use Rattle.cap_io.proofs.Common.{KnowsIfAny, held_packet, section_of, Declared, Nothing, PcapFile, PcapngFile, Front, IsUnit, a_pcap_header, a_first_block}
 use Rattle.cap_io.proofs.Common.{a_block, file_after, first_link_after, front_of, is_pcapng, TakesMemory, declared_by, NoMemory, most_in_unit, read_failures}
 use Rattle.cap_io.proofs.Common.{most_taken, packet_in_unit, decisive_length, block_length, BeginsBlock, FrontMissing, HasInterface, HeaderCame, IsSized}
-use Rattle.cap_io.proofs.Common.{IsConsistent, PacketCame, ReadsUnit, NoUnitCame, RestMissing, UnitCame, UnitPassed, known_first_link, known_order}
-use Rattle.cap_io.proofs.Common.{section_before, unit_size, span_bytes, is_interface}
+use Rattle.cap_io.proofs.Common.{IsConsistent, PacketCame, ReadsUnit, NoUnitCame, RestMissing, UnitPassed, known_first_link, known_order}
+use Rattle.cap_io.proofs.Common.{section_before, unit_size, span_bytes}
 use Rattle.cap_io.proofs.Fronts.{block_unless, front_of-following, front_of-pcapng, front_of_block-none, is_pcapng-append, most_taken-block}
-use Rattle.cap_io.proofs.Fronts.{decisive_length-pcapng, decisive_block_length, decisive_block_length-few, is_section-append}
-use Rattle.cap_io.proofs.Units.{and_second, first-section}
-use Rattle.cap_pcapng.specs.declared.frames.BlockType.{BlockType}
+use Rattle.cap_io.proofs.Fronts.{decisive_length-pcapng, decisive_block_length, decisive_block_length-few}
 use Rattle.cap_octet.specs.declared.device.Input.{Ghosts}
 use Rattle.cap_io.specs.inside.Reading.{Moves}
 use Rattle.cap_io.specs.declared.{file_state.NextUnit.NextUnit, next_unit.UnitReader.UnitReader}

@@ -30,9 +30,9 @@ pub use Rattle.cap_io.specs.declared.file_state.FileState.{FileState}
 pub use Rattle.cap_io.specs.declared.{numbering.InterfaceNumber.InterfaceNumber, sink.SinkState.SinkState}
 pub use Rattle.cap_io.specs.declared.sink.SinkState.TheVariants.{Empty, Started, Broken}
 pub use Rattle.cap_io.specs.inside.Numbering.{HasNumber, IsFirst}
-pub use Rattle.cap_io.specs.inside.Reading.{RestMissing, NoUnitCame, HeaderCame, PacketCame, BeginsBlock, FrontMissing, FitsBuffer, HasInterface, UnitLent}
+pub use Rattle.cap_io.specs.inside.Reading.{RestMissing, NoUnitCame, HeaderCame, PacketCame, BeginsBlock, FrontMissing, FitsBuffer, HasInterface}
 pub use Rattle.cap_io.specs.inside.Reading.{IsSized, IsConsistent, ReadsUnit, UnitCame, UnitPassed, known_first_link, known_order, section_before, unit_size}
-pub use Rattle.cap_io.specs.inside.Reading.{record_spans, EndCame}
+pub use Rattle.cap_io.specs.inside.Reading.{record_spans, EndCame, BeginsWithPacket, UnitLent}
 pub use Rattle.cap_io.specs.inside.Sink.{Appends, packet_block_text, description_text}
 pub use Rattle.cap_io.specs.inside.Source.{IsBetween, TakesNext, HoldsIfAny}
 pub use Rattle.cap_octet.specs.Checks.{checked, first_failing}

@@ -5,17 +5,17 @@ use Rattle.cap_io.proofs.CapturesCame.{first-packets, order-held, section-kept}
 use Rattle.cap_io.proofs.Common.{◌≡◌, ℕ, ◌+◌, ◌^◌, ◌<◌, ◌≤◌, List, [], ◌∷◌, ◌++◌, length, take, drop, Option, Some, None, Ok, Err, true, false, is_some, refl}
 use Rattle.cap_io.proofs.Common.{sym, ap, ◌∙◌, subst, arith, lt-leb, option_map, slice_get, take-take, length-take-le, take-append-drop, length-append}
 use Rattle.cap_io.proofs.Common.{checked, first_failing, checked_ok, checked_err, Captured, Fault, Truncated, Order, Head, RecordHead, header_fault}
-use Rattle.cap_io.proofs.Common.{header_in, header_fault-none, header_in-append, header_fault-append, field_checks, field_checks-append, record_header_in}
+use Rattle.cap_io.proofs.Common.{header_in, header_in-append, header_fault-append, field_checks, field_checks-append, record_header_in}
 use Rattle.cap_io.proofs.Common.{record_header_in-append, record_fault, record_fault-fields, record_fault-short, captured_len, most_captured, most_in_unit}
 use Rattle.cap_io.proofs.Common.{is_section, frame_checks-append, frame_in-append, frame_fault, frame_in, most_interfaces, Described, Section, block_size}
 use Rattle.cap_io.proofs.Common.{interfaces_before, order_before, packets_in, parts_after, parts_in, parts_in-append, unit_fault, unit_fault-frame}
 use Rattle.cap_io.proofs.Common.{unit_fault-short, Frame, PacketSpans, IsBlockFault, section_of, FileState, Declared, Nothing, PcapFile, PcapngFile, Whole}
 use Rattle.cap_io.proofs.Common.{NoUnit, IsUnit, a_pcap_header, a_pcap_record, a_first_block, a_block, file_after, first_link_after, front_of, is_pcapng}
-use Rattle.cap_io.proofs.Common.{declared_by, packet_in_unit, known_first_link, known_order, section_before, HasInterface, IsConsistent, PacketCame}
+use Rattle.cap_io.proofs.Common.{declared_by, packet_in_unit, known_first_link, known_order, section_before, HasInterface, IsConsistent, BeginsWithPacket, PacketCame, append_assoc}
 use Rattle.cap_io.proofs.Common.{record_spans}
-use Rattle.cap_io.proofs.Fronts.{block_unless, front_of-following, front_of-header, front_of-pcapng, front_of-no_header, front_of-no_record}
+use Rattle.cap_io.proofs.Fronts.{block_unless, front_of-following, front_of-pcapng, front_of-no_header, front_of-no_record}
 use Rattle.cap_io.proofs.Fronts.{front_of_block-none, is_pcapng-append}
-use Rattle.cap_io.proofs.Hands.{record-taken}
+use Rattle.cap_io.proofs.Came.{fields_came, record_came}
 use Rattle.cap_io.proofs.OwnFaults.{one_more}
 use Rattle.cap_io.proofs.Units.{block-front, front_of-is, front_of-unit}
 use Rattle.cap_io.specs.FirstUnit.{BeginsWithUnit, HoldsPackets}
@@ -85,6 +85,25 @@ record-cut head text front found enough same is short =
     front_of-no_record head text Truncated (omega arith)
     (record_fault-short head text enough (fields_taken head text front enough same ∙ e.0) (omega (arith, size, short)))
 
+-- the record is a unit with a packet
+record-packet : (head : Head) (text : List ℕ) (found : RecordHead) → checked (first_failing (field_checks head (take 16 text)))
+    (record_header_in head (take 16 text)) ≡ Ok found
+    → 16 + found.captured ≤ length text
+    → PacketCame (PcapFile head) text text (record_spans found) (PcapFile head) (drop (16 + found.captured) text)
+record-packet head text found says there =
+    let size : ℕ = 16 + found.captured in
+    let unit : List ℕ = take size text in
+    let front : List ℕ = take 16 text in
+    let rest : List ℕ = drop size text in
+    let upper_bound : length front ≡ 16 = length-take-le 16 text (omega (arith, there)) in
+    let first : take 16 unit ≡ front = take-take 16 size text (omega arith) in
+    let joined : unit ≡ front ++ drop 16 unit = sym (take-append-drop 16 unit) ∙ ap (λ (l : List ℕ). l ++ drop 16 unit) first in
+    let splits : text ≡ unit ++ rest = sym (take-append-drop size text) in
+    let parts : text ≡ front ++ (drop 16 unit ++ rest) = splits ∙ ap (λ (l : List ℕ). l ++ rest) joined ∙ append_assoc front (drop 16 unit) rest in
+    record_came head text (drop 16 unit ++ rest) rest front unit text found size parts upper_bound
+    (fields_came head front (Ok found) found (sym says) refl) refl (length-take-le size text there)
+    (ap (λ (n : ℕ). take n unit) upper_bound ∙ first) (ap (λ (n : ℕ). drop n unit ++ rest) (sym upper_bound)) refl
+
 pub record-begins : (head : Head) (interfaces : List Described) (text front : List ℕ) (found : RecordHead) → front ≡ take 16 text
     → Ok found ≡ checked (first_failing (field_checks head front)) (record_header_in head front) → 16 + found.captured ≤ length text → found.time < 2 ^ 63
     → found.captured ≤ most_captured → BeginsWithUnit (state.Pcap head) interfaces text
@@ -92,7 +111,7 @@ pub record-begins : (head : Head) (interfaces : List Described) (text front : Li
 record-begins head interfaces text front found same is there time few =
     let size : ℕ = 16 + found.captured in
     let F : List ℕ → Type 0 = λ l. checked (first_failing (field_checks head l)) (record_header_in head l) ≡ Ok found in
-    let p = record-taken head text (drop size text) text found (subst F same (sym is)) there (sym (take-append-drop size text)) in
+    let p = record-packet head text found (subst F same (sym is)) there in
     record {
       packets = p.packet ∷ [];
       front = ap (front_of (PcapFile head)) (sym (take-append-drop size text)) ∙ front_of-unit p.unit (drop size text)
@@ -296,24 +315,37 @@ kept packet (a_block first section bytes is) one fixed =
     ap (λ (s : Section). PcapngFile (first_link_after first s) s) (section-kept section bytes packet one)
     ∙ ap (λ l. PcapngFile l section) fixed
 
-pub packet-taken : (file after : FileState) (interfaces : List Described) (unread unread' hand held : List ℕ) (size : ℕ) (spans : PacketSpans)
-    → IsConsistent file interfaces → BeginsWithUnit file interfaces hand (record { size = size; file = after; effect = does.Packet spans })
-    → take size hand ≡ take size held → unread ≡ take size hand ++ unread'
-    → PacketCame (declared_by file interfaces) unread held spans (declared_by file interfaces) unread'
-packet-taken file after interfaces unread unread' hand held size spans consistent b same splits =
+-- the place of its packet
+pub packet-first : (file after : FileState) (interfaces : List Described) (bytes : List ℕ) (size : ℕ) (spans : PacketSpans)
+    → IsConsistent file interfaces → BeginsWithUnit file interfaces bytes (record { size = size; file = after; effect = does.Packet spans })
+    → BeginsWithPacket (declared_by file interfaces) bytes spans
+packet-first file after interfaces bytes size spans consistent b =
+    let declared : Declared = declared_by file interfaces in
     let p = b.has in
-    let is = front_of-is (declared_by file interfaces) hand size b.packets (declared_by after interfaces) b.front in
-    let stays : declared_by after interfaces ≡ declared_by file interfaces = kept p.packet is.unit p.only (exact file interfaces consistent) in
-    let block : take size hand ≡ take spans.size held = same ∙ ap (λ n. take n held) (sym p.whole) in
-    let D : Declared → Type 0 = λ d. packet_in_unit d spans (take size hand) ≡ Some p.packet in
-    let B : List ℕ → Type 0 = λ t. packet_in_unit (declared_by file interfaces) spans t ≡ Some p.packet in
-    let U : Declared → Type 0 = λ d. IsUnit (declared_by file interfaces) (take size hand) b.packets d in
-    let V : List Captured → Type 0 = λ qs. IsUnit (declared_by file interfaces) (take size hand) qs (declared_by file interfaces) in
-    let W : List ℕ → Type 0 = λ t. IsUnit (declared_by file interfaces) t (p.packet ∷ []) (declared_by file interfaces) in
+    let is = front_of-is declared bytes size b.packets (declared_by after interfaces) b.front in
+    let stays : declared_by after interfaces ≡ declared = kept p.packet is.unit p.only (exact file interfaces consistent) in
+    let block : take size bytes ≡ take spans.size bytes = ap (λ n. take n bytes) (sym p.whole) in
+    let D : Declared → Type 0 = λ d. packet_in_unit d spans (take size bytes) ≡ Some p.packet in
+    let B : List ℕ → Type 0 = λ t. packet_in_unit declared spans t ≡ Some p.packet in
+    let U : Declared → Type 0 = λ d. IsUnit declared (take size bytes) b.packets d in
+    let V : List Captured → Type 0 = λ qs. IsUnit declared (take size bytes) qs declared in
+    let W : List ℕ → Type 0 = λ t. IsUnit declared t (p.packet ∷ []) declared in
+    let lent : packet_in_unit declared spans (take size bytes) ≡ Some p.packet = subst D stays p.is_lent in
     record {
-      packet = p.packet;
-      is_lent = subst B block (subst D stays p.is_lent);
-      unit = subst W block (subst V p.only (subst U stays is.unit));
-      same = refl;
-      splits = splits ∙ ap (λ (l : List ℕ). l ++ unread') block;
+      lies = record {
+        bytes = omega (arith, p.whole, p.bytes);
+        options = omega (arith, p.whole, p.options);
+        there = omega (arith, p.whole, b.there);
+        some = omega (arith, p.whole, b.some);
+        small = omega (arith, p.whole, b.small);
+        time = p.time;
+      };
+      known = has-interface declared spans (take size bytes) p.packet lent;
+      came = record {
+        packet = p.packet;
+        is_lent = subst B block lent;
+        unit = subst W block (subst V p.only (subst U stays is.unit));
+        same = refl;
+        splits = sym (take-append-drop spans.size bytes);
+      };
     }

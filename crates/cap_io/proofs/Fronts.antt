@@ -1,7 +1,7 @@
 -- The first unit of some bytes depends only on their prefix.
 use Rattle.cap_io.proofs.Common.{rules}
-use Rattle.cap_io.proofs.Common.{◌≡◌, ℕ, ◌<◌, ◌≤◌, Bool, List, [], ◌∷◌, ◌++◌, length, take, Option, Some, None, true, false, refl, sym, ap, ◌∙◌, subst, arith}
-use Rattle.cap_io.proofs.Common.{◌&&◌, and_from, le-leb, length-append, Fault, Little, Head, first_failing, form_in, header_fault, header_in, record_size}
+use Rattle.cap_io.proofs.Common.{◌≡◌, ℕ, ◌<◌, ◌≤◌, Bool, List, [], ◌∷◌, ◌++◌, length, take, Option, Some, None, true, false, refl, ap, ◌∙◌, arith}
+use Rattle.cap_io.proofs.Common.{◌&&◌, le-leb, length-append, Fault, Little, Head, first_failing, form_in, header_fault, header_in, record_size}
 use Rattle.cap_io.proofs.Common.{record_fault, record_packet, frame_checks, is_section, Section, block_size, order_before, packets_in, unit_fault, least_length}
 use Rattle.cap_io.proofs.Common.{is_some, is_none, nat_le, unwrap_or, if◌then◌else◌, Nothing, PcapFile, PcapngFile, Front, Whole, NoUnit, file_after, front_of}
 use Rattle.cap_io.proofs.Common.{front_of_block, is_pcapng, unit_unless, most_in_unit, most_taken, length_by_header, block_length, decisive_length}

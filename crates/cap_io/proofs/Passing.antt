@@ -11,7 +11,7 @@ use Rattle.cap_io.proofs.Units.{FitUnits-append, FitUnits-wider, one_unit_fits, 
 use Rattle.cap_pcapng.specs.{Comment.comment_in, declared.effect.Span.Span}
 use Rattle.cap_io.specs.declared.{file_state.NextUnit.NextUnit, source.Stage.Stage}
 use Rattle.cap_io.specs.{Source.KeepsBounds, inside.Source.Continues, inside.Source.NextBounds, inside.Source.past_unit}
-use Rattle.std.specs.Result.{OnErr, OnOk}
+use Rattle.std.specs.Result.{OnOk}
 
 -- ---- no unit is gone over
 

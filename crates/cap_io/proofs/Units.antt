@@ -1,11 +1,10 @@
 -- Complete units, and what bytes begin with.
 use Rattle.cap_io.proofs.Common.{rules}
-use Rattle.std.proofs.Math.Bool.{or-false}
 use Rattle.cap_io.proofs.Common.{◌≡◌, ℕ, Bool, true, false, ◌&&◌, cond, is_some, ◌⊎◌, inl, inr, ◌<◌, ◌≤◌, List, [], ◌∷◌, ◌++◌, length, take, drop, Option, None}
 use Rattle.cap_io.proofs.Common.{Some, refl, sym, ◌∙◌, ap, arith, append-nil, length-append, length-take-le, take-append-drop, take_at, Captured, Fault, Head}
 use Rattle.cap_io.proofs.Common.{Resolution, Microseconds, Nanoseconds, form_in, header_checks, header_fault, header_in, magic, IsHeader, record_fault}
 use Rattle.cap_io.proofs.Common.{record_size, record_packet, IsRecord, header_fault-append, header_fault-none, header_in-append, IsRecord-front, IsRecord-take}
-use Rattle.cap_io.proofs.Common.{◌==◌, nat_le, le-leb, u32_in, Little, Big, all_met, frame_checks, is_section, section_type, IsBlock, Section, block_size}
+use Rattle.cap_io.proofs.Common.{◌==◌, nat_le, u32_in, Little, Big, all_met, is_section, section_type, IsBlock, Section, block_size}
 use Rattle.cap_io.proofs.Common.{packets_in, unit_fault, Declared, Nothing, PcapFile, PcapngFile, IsUnit, a_pcap_header, a_pcap_record, a_first_block, a_block}
 use Rattle.cap_io.proofs.Common.{file_after, is_pcapng, placed_at, AreUnits, no_unit, unit_then, Whole, front_of, subst, append_assoc, FitUnits, no_unit_fits}
 use Rattle.cap_io.proofs.Common.{unit_fits, held_length}

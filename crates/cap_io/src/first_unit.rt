@@ -76,10 +76,11 @@ pub fn record_in(head: &Head, bytes: &[u8]) -> Result<PacketSpans, Fault>
         Ok(record) => record,
         Err(fault) => return Err(fault),
     };
-    if bytes.len() < RECORD_HEADER_LENGTH + record.captured as usize {
+    let spans = record_spans(&record);
+    if bytes.len() < spans.size as usize {
         return Err(Fault::Truncated);
     }
-    Ok(record_spans(&record))
+    Ok(spans)
 }
 
 /// The first link type that a file has declared once a block with this effect is read: `first`, if

@@ -5,6 +5,7 @@ ghost use Rattle.std.proofs.Common.{rules};
 ghost use Rattle.cap_io.specs.inside.Lending.{Lends};
 
 use cap_octet::{DeviceFault, Input};
+use cap_pcapng::PacketSpans;
 
 /// An input whose first bytes at hand may be lent. What is lent counts as given, but the input
 /// itself passes it only before it is asked for more: until then the bytes stay in its buffer, and
@@ -15,8 +16,6 @@ pub(crate) struct Lending<I: Input> {
     /// How many bytes are lent.
     lent: usize,
     ghost within: { lent ≤ length (I.held input) },
-    ghost bounded: { 0 < lent → I.given input + lent < 2 ^ 63 },
-    ghost short: { lent < 2 ^ 63 },
 }
 
 impl<I: Input> Lending<I> {
@@ -42,27 +41,36 @@ impl<I: Input> Lending<I> {
         ensures held { result.now ≡ drop self.now.lent (I.held self.now.input) }
         ensures exact { IsTrue I.tells
             → StartsWith (drop self.now.lent (I.unread self.now.input)) result.now }
-        ensures bounded { I.given self.now.input + self.now.lent + length result.now < 2 ^ 63 }
+        ensures bounded { I.given self.now.input + length (I.held self.now.input) < 2 ^ 63 }
     {
         &self.input.at_hand()[self.lent..]
     }
 
-    /// Lends the next `count` bytes, which aren't 0, if the input has them at hand: what was lent
-    /// before is passed. Else it changes nothing, and returns `false`.
+    /// Lends the next unit, which is at hand and has this packet, and puts its place into `spans`;
+    /// what was lent before is passed. If the unit has more than `room` bytes it changes nothing,
+    /// and returns `false`.
     #[inline(always)]
-    pub(crate) fn lend(&mut self, count: usize) -> bool
-        requires some { 0 < count }
-        requires short { count < 2 ^ 63 }
-        ensures nothing { result ≡ false → (self.new.input ≡ self.old.input)
-            × (self.new.lent ≡ self.old.lent) }
-        ensures lends { result ≡ true → Lends I.Input count self.old.input self.old.lent
+    pub(crate) fn lend_unit(
+        &mut self,
+        packet: PacketSpans,
+        room: usize,
+        spans: &mut PacketSpans,
+    ) -> bool
+        requires there { packet.size ≤ length (drop self.old.lent (I.held self.old.input)) }
+        requires bounded { I.given self.old.input + length (I.held self.old.input) < 2 ^ 63 }
+        ensures lends { result ≡ true → Lends I.Input packet.size self.old.input self.old.lent
             self.new.input self.new.lent }
+        ensures place { result ≡ true → (spans.new ≡ packet) × (packet.size ≤ room) }
+        ensures nothing { result ≡ false → (self.new.input ≡ self.old.input)
+            × (self.new.lent ≡ self.old.lent) × (spans.new ≡ spans.old) }
     {
-        if count > self.next_bytes().len() {
+        let size = packet.size as usize;
+        if size > room {
             return false;
         }
         self.settle();
-        self.lent = count;
+        self.lent = size;
+        *spans = packet;
         true
     }
 

@@ -1,13 +1,12 @@
 //! The next unit of a file of either format.
 ghost use Rattle.std.specs.Prelude.{◌≡◌, ◌++◌, IsTrue, IfOk, IfErr, [], false, length, true};
 ghost use Rattle.cap_io.specs.{Capture.Nothing, Reading.declared_by};
-ghost use Rattle.cap_io.specs.inside.Reading.{IsConsistent, Moves, ReadsUnit, NoUnitCame, UnitLent};
+ghost use Rattle.cap_io.specs.inside.Reading.{IsConsistent, Moves, ReadsUnit, NoUnitCame};
 ghost use Rattle.cap_io.specs.declared.file_state.FileState.TheVariants as state;
 
 use crate::file_state::{FileState, NextUnit};
-use crate::lending::Lending;
-use crate::pcap::{lend_record, read_header};
-use crate::pcapng::{BLOCK_FRONT, lend_block};
+use crate::pcap::read_header;
+use crate::pcapng::BLOCK_FRONT;
 use crate::unit::read_rest;
 use cap_octet::{Fault, Input, read_full};
 use cap_pcapng::{PacketSpans, Table, begins_section};
@@ -49,30 +48,6 @@ pub(crate) struct UnitReader<I: Input, A: Allocator> {
     pub(crate) table: Table<A>,
     /// The place where the packet of the current unit lies, if it has one.
     pub(crate) spans: PacketSpans,
-}
-
-/// Lends the next unit and puts the place of its packet into `spans`. Does so only if the unit has
-/// a packet, the device has all of it at hand and would pass it, it has at most `room` bytes, and
-/// it fails no check. `false` if not: then nothing changes.
-#[inline(always)]
-pub(crate) fn lend_unit<I: Input, A: Allocator>(
-    input: &mut Lending<I>,
-    file: &FileState,
-    table: &Table<A>,
-    room: usize,
-    spans: &mut PacketSpans,
-) -> bool
-    requires { IsConsistent file.now table.now }
-    ensures lent { result ≡ true → UnitLent I.Input (declared_by file.now table.now) room input.old
-        spans.new input.new }
-    ensures nothing { result ≡ false → (input.new.input ≡ input.old.input)
-        × (input.new.lent ≡ input.old.lent) × (spans.new ≡ spans.old) }
-{
-    // For pcap one test of the file.
-    if let FileState::Pcap(head) = file {
-        return lend_record(input, head, room, spans);
-    }
-    lend_block(input, file, table, room, spans)
 }
 
 impl<I: Input, A: Allocator> UnitReader<I, A> {

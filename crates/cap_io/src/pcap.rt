@@ -2,13 +2,12 @@
 ghost use Rattle.std.specs.Prelude.{◌≡◌, ◌+◌, ◌<◌, ◌≤◌, ◌++◌, false, true, IsTrue, IfOk, IfErr, []};
 ghost use Rattle.std.specs.Prelude.{length};
 ghost use Rattle.cap_pcapng.specs.Frame.{is_section};
-ghost use Rattle.cap_io.specs.inside.Reading.{HeaderCame, Moves, ReadsUnit, NoUnitCame, UnitLent};
+ghost use Rattle.cap_io.specs.inside.Reading.{HeaderCame, Moves, ReadsUnit, NoUnitCame};
 ghost use Rattle.cap_io.specs.{Capture.Nothing, Capture.PcapFile, inside.Reading.record_spans};
 ghost use Rattle.cap_pcap.specs.Record.{most_captured};
 ghost use Rattle.cap_io.specs.declared.file_state.FileState.TheVariants as state;
 
 use crate::file_state::NextUnit;
-use crate::lending::Lending;
 use crate::next_unit::UnitReader;
 use crate::unit::{make_room, read_front, read_rest};
 use cap_octet::{Fault, Input, u32_at};
@@ -37,36 +36,6 @@ pub(crate) fn read_header<I: Input>(input: &mut I, first: &[u8; 4]) -> Result<He
     let mut bytes = [0; 24];
     read_rest(input, first, &mut bytes, 24)?;
     read_head(&bytes)
-}
-
-/// Lends the next record, and puts the place of its packet into `spans`, if the device has all of
-/// it at hand and would pass it, it has at most `room` bytes, and it fails no check. `false` if
-/// not: then nothing changes.
-#[inline(always)]
-pub(crate) fn lend_record<I: Input>(
-    input: &mut Lending<I>,
-    head: &Head,
-    room: usize,
-    spans: &mut PacketSpans,
-) -> bool
-    ensures lent { result ≡ true → UnitLent I.Input (PcapFile head.now) room input.old spans.new
-        input.new }
-    ensures nothing { result ≡ false → (input.new.input ≡ input.old.input)
-        × (input.new.lent ≡ input.old.lent) × (spans.new ≡ spans.old) }
-{
-    let hand = input.next_bytes();
-    let Some(front) = hand.first_chunk::<RECORD_HEADER_LENGTH>() else {
-        return false;
-    };
-    let Ok(found) = read_record(head, front) else {
-        return false;
-    };
-    let size = RECORD_HEADER_LENGTH + found.captured as usize;
-    if size > room || !input.lend(size) {
-        return false;
-    }
-    *spans = record_spans(&found);
-    true
 }
 
 /// Whether the next record is wholly among these bytes, by its captured length.

@@ -3,13 +3,11 @@ ghost use Rattle.std.specs.Prelude.{◌≡◌, ◌^◌, ◌<◌, ◌≤◌, IfOk
 ghost use Rattle.std.specs.Prelude.{Option, false, is_some, length};
 ghost use Rattle.cap_pcapng.specs.{Interface.FitSection, Effect.Enters, Effect.section_of};
 ghost use Rattle.cap_pcapng.specs.inside.Effect.{IsEntryFault};
-ghost use Rattle.cap_io.specs.inside.Reading.{BeginsBlock, IsConsistent, ReadsUnit, UnitLent};
+ghost use Rattle.cap_io.specs.inside.Reading.{BeginsBlock, IsConsistent, ReadsUnit};
 ghost use Rattle.cap_io.specs.{Reading.declared_by, Capture.first_link_after};
 ghost use Rattle.cap_io.specs.inside.Reading.{known_order};
 
 use crate::file_state::{FileState, NextUnit};
-use crate::first_unit::block_in;
-use crate::lending::Lending;
 use crate::next_unit::UnitReader;
 use crate::unit::{make_room, read_front, read_rest};
 use cap_octet::{Fault, Input, Order};
@@ -61,41 +59,6 @@ fn first_link_type<A: Allocator>(first: Option<u16>, table: &Table<A>) -> Option
         (None, Some(interface)) => Some(interface.link),
         _ => first,
     }
-}
-
-/// Lends the next block of a pcapng file, and puts the place of its packet into `spans`, if it has
-/// one, the device has all of it at hand and would pass it, it has at most `room` bytes, and it
-/// fails no check. `false` if not: then nothing changes.
-#[inline(never)]
-pub(crate) fn lend_block<I: Input, A: Allocator>(
-    input: &mut Lending<I>,
-    file: &FileState,
-    table: &Table<A>,
-    room: usize,
-    spans: &mut PacketSpans,
-) -> bool
-    requires { IsConsistent file.now table.now }
-    ensures lent { result ≡ true → UnitLent I.Input (declared_by file.now table.now) room input.old
-        spans.new input.new }
-    ensures nothing { result ≡ false → (input.new.input ≡ input.old.input)
-        × (input.new.lent ≡ input.old.lent) × (spans.new ≡ spans.old) }
-{
-    let FileState::Pcapng(_, _) = *file else {
-        return false;
-    };
-    let hand = input.next_bytes();
-    let Ok(found) = block_in(file, table, hand) else {
-        return false;
-    };
-    let BlockEffect::Packet(packet) = found.effect else {
-        return false;
-    };
-    let size = found.size;
-    if size > room || !input.lend(size) {
-        return false;
-    }
-    *spans = packet;
-    true
 }
 
 /// Whether the next block with a packet, and all blocks before it, are wholly among these bytes.

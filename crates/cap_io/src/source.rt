@@ -1,12 +1,17 @@
 //! Packets of a capture, one at a time.
+ghost use Rattle.std.specs.Prelude.{◌≡◌, false, true};
+ghost use Rattle.cap_io.specs.Reading.{declared_by};
+ghost use Rattle.cap_io.specs.inside.Reading.{IsConsistent, UnitLent};
+
 use crate::file_state::{FileState, NextUnit};
+use crate::first_unit::{block_in, record_in};
 use crate::lending::Lending;
-use crate::next_unit::{UnitReader, lend_unit};
+use crate::next_unit::UnitReader;
 use crate::pcap::holds_record;
 use crate::pcapng::holds_packet;
 use cap_octet::{Fault, Input, Packet};
 use cap_pcap::Resolution;
-use cap_pcapng::{PacketSpans, Table};
+use cap_pcapng::{BlockEffect, PacketSpans, Table};
 use std::alloc::Allocator;
 use std::marker::Model;
 
@@ -306,5 +311,63 @@ impl<I: Input, A: Allocator> Source<I, A> {
             NextUnit::End => self.stage = Stage::Ended,
         }
         Ok(unit)
+    }
+}
+
+/// Lends the next unit and puts the place of its packet into `spans`. Does so only if the unit has
+/// a packet, the device has all of it at hand, it has at most `room` bytes, and it fails no check.
+/// `false` if not: then nothing changes.
+#[inline(always)]
+fn lend_unit<I: Input, A: Allocator>(
+    input: &mut Lending<I>,
+    file: &FileState,
+    table: &Table<A>,
+    room: usize,
+    spans: &mut PacketSpans,
+) -> bool
+    requires { IsConsistent file.now table.now }
+    ensures lent { result ≡ true → UnitLent I.Input (declared_by file.now table.now) room input.old
+        spans.new input.new }
+    ensures nothing { result ≡ false → (input.new.input ≡ input.old.input)
+        × (input.new.lent ≡ input.old.lent) × (spans.new ≡ spans.old) }
+{
+    // For pcap one test of the file.
+    let FileState::Pcap(head) = file else {
+        return lend_block(input, file, table, room, spans);
+    };
+    let hand = input.next_bytes();
+    if hand.is_empty() {
+        return false;
+    }
+    let Ok(packet) = record_in(head, hand) else {
+        return false;
+    };
+    input.lend_unit(packet, room, spans)
+}
+
+/// The same for a block of a pcapng file; `false` before the first unit.
+#[inline(never)]
+fn lend_block<I: Input, A: Allocator>(
+    input: &mut Lending<I>,
+    file: &FileState,
+    table: &Table<A>,
+    room: usize,
+    spans: &mut PacketSpans,
+) -> bool
+    requires { IsConsistent file.now table.now }
+    ensures lent { result ≡ true → UnitLent I.Input (declared_by file.now table.now) room input.old
+        spans.new input.new }
+    ensures nothing { result ≡ false → (input.new.input ≡ input.old.input)
+        × (input.new.lent ≡ input.old.lent) × (spans.new ≡ spans.old) }
+{
+    let FileState::Pcapng(_, _) = *file else {
+        return false;
+    };
+    let Ok(found) = block_in(file, table, input.next_bytes()) else {
+        return false;
+    };
+    match found.effect {
+        BlockEffect::Packet(packet) => input.lend_unit(packet, room, spans),
+        _ => false,
     }
 }

@@ -1,6 +1,6 @@
 -- What a device lends, and skips when it is next called.
 use Rattle.std.specs.Io.{StartsWith}
-use Rattle.std.specs.Prelude.{◌≡◌, ℕ, ◌+◌, ◌^◌, ◌<◌, ◌≤◌, drop, length}
+use Rattle.std.specs.Prelude.{◌≡◌, ℕ, ◌+◌, ◌^◌, ◌<◌, drop}
 use Rattle.cap_octet.specs.{Device.HasGiven, declared.device.Input.Ghosts}
 
 -- The device had lent `lent` bytes and skips them; then it lends the first `count` bytes that it
@@ -8,7 +8,6 @@ use Rattle.cap_octet.specs.{Device.HasGiven, declared.device.Input.Ghosts}
 pub record Lends {I : Type 0} (device : Ghosts I) (count : ℕ) (old : I) (lent : ℕ) (new : I)
     (lent' : ℕ) : Type 0 where
   pub is : lent' ≡ count
-  pub there : count ≤ length (drop lent (device.held old))
   pub stays : StartsWith (device.held new) (drop lent (device.held old))
   pub given : device.given new ≡ device.given old + lent
   pub bounded : device.given new + count < 2 ^ 63

@@ -1,6 +1,7 @@
 -- The effect of a call that reads one unit (a file header, a record or a block): on the device, the
 -- buffer and the state of the file. A clause after `IsTrue device.tells` applies only if contracts
 -- know the bytes of the device.
+use Rattle.std.specs.Io.{StartsWith}
 use Rattle.std.specs.List.{slice_get}
 use Rattle.std.specs.Prelude.{◌≡◌, ℕ, ◌+◌, ◌^◌, ◌<◌, ◌≤◌, ◌⊎◌, Bool, true, false, List, [], ◌∷◌, ◌++◌, length, take, drop, Option, None, Some, Result, Err, IfOk, IfErr, is_some, IsTrue, OnOk, OnErr}
 use Rattle.cap_octet.specs.{Device.HasGiven, Packet.Captured, declared.device.Input.Ghosts, declared.fault.Fault.Fault}
@@ -12,6 +13,7 @@ use Rattle.cap_pcapng.specs.{Unit.Section, declared.effect.PacketSpans.PacketSpa
 use Rattle.cap_io.specs.Capture.{Declared, Nothing, PcapFile, PcapngFile, IsUnit, NoUnit, first_link_after, front_of, is_pcapng}
 use Rattle.cap_io.specs.Reading.{most_in_unit, read_failures, IsTaken, TakesMemory, held_length, IsReason, declared_by, packet_in_unit}
 use Rattle.cap_io.specs.declared.file_state.{FileState.FileState, NextUnit.NextUnit}
+use Rattle.cap_io.specs.inside.Lending.{Lends}
 use Rattle.cap_io.specs.declared.{lending.Lending.Lending, next_unit.UnitReader.UnitReader}
 
 -- How a call that reads a unit changes the counts of its device. Before the call, the first `front`
@@ -142,23 +144,22 @@ pub record PacketCame (declared : Declared) (unread buffer : List ℕ) (spans : 
   pub same : declared' ≡ declared
   pub splits : unread ≡ take spans.size buffer ++ unread'
 
--- A whole unit with a packet is lent: it is at the start of the bytes at hand, its packet at these
--- spans, and it has at most `room` bytes. The device gave no more, and didn't fail in this call.
+-- These bytes begin with a whole unit with a packet, which lies at these spans.
+pub record BeginsWithPacket (declared : Declared) (bytes : List ℕ) (spans : PacketSpans) : Type 0 where
+  pub lies : FitsBuffer spans bytes
+  pub known : HasInterface declared spans
+  pub came : PacketCame declared bytes bytes spans declared (drop spans.size bytes)
+
+-- A unit with a packet at these spans is lent: the bytes at hand begin with it, and it has at most
+-- `room` bytes.
 pub record UnitLent {I : Type 0} (device : Ghosts I) (declared : Declared) (room : ℕ)
     (old : Lending I device) (spans : PacketSpans) (new : Lending I device) : Type 0 where
-  pub lies : FitsBuffer spans (device.held new.input)
-  pub known : HasInterface declared spans
+  pub begins : BeginsWithPacket declared (drop old.lent (device.held old.input)) spans
+  pub comes : IsTrue device.tells
+      → StartsWith (drop old.lent (device.unread old.input))
+      (drop old.lent (device.held old.input))
   pub fits : spans.size ≤ room
-  pub counted : device.given new.input + new.lent
-      ≡ device.given old.input + old.lent + spans.size
-  pub bounded : device.given new.input + new.lent < 2 ^ 63
-  pub failed : device.failures new.input ≡ device.failures old.input
-  pub sure : device.sure new.input ≡ device.sure old.input
-  pub enough : 0 < device.failures new.input
-      → HasGiven (device.sure new.input) (device.given new.input + new.lent)
-  pub came : IsTrue device.tells
-      → PacketCame declared (drop old.lent (device.unread old.input)) (device.held new.input) spans
-      declared (drop new.lent (device.unread new.input))
+  pub lends : Lends device spans.size old.input old.lent new.input new.lent
 
 -- the clean end: a unit was read before, and no bytes are unread
 pub record EndCame (declared : Declared) (unread : List ℕ) (declared' : Declared)

@@ -11,13 +11,13 @@ returns-in-Err-clause-err c =
     let first = c.in-Some.ensures.cases in
     record-refused c.args.head.now c.args.bytes.now c.in-Some.front.now c.in-Err.fault first.enough first.same c.in-Err.ensures.answer
 
-pub returns-then-bytes-record-clause-err : goal.returns-then-bytes-record-clause-err
-returns-then-bytes-record-clause-err c =
+pub returns-then-bytes-spans-clause-err : goal.returns-then-bytes-spans-clause-err
+returns-then-bytes-spans-clause-err c =
     let first = c.in-Some.ensures.cases in
-    record-cut c.args.head.now c.args.bytes.now c.in-Some.front.now c.in-Ok.record first.enough first.same c.in-Ok.ensures.answer c.if-bytes-record.true
+    record-cut c.args.head.now c.args.bytes.now c.in-Some.front.now c.in-Ok.record first.enough first.same c.in-Ok.ensures.answer (rw c.record_spans-spans.ensures at c.if-bytes-spans.true)
 
 pub returns-clause-ok : goal.returns-clause-ok
 returns-clause-ok c =
     let first = c.in-Some.ensures.cases in
-    rw c.record_spans.ensures (λ interfaces. record-begins c.args.head.now interfaces c.args.bytes.now c.in-Some.front.now c.in-Ok.record first.same
-    c.in-Ok.ensures.answer c.if-bytes-record.false c.in-Ok.ensures.in_range c.in-Ok.ensures.short)
+    rw c.record_spans-spans.ensures (λ interfaces. record-begins c.args.head.now interfaces c.args.bytes.now c.in-Some.front.now c.in-Ok.record first.same
+    c.in-Ok.ensures.answer (rw c.record_spans-spans.ensures at c.if-bytes-spans.false) c.in-Ok.ensures.in_range c.in-Ok.ensures.short)
