@@ -1,7 +1,7 @@
 -- Code that grew in front still stands at its end; what its first instruction does; and where it
 -- leads: its answer from a place on.
-use Rattle.flt_gen.proofs.Common.{constant_or, ◌≡◌, ℕ, suc, ◌-◌, ◌≤◌, List, ◌∷◌, length, drop, Option, Some, refl, sym, ap, ◌∙◌, arith, Insn, State}
-use Rattle.flt_gen.proofs.Common.{Operation, plain, answer_of, answer_after, answer_drop, code_of, does, does_if_known}
+use Rattle.flt_gen.proofs.Common.{constant_or, ◌≡◌, ℕ, suc, ◌-◌, ◌≤◌, List, ◌∷◌, length, drop, Option, Some, refl, sym, ap, ◌∙◌, arith, Insn, State, Operation}
+use Rattle.flt_gen.proofs.Common.{plain, answer_of, answer_after, answer_drop, code_of, does, does_if_known}
 use Rattle.flt_bpf.proofs.Codes.{code_is}
 use Rattle.flt_bpf.specs.{Instructions.operation_of, Machine.step}
 
@@ -58,10 +58,7 @@ module _ (p : List ℕ) (n : ℕ) where
     pub by : (s : State) → P s → answer_of c p n (length c - place) s ≡ Some v
 
   pub leads_top : {P : State → Type 0} (c : List Insn) (v : ℕ) → Tops P c v → Leads P c (length c) v
-  leads_top c v h = record {
-    inside = omega arith;
-    by = λ s q. (let none : length c - length c ≡ 0 = omega arith in ap (λ k. answer_of c p n k s) none) ∙ h s q;
-  }
+  leads_top c v h = grind arith
 
   -- it does so in more code
   pub leads_on : {P : State → Type 0} {c d : List Insn} {place v : ℕ} → Extends c d → Leads P c place v → Leads P d place v
