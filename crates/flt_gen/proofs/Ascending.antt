@@ -141,10 +141,6 @@ pub points_inserted : (i : Interval) (is : List Interval) → i.low ≡ i.high �
 points_inserted i [] e h = (e, tt)
 points_inserted i (j ∷ js) e h = grind (arith, points_inserted i js)
 
--- those that touch, joined
-joined_in : (x : ℕ) (i j : Interval) → i.low ≤ i.high → i.low ≤ j.low → j.low ≤ j.high → j.low ≤ i.high + 1 → is_in x (extended i j) ≡ (is_in x i || is_in x j)
-joined_in x i j low order high touch = grind (arith, nat_tests)
-
 ordered_less : (a b : ℕ) (is : List Interval) → a ≤ b → Ordered b is → Ordered a is
 ordered_less a b [] l h = tt
 ordered_less a b (i ∷ is) l h = (let k = h.0 in omega arith, h.1, h.2)
@@ -156,7 +152,7 @@ apart_from a i (j ∷ js) l m h = grind (arith, nat_tests, apart_from (i.high + 
 within_from : (x : ℕ) (i : Interval) (js : List Interval) → i.low ≤ i.high → Ordered i.low js → is_within x (joined_from i js) ≡ (is_in x i || is_within x js)
 within_from x i [] m h = refl
 within_from x i (j ∷ js) m h =
-    grind (arith, within_from x j js h.1 h.2, within_from x (extended i j) js (omega arith) (ordered_less i.low j.low js h.0 h.2), ordered_less, nat_tests, joined_in)
+    grind (arith, within_from x j js h.1 h.2, within_from x (extended i j) js (omega arith) (ordered_less i.low j.low js h.0 h.2), ordered_less, nat_tests)
 
 length_from : (i : Interval) (js : List Interval) → (1 ≤ length (joined_from i js)) × (length (joined_from i js) ≤ length js + 1)
 length_from i [] = (omega arith, omega arith)
@@ -187,4 +183,4 @@ pub joined_few : (is : List Interval) → 1 ≤ length is → max 1 (length (joi
 joined_few is l = grind (arith, length_from)
 
 pub joined_points : (is : List Interval) → 1 ≤ length is → Points is → max 1 (length (joined_all is)) + first_ends (joined_all is) ≤ length is
-joined_points x0 l h = grind (arith, one_point, tests_from, length_from)
+joined_points is l h = grind (arith, one_point, tests_from, length_from)

@@ -1,13 +1,13 @@
 -- The names that most proofs here cite, passed on from one place. Declares nothing.
 pub use Rattle.std.proofs.Common.{◌≡◌, ℕ, ◌+◌, ◌<◌, List, [], ◌∷◌, ◌++◌, length, take, get_or, ap, ◌∙◌, add-one, reverse, zero, suc, ◌-◌, ◌≤◌, drop, Bool, true}
 pub use Rattle.std.proofs.Common.{false, refl, arith, nat_lt, nat_le, ◌==◌, ◌&&◌, ◌||◌, max, if◌then◌else◌, Some, min, Option, None, ◌%◌, ◌^◌, sym, fold, ◌*◌}
-pub use Rattle.std.proofs.Common.{ap₂, subst, bit_and, ◌/◌, cond, length-drop, length-take, ◌≢◌, not, count_by, map, ⊎_elim, unwrap_or, get_or-drop, ◌↔◌, All}
-pub use Rattle.std.proofs.Common.{slice_index, slice_get, slice_set, inl, inr}
+pub use Rattle.std.proofs.Common.{ap₂, subst, bit_and, ◌/◌, cond, length-drop, length-take, ◌≢◌, not, count_by, map, ⊎_elim, get_or-drop, ◌↔◌, All, slice_index}
+pub use Rattle.std.proofs.Common.{slice_get, slice_set, inl, inr}
 pub use Rattle.std.proofs.Math.Nat.{suc-mul, div-mul-le_self, lt-div-mul-add, le-div_iff_mul-le, mul-le-mul_right, pow-succ'}
 pub use Rattle.std.proofs.Math.Seq.{take-suc}
 pub use Rattle.std.proofs.lemmas.Bool.{and_parts, or_parts, cases_lt, Decides.nat_tests}
 pub use Rattle.std.proofs.lemmas.List.{reverse-append, get_or-set_same, get_or-set_other, take_rest}
-pub use Rattle.std.proofs.lemmas.List.Elements.{All-cons, All-drop, All-nil}
+pub use Rattle.std.proofs.lemmas.List.Elements.{All-cons, All-drop}
 pub use Rattle.std.proofs.lemmas.List.Sums.{sum_by-cons, sum_by-take-drop}
 pub use Rattle.std.proofs.lemmas.Nat.{pow-add, and_le_r, pow_pos}
 pub use Rattle.std.specs.Option.{option_map}
@@ -26,7 +26,7 @@ pub use Rattle.flt_ast.specs.declared.qualifiers.{CompleteQualifiers.CompleteQua
 pub use Rattle.flt_ast.specs.declared.value.Value.{Value}
 pub use Rattle.flt_ast.specs.inside.Nodes.{number_onto, truth_onto, expr_onto}
 pub use Rattle.flt_bpf.specs.Answer.{answer_of, answer_after}
-pub use Rattle.flt_bpf.specs.Check.{fault_if_known, operation_fault, unless, ends_in_return, IsValidUnlessLong}
+pub use Rattle.flt_bpf.specs.Check.{operation_fault, unless, ends_in_return, IsValidUnlessLong}
 pub use Rattle.flt_bpf.specs.Instructions.{code_of}
 pub use Rattle.flt_bpf.specs.Layout.{is_branch, JUMP, HasNoJump, IsShort, JumpsAreNeeded}
 pub use Rattle.flt_bpf.specs.Machine.{does, does_if_known, field, big_endian_at, Goes, Lost, compute, operand_value, into, word_into, header_length, test_holds}
@@ -35,7 +35,7 @@ pub use Rattle.flt_bpf.specs.declared.{insn.Insn.Insn, machine.State.State}
 pub use Rattle.flt_bpf.specs.declared.operation.Operand.{Operand, TheVariants.Constant, TheVariants.IndexRegister}
 pub use Rattle.flt_bpf.specs.declared.operation.Operation.{Operation}
 pub use Rattle.flt_bpf.specs.declared.operation.Operation.TheVariants.{LoadAbsolute, LoadIndirect, Load, Store, Compute, JumpIf, LoadHeaderLength, Negate, Jump}
-pub use Rattle.flt_bpf.specs.declared.operation.Operation.TheVariants.{CopyToIndex, ReturnConstant}
+pub use Rattle.flt_bpf.specs.declared.operation.Operation.TheVariants.{CopyToIndex}
 pub use Rattle.flt_bpf.specs.declared.operation.Register.TheVariants.{Accumulator, Index}
 pub use Rattle.flt_bpf.specs.declared.operation.Source.TheVariants.{Immediate, Memory, Length}
 pub use Rattle.flt_bpf.specs.declared.operation.{Test.Test, Width.Width}
@@ -49,8 +49,8 @@ pub use Rattle.flt_gen.specs.Formula.{checked_formula}
 pub use Rattle.flt_gen.specs.Laws.{word_mask, frame_kind, carries_kind, carries}
 pub use Rattle.flt_gen.specs.Numbers.{accessor_tests, width_of, base, number, result_of, accessors}
 pub use Rattle.flt_gen.specs.Primitives.{after, any_proto, mac_tests, check_formula, cast_formula, proto_formula, hosts_of_kind, hosts_formula, in_net}
-pub use Rattle.flt_gen.specs.Primitives.{ip6_formula, ether_host, port_formula, transport, value_formula, sized_formula, partial_mask, ip6_tests}
-pub use Rattle.flt_gen.specs.Primitives.{address_places, port_is, port_between, port_places, following, ip_transport, ip6_transport}
+pub use Rattle.flt_gen.specs.Primitives.{ip6_formula, ether_host, port_formula, value_formula, sized_formula, partial_mask, ip6_tests, address_places, port_is}
+pub use Rattle.flt_gen.specs.Primitives.{port_between, port_places, ip_transport, ip6_transport}
 pub use Rattle.flt_gen.specs.Reading.{formula, holds}
 pub use Rattle.flt_gen.specs.declared.elementary.Elementary.{Elementary, TheVariants.Outcome, TheVariants.Field}
 pub use Rattle.flt_gen.specs.declared.elementary.{FieldPlace.FieldPlace, FieldTest.FieldTest, FrameKind.FrameKind, Interval.Interval, Offset.Offset}
@@ -63,9 +63,9 @@ pub use Rattle.flt_gen.specs.inside.Code.{emit_after, emit_formula, alu_operatio
 pub use Rattle.flt_gen.specs.inside.Code.{same_offset, same_width, same_mask}
 pub use Rattle.flt_gen.specs.inside.Counts.{first_ends, sought_tests, tests, test_count, nodes, words, place_loads, mask_loads, field_loads, test_loads, loads}
 pub use Rattle.flt_gen.specs.inside.Emitted.{protocols_of, relation_formula, qualified_needed, is_empty, is_idle, capture_test, last_test, needed_tests}
-pub use Rattle.flt_gen.specs.inside.Emitted.{value_needed, equals, without_protocol}
-pub use Rattle.flt_gen.specs.inside.Folding.{negated_constant, applied_constant, number_or, negated_number, applied_number, folded_number, and_denied}
-pub use Rattle.flt_gen.specs.inside.Folding.{joined_truth, folded_truth, folded_expression, node_or, with_negation, with_operator, with_folded, hold, put_back}
+pub use Rattle.flt_gen.specs.inside.Emitted.{value_needed, without_protocol}
+pub use Rattle.flt_gen.specs.inside.Folding.{negated_constant, applied_constant, number_or, negated_number, applied_number, folded_number, joined_truth}
+pub use Rattle.flt_gen.specs.inside.Folding.{folded_truth, folded_expression, with_negation, with_operator, with_folded, hold, put_back}
 pub use Rattle.flt_gen.specs.inside.Group.{Group, no_group, entry, interval, with_member, same_type, same_protocol, same_direction, goes_with, net_numbers}
 pub use Rattle.flt_gen.specs.inside.Group.{member_of, group_and, larger_group, is_searched, has_addresses, numbers_of, several_formula, rows_formula}
 pub use Rattle.flt_gen.specs.inside.Group.{group_formula, or_any, or_group, choice, grouped_formula, MOST_TOGETHER, FEWEST_RANGES}

@@ -3,7 +3,7 @@ use Rattle.flt_gen.proofs.Common.{◌≡◌, ℕ, ◌+◌, ◌-◌, ◌*◌, ◌
 use Rattle.flt_gen.proofs.Common.{ValueType, Host, Net, Port, PortRange, Proto, Direction, Value, Link, FrameKind, Elementary, Sides, ip_transport}
 use Rattle.flt_gen.proofs.Common.{ip6_transport, Formula, Single, Both, Either, Split, all_of, sides, after, FieldTest, Offset, loads, field_loads, place_loads}
 use Rattle.flt_gen.proofs.Common.{mask_loads, left_by, FieldPlace, in_net, port_places, any_proto, mac_tests, check_formula, cast_formula, proto_formula}
-use Rattle.flt_gen.proofs.Common.{hosts_of_kind, hosts_formula, ip6_formula, ether_host, port_formula, transport, value_formula, tests, nodes, words}
+use Rattle.flt_gen.proofs.Common.{hosts_of_kind, hosts_formula, ip6_formula, ether_host, port_formula, value_formula, tests, nodes, words}
 use Rattle.flt_words.specs.declared.token.Cast.{Cast}
 use Rattle.flt_ast.specs.Counts as count
 
@@ -83,7 +83,7 @@ bare_proto : (link : Link) (n : ℕ) → Bare (any_proto link n) 4
 bare_proto link n = bare_either bare_pair bare_pair
 
 pub bare_check : (link : Link) (p : Protocol) → Bare (check_formula link p) (count.check_tests p)
-bare_check link x1 = grind (arith, bare_proto, bare_pair, bare_one)
+bare_check link p = grind (arith, bare_proto, bare_pair, bare_one)
 
 bare_ether : (link : Link) (d : Direction) (a : ℕ) → Bare (ether_host link d a) (count.ether_tests d)
 bare_ether link d a = bare_after (bare_sides d (mac_tests 6 a) (mac_tests 0 a) 2 (omega arith) (omega arith) (omega arith))
@@ -92,7 +92,7 @@ pub bare_cast : (link : Link) (p : Option Protocol) (c : Cast) → Bare (cast_fo
 bare_cast link p c = grind (arith, bare_ether, bare_some, bare_pair)
 
 bare_proto_value : (link : Link) (p : Option Protocol) (n : ℕ) → Bare (proto_formula link p n) (count.proto_tests p)
-bare_proto_value link x1 n = grind (arith, bare_proto, bare_pair, bare_some)
+bare_proto_value link p n = grind (arith, bare_proto, bare_pair, bare_some)
 
 -- hosts of one kind, or of one of three
 abbrev pub of_kinds : Option Protocol → ℕ → ℕ
@@ -119,14 +119,10 @@ bare_net link p d mask a =
 bare_ip6 : (link : Link) (d : Direction) (prefix : Option ℕ) (a : ℕ) → Bare (ip6_formula link d prefix a) (count.ip6_test_count d)
 bare_ip6 link d prefix a = bare_after (bare_sides d _ _ 4 (omega arith) (omega arith) (omega arith))
 
--- ports, by the tests of their sides
-bare_transport : (p : Option Protocol) (s t : Elementary) (f : Formula) (n : ℕ) → Bare f n → Bare (transport p s t f) (count.transport_tests p + n)
-bare_transport x0 s t f n h = grind (arith, bare_both, bare_either, bare_one, bare_after, bare_some)
-
 pub bare_ports : (link : Link) (p : Option Protocol) (asked : Sides → Formula) (n : ℕ) → Bare (asked (port_places (ip_transport link))) n
     → Bare (asked (port_places (ip6_transport link))) n → Bare (port_formula link p asked)
     (1 + count.transport_tests p + 1 + n + (1 + count.transport_tests p + n))
-bare_ports link p asked n ip ip6 = grind (arith, bare_within, bare_either, bare_after, bare_transport)
+bare_ports link p asked n ip ip6 = grind (arith, bare_within, bare_either, bare_after, bare_both, bare_one, bare_some)
 
 -- values
 pub bare_value : (link : Link) (k : ValueType) (p : Option Protocol) (d : Direction) (v : Value) → Bare (value_formula link k p d v) (count.typed_tests k p d v)

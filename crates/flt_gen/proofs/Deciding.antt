@@ -1,7 +1,8 @@
 -- Decision trees of cases: they read as one case after the other, and have few tests.
+use Rattle.std.proofs.Math.Nat.{mod-lt}
 use Rattle.flt_gen.proofs.Ascending.{if_case}
 use Rattle.flt_gen.proofs.Common.{◌≡◌, ℕ, zero, suc, ◌+◌, ◌-◌, ◌*◌, ◌^◌, ◌<◌, ◌≤◌, List, [], ◌∷◌, ◌++◌, length, map, max, length-take, take, drop, Bool, true}
-use Rattle.flt_gen.proofs.Common.{false, Option, Some, None, refl, sym, ap, ap₂, ◌∙◌, subst, arith, add-one, field, is_empty, is_idle, capture_test, last_test}
+use Rattle.flt_gen.proofs.Common.{false, Option, Some, None, refl, sym, ap, ap₂, ◌∙◌, subst, arith, add-one, is_empty, is_idle, capture_test, last_test}
 use Rattle.flt_gen.proofs.Common.{needed_tests, ◌==◌, ◌&&◌, nat_lt, nat_le, bit_and, nat_tests, and_parts, pow_pos, and_le_r, Direction, Link, first_bits, Word}
 use Rattle.flt_gen.proofs.Common.{HalfWord, Byte, Width, Offset, Fixed, Equal, Elementary, Field, MatchResult, Yes, No, Rejected, reading_of, with, field_at}
 use Rattle.flt_gen.proofs.Common.{under_mask, elementary_reads, network_offset, Formula, both, either, all_of, reads, partial_mask, sides, value_needed}
@@ -9,7 +10,7 @@ use Rattle.flt_gen.proofs.Common.{value_formula, kind_test, FrameKind, ValueType
 use Rattle.flt_words.specs.declared.token.Side.{Side}
 use Rattle.flt_gen.proofs.Counted.{Bare, bare_within, bare_all, bare_one, bare_some, bare_both, bare_either, bare_split}
 use Rattle.flt_gen.proofs.Exclusive.{both_either, or_no, either_assoc, and_yes}
-use Rattle.flt_gen.proofs.{Needed.all_put, Needed.later_none, Needed.idle_holds, Needed.fewer, Once.equal_are, Together.word_small}
+use Rattle.flt_gen.proofs.{Needed.all_put, Needed.later_none, Needed.idle_holds, Needed.fewer}
 use Rattle.std.specs.{List.list_all, List.insert, Prelude.slice_get}
 use Rattle.flt_ast.specs.declared.qualifiers.Direction.TheVariants as direction
 use Rattle.flt_gen.specs.Formula.{choose, Split}
@@ -20,8 +21,8 @@ use Rattle.flt_gen.specs.declared.{elementary.FieldTest.FieldTest, relation.Rela
 use Rattle.flt_gen.specs.inside.{Emitted.equals, Code.accessor_offset}
 use Rattle.flt_gen.specs.Numbers.{accessor_tests, width_of}
 use Rattle.flt_words.specs.declared.token.Protocol.{Protocol}
-use Rattle.flt_gen.specs.inside.Cases.{shares, same_words, case_front, mac_place, ip6_place, case_tests, word_test, lowest, is_whole, keeps, all_keep, chain}
-use Rattle.flt_gen.specs.inside.Cases.{test_at, from_test, middle, is_parted, same_word, decided, decision}
+use Rattle.flt_gen.specs.inside.Cases.{same_words, case_front, mac_place, ip6_place, case_tests, word_test, lowest, is_whole, keeps, all_keep, chain, test_at}
+use Rattle.flt_gen.specs.inside.Cases.{from_test, middle, is_parted, same_word, decided, decision}
 use Rattle.std.proofs.lemmas.{List.length-map, List.map-append, List.take-append-drop, List.length-drop, List.length-append, Nat.and-not, Nat.and_comm}
 
 -- ---- which words cases have
@@ -62,28 +63,7 @@ masked_part k fs prefix word later = grind (arith, pow_pos)
 
 pub shape_of : (link : Link) (d : Direction) (c : Case) → Shape (fields_of link d c) (case_tests link d c)
 shape_of link d (Mac a) = (refl, refl, refl, tt, (refl, refl, refl, tt, tt))
-shape_of link d (Ip6 n a) =
-    let at = network_offset link + ip6_place d in
-    let word : ℕ → Offset × Width = λ k. (Fixed (at + 4 * k), Word) in
-    let later : (k : ℕ) (p : List ℕ) → field p (at + 4 * k) Word ≡ None → field p (at + 4 * suc k) Word ≡ None = λ k p. later_none link p 0 at k in (
-      refl,
-      refl,
-      refl,
-      masked_part _ (word 1 ∷ word 2 ∷ word 3 ∷ []) n 0 (later 0),
-      (
-        refl,
-        refl,
-        refl,
-        masked_part _ (word 2 ∷ word 3 ∷ []) n 1 (later 1),
-        (
-          refl,
-          refl,
-          refl,
-          masked_part _ (word 3 ∷ []) n 2 (later 2),
-          (refl, refl, refl, masked_part _ [] n 3 tt, tt),
-        ),
-      ),
-    )
+shape_of link d (Ip6 n a) = grind (arith, later_none, masked_part)
 shape_of link d _ = (refl, refl, refl, tt, tt)
 
 pub some_fields : (link : Link) (d : Direction) (c : Case) → 0 < length (fields_of link d c)
@@ -92,7 +72,7 @@ some_fields link d c = grind arith
 -- relations of one accessor
 relations_are : (d : Direction) (a b : Relation) → same_words d (Case.Relation a) (Case.Relation b) ≡ true → (a.protocol ≡ b.protocol) × (a.size
     ≡ b.size) × (a.index ≡ b.index)
-relations_are d a b e = grind (arith, equal_are, nat_tests)
+relations_are d a b e = grind (arith, nat_tests)
 
 pub some_front : (link : Link) (c : Case) → 0 < length (case_front link c)
 some_front link c = grind arith
@@ -232,7 +212,7 @@ module _ (link : Link) (p : List ℕ) (n : ℕ) where
 
   small_word : (f : Offset × Width) (fs : List (Offset × Width)) (mask : Option ℕ) (x : ℕ) → Masked f fs mask → field_at f.0 f.1 p ≡ Some x → (m : ℕ)
       → mask ≡ Some m → (m < 2 ^ 32) × (x < 2 ^ 32)
-  small_word f fs mask x h e m is = grind (arith, word_small)
+  small_word f fs mask x h e m is = grind (arith, mod-lt)
 
   missed : (f : Offset × Width) (mask : Option ℕ) (v x : ℕ) (r : MatchResult) → field_at f.0 f.1 p ≡ Some x → (under_mask mask x == v) ≡ false
       → both (by_field f mask v) r ≡ No
@@ -301,10 +281,6 @@ module _ (link : Link) (p : List ℕ) (n : ℕ) where
 
   -- ---- tests that decide nothing are left out
 
-  idle_later : (f g : Offset × Width) (gs : List (Offset × Width)) (mask : Option ℕ) (v : ℕ) → (is_empty mask && v == 0) ≡ true
-      → Masked f (g ∷ gs) mask → field_at f.0 f.1 p ≡ None → field_at g.0 g.1 p ≡ None
-  idle_later f g gs mask v e h = grind arith
-
   idle_yes : (f : Offset × Width) (mask : Option ℕ) (v x : ℕ) → (is_empty mask && v == 0) ≡ true → field_at f.0 f.1 p ≡ Some x → by_field f mask v ≡ Yes
   idle_yes f mask v x e is = ap (λ o. reading_of (with o (λ y. Some (under_mask mask y == v)))) is ∙ ap (λ b. reading_of (Some b)) (idle_holds mask v x e)
 
@@ -314,7 +290,7 @@ module _ (link : Link) (p : List ℕ) (n : ℕ) where
   idle_read f g gs t u us h e = test_read f (g ∷ gs) t (Field u ∷ us) h ∙ by (field_at f.0 f.1 p) refl
     where
       by : (o : Option ℕ) → field_at f.0 f.1 p ≡ o → both (by_field f t.mask t.value) (told (Field u ∷ us)) ≡ told (Field u ∷ us)
-      by o is = grind (arith, test_read, idle_later, idle_yes)
+      by o is = grind (arith, test_read, idle_yes)
 
   last_read : (f : Offset × Width) (t : FieldTest) → Shape (f ∷ []) (Field t ∷ []) → elementary_reads (last_test (Field t)) p ≡ elementary_reads (Field t) p
   last_read f t h =
@@ -356,9 +332,6 @@ module _ (link : Link) (p : List ℕ) (n : ℕ) where
 
   -- ---- cases in another order
 
-  swapped : (a b z : MatchResult) → (a ≡ Yes → b ≡ Rejected → ⊥) → (b ≡ Yes → a ≡ Rejected → ⊥) → either a (either b z) ≡ either b (either a z)
-  swapped a b z h k = grind arith
-
   -- of tests of the same words none is rejected where one is yes
   never_both : (fs : List (Offset × Width)) (r s : List Elementary) → Shape fs r → Shape fs s → told r ≡ Yes → told s ≡ Rejected → ⊥
   never_both [] [] [] h k y j = cc
@@ -370,7 +343,7 @@ module _ (link : Link) (p : List ℕ) (n : ℕ) where
   pub read_inserted : (fs : List (Offset × Width)) (r : List Elementary) (rs ss : List (List Elementary)) → Shape fs r → Shapes fs rs
       → read_all (rs ++ r ∷ ss) ≡ either (told r) (read_all (rs ++ ss))
   read_inserted fs r [] ss h k = refl
-  read_inserted fs r (q ∷ rs) ss h k = grind (arith, read_inserted fs r rs ss h k.1, swapped, never_both)
+  read_inserted fs r (q ∷ rs) ss h k = grind (arith, read_inserted fs r rs ss h k.1, never_both)
 
 -- ---- decisions
 
@@ -494,14 +467,8 @@ pub shapes_of : (link : Link) (e d : Direction) (k : Case) (cs : List Case) → 
 shapes_of link e d k [] h = tt
 shapes_of link e d k (c ∷ cs) h = (subst (λ fs. Shape fs (case_tests link d c)) (alike link e d k c h.0).0 (shape_of link d c), shapes_of link e d k cs h.1)
 
-shared : (e : Direction) (s t u : Bool) → (s ≡ true → t ≡ true → u ≡ true) → shares e s ≡ true → shares e t ≡ true → shares e u ≡ true
-shared e s t u h f g = grind arith
-
-same_number : (x y z : ℕ) → (x == y) ≡ true → (y == z) ≡ true → (x == z) ≡ true
-same_number x y z e f = grind (arith, nat_tests)
-
 pub alike_alike : (e : Direction) (a b c : Case) → same_words e a b ≡ true → same_words e b c ≡ true → same_words e a c ≡ true
-alike_alike e a b c f g = grind (arith, relations_are, shared, same_number)
+alike_alike e a b c f g = grind (arith, relations_are, nat_tests)
 
 pub self_relation : (r : Relation) → (equals r.protocol r.protocol && (r.size == r.size && r.index == r.index)) ≡ true
 self_relation r = grind (arith, nat_tests)

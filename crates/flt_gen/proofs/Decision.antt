@@ -21,7 +21,7 @@ decision_put few k tests word cs l = grind arith
 pub decision_chain : (few k : ℕ) (tests : Case → List Elementary) (word : ℕ) (cs : List Case) → (k ≡ 0) ⊎ (length cs ≤ few)
     → decision few k tests word cs ≡ chain tests word cs
 unfolding decision
-decision_chain few x1 tests word cs h = grind (arith, nat_tests)
+decision_chain few k tests word cs h = grind (arith, nat_tests)
 
 -- the code of tests, of which all hold
 pub all_emitted : (link : Link) (ts : List Elementary) (hit miss : ℕ) (c : List Insn) → emit_formula link (all_of ts) hit miss c ≡ emit_all ts hit miss c
@@ -48,17 +48,11 @@ chain_after held link tests word [] hit miss c = refl
 chain_after held link tests word (d ∷ []) hit miss c = all_after held link (needed_tests (drop word (tests d))) hit miss c
 chain_after held link tests word (d ∷ x ∷ xs) hit miss c = refl
 
--- a case in front of others, of all that are searched or of some
-chain_emitted : (link : Link) (tests : Case → List Elementary) (word : ℕ) (cs : List Case) (other : Case) (hit miss : ℕ) (c : List Insn)
-    → 1 ≤ length cs → let e = emit_formula link (chain tests word (drop 1 cs)) hit miss c in emit_formula link (chain tests word cs) hit miss c ≡
-    emit_all (needed_tests (drop word (tests (get_or cs 0 other)))) hit e.entry e.code
-chain_emitted link tests word x3 other hit miss c l = grind (arith, all_emitted)
-
 pub turn_emitted : (r : Result ℕ AllocError) (new : List Insn) (link : Link) (tests : Case → List Elementary) (word : ℕ) (cs : List Case)
     (other : Case) (hit miss : ℕ) (c : List Insn) (e : Block) → 1 ≤ length cs → emit_formula link (chain tests word (drop 1 cs)) hit miss c ≡ e
     → Emits r (emit_all (needed_tests (drop word (tests (get_or cs 0 other)))) hit e.entry e.code) new
     → Emits r (emit_formula link (chain tests word cs) hit miss c) new
-turn_emitted r new link tests word cs other hit miss c e l is done = grind (arith, chain_emitted)
+turn_emitted r new link tests word cs other hit miss c e l is done = grind (arith, all_emitted)
 
 -- the parts of a decision
 module _ (few k : ℕ) (by : Case → List Elementary) (w : ℕ) (cs : List Case) (some : 0 < k) (many : few < length cs) where

@@ -8,7 +8,7 @@ use Rattle.flt_gen.proofs.Common.{needed_tests, drop, zero, is_at, compares, und
 use Rattle.flt_gen.proofs.Counted.{Bare, bare_within, bare_all, bare_one, bare_some, bare_both, bare_either}
 use Rattle.flt_gen.proofs.Deciding.{Shapes, fields_of, shape_of, some_fields, rows, rows_rest, shapes_rest, sizes, sizes_rest, read_all, needed_read, read_put}
 use Rattle.flt_gen.proofs.Deciding.{decision_good, Likes, shapes_of, sizes_put}
-use Rattle.flt_gen.proofs.Firsts.{Known, known_either, by_first, first_alone, first_more}
+use Rattle.flt_gen.proofs.Firsts.{Known, known_either, by_first, first_more}
 use Rattle.flt_gen.proofs.{Exclusive.or_no, Needed.fewer}
 use Rattle.std.specs.{List.insert}
 use Rattle.std.proofs.{Math.Nat.div-div-eq-div-mul, lemmas.List.length-map}
@@ -58,13 +58,10 @@ side link s c = case_tests link (direction.One s) c
 macs_almost : (link : Link) (s : Side) (a b : ℕ) → a / 2 ^ 16 ≡ b / 2 ^ 16 → Almost (side link s (Mac a)) (side link s (Mac b))
 macs_almost link s a b e = (ap (λ v. is_at (mac_place (direction.One s)) Word (v % 2 ^ 32)) e, (refl, refl))
 
-ip6_almost : (link : Link) (s : Side) (a b : ℕ) → a / 2 ^ 32 ≡ b / 2 ^ 32 → Almost (side link s (Ip6 None a)) (side link s (Ip6 None b))
-ip6_almost link s a b e = grind (arith, upper_word)
-
 -- so it is with addresses that are looked for together, both ways
 almost : (link : Link) (s : Side) (a b : Case) → are_either either_side a ≡ true → same_words either_side a b ≡ true → Almost (side link s a) (side link s b)
     × Almost (side link s b) (side link s a) × Whole (side link s a)
-almost link s a b i e = grind (arith, nat_tests, macs_almost, ip6_almost)
+almost link s a b i e = grind (arith, nat_tests, macs_almost, upper_word)
 
 module _ (link : Link) (s : Side) (p : List ℕ) (n : ℕ) where
   abbrev told : List Elementary → MatchResult
@@ -77,8 +74,7 @@ module _ (link : Link) (s : Side) (p : List ℕ) (n : ℕ) where
       last (Field t) (Field u) h k = subst (λ o. Known (reading_of (with o (λ x. Some (compares u.comparison (under_mask u.mask x) u.value)))))
           (ap₂ (λ o w. field_at o w p) h.0 h.1) (seen_by (field_at t.offset t.width p) _ _ k)
       last _ _ h k = absurd h
-  seen (t ∷ x ∷ xs) (u ∷ y ∷ ys) h k =
-      subst (λ z. Known (both (elementary_reads z p) (told (y ∷ ys)))) h.0 (seen_after (elementary_reads t p) _ _ (seen (x ∷ xs) (y ∷ ys) h.1) k)
+  seen (t ∷ x ∷ xs) (u ∷ y ∷ ys) h k = grind (arith, seen_after, seen (x ∷ xs) (y ∷ ys) h.1)
   seen _ _ h k = absurd h
 
   all_seen : (k : Case) (cs : List Case) → are_either either_side k ≡ true → Likes either_side k cs → Known (told (side link s k))
@@ -119,7 +115,7 @@ size_put b link d c i cs = grind (arith, sizes_put)
 
 pub list_alone : (b : Bool) (link : Link) (d : Direction) (c : Case) (p : List ℕ) (n : ℕ) → list_read b link d c (c ∷ []) p n ≡ reads link
     (one_formula b link d c) p n
-list_alone b link d c p n = grind (arith, first_alone, or_no)
+list_alone b link d c p n = grind (arith, or_no)
 
 pub list_more : (b : Bool) (link : Link) (d : Direction) (kind first c : Case) (i : ℕ) (cs : List Case) (p : List ℕ) (n : ℕ)
     → are_either d kind ≡ b → same_words d kind c ≡ true → same_words d kind first ≡ true → Likes d kind cs → list_read b link d c (insert cs i c) p n

@@ -1,7 +1,6 @@
 -- Members on either side, of which one stands first: what is read of all, of the first one, and of its
 -- destination.
 use Rattle.flt_gen.proofs.Common.{◌≡◌, Bool, Some, ap, ◌∙◌, arith, MatchResult, Yes, No, reading_of, both, either}
-use Rattle.flt_gen.proofs.Exclusive.{or_no}
 
 -- what isn't a rejection
 abbrev pub exact : Bool → MatchResult
@@ -22,9 +21,6 @@ surely r k = ap (λ x. either x Yes) k.1 ∙ or_yes k.0
 -- all sources, the first one's, the first one's destination, and all destinations
 abbrev pub by_first : MatchResult → MatchResult → MatchResult → MatchResult → MatchResult
 by_first all s d others = either (both all (either s (either d Yes))) others
-
-pub first_alone : (s d : MatchResult) → by_first (either s No) s d (either d No) ≡ either s d
-first_alone s d = grind (arith, or_no)
 
 pub first_more : (s d first second all others : MatchResult) → (s ≡ No → Known all × Known first) → (d ≡ No → Known second)
     → by_first (either s all) s d (either d others) ≡ either (either s d) (by_first all first second others)

@@ -2,10 +2,10 @@
 use Rattle.flt_gen.proofs.Common.{◌≡◌, ℕ, ◌+◌, ◌%◌, ◌^◌, ◌≤◌, List, [], ◌∷◌, Option, Some, refl, sym, ap, ap₂, ◌∙◌, arith, fold, ◌||◌, Operator, Protocol}
 use Rattle.flt_gen.proofs.Common.{field, Node, NumberTree, literal, load, negated, applied, TruthTree, compared, denied, joined, Expression, empty, truth}
 use Rattle.flt_gen.proofs.Common.{number_size, number_words, number_tests, truth_size, truth_words, truth_tests, bound_of, words_of, number_nodes, truth_nodes}
-use Rattle.flt_gen.proofs.Common.{expr_nodes, number_onto, truth_onto, expr_onto, is_unfilled, any_primitive, some_primitive, Link, MatchResult, with}
-use Rattle.flt_gen.proofs.Common.{reading_of, compares, width_of, base, number, accessors, Compare, both, either, negation, reads, checked_formula, constant}
-use Rattle.flt_gen.proofs.Common.{formula, holds, short_bound_of, negated_constant, applied_constant, number_or, negated_number, applied_number, folded_number}
-use Rattle.flt_gen.proofs.Common.{and_denied, joined_truth, folded_truth, folded_expression, node_or, with_negation, with_operator, with_folded}
+use Rattle.flt_gen.proofs.Common.{expr_nodes, number_onto, truth_onto, expr_onto, is_unfilled, any_primitive, some_primitive, Link, with, reading_of, compares}
+use Rattle.flt_gen.proofs.Common.{width_of, base, number, accessors, Compare, negation, reads, checked_formula, constant, formula, holds, short_bound_of}
+use Rattle.flt_gen.proofs.Common.{negated_constant, applied_constant, number_or, negated_number, applied_number, folded_number, joined_truth, folded_truth}
+use Rattle.flt_gen.proofs.Common.{folded_expression, with_negation, with_operator, with_folded}
 use Rattle.flt_gen.proofs.{Held.held_truth, Held.none_held, Held.back_truth, Numbers.constant_is, Once.both_again, Once.checked_same}
 use Rattle.flt_words.specs.declared.token.Join.{Join}
 
@@ -22,9 +22,6 @@ applied_some o v u k e = grind arith
 -- a number alone has no accessors
 constant_alone : (a : NumberTree) (k : ℕ) (rest : List Protocol) → constant a ≡ Some k → accessors a rest ≡ rest
 constant_alone a k rest e = grind arith
-
-denied_both : (r q : MatchResult) → negation (either r q) ≡ both (negation r) (negation q)
-denied_both r q = grind arith
 
 module _ (p : List ℕ) (n : ℕ) (link : Link) where
   negated_is : (a : NumberTree) (u : Option ℕ) → constant a ≡ u → (k : ℕ) → negated_constant u ≡ Some k → number link (negated a) p n ≡ Some k
@@ -87,11 +84,8 @@ record Stands (a b : TruthTree) : Type 0 where
 itself : (a : TruthTree) → Stands a a
 itself a = record { counts = omega arith; filled = refl; same = λ p n link. refl }
 
-denied_stands : (a b : TruthTree) → Stands (and_denied a b) (joined Join.And a (denied b))
-denied_stands a b = grind (arith, denied_both, both_again, itself)
-
 joined_stands : (j : Join) (a b : TruthTree) → Stands (joined_truth j a b) (joined j a b)
-joined_stands j a b = grind (arith, denied_stands, itself)
+joined_stands j a b = grind (arith, both_again, itself)
 
 both_same : (j : Join) (a c b d : TruthTree) → Stands a c → Stands b d → (p : List ℕ) (n : ℕ) (link : Link) → reads link (formula link (joined j a b))
     p n ≡ reads link (formula link (joined j c d)) p n
@@ -140,15 +134,11 @@ expression_folded (truth a) =
 
 -- ---- the nodes of the folded tree
 
-one_or_both : (o : Operator) (r : Option ℕ) (a b : NumberTree) (d : List Node) → node_or r d (Node.Apply o ∷ number_onto b (number_onto a d)) ≡
-    number_onto (number_or r (applied o a b)) d
-one_or_both o r a b d = grind arith
-
 with_negated : (a : NumberTree) (d : List Node) → with_negation (number_onto a d) ≡ number_onto (negated_number a) d
 with_negated a d = grind arith
 
 with_applied : (o : Operator) (b a : NumberTree) (d : List Node) → with_operator o (number_onto b (number_onto a d)) ≡ number_onto (applied_number o a b) d
-with_applied o b a d = grind (arith, one_or_both)
+with_applied o b a d = grind arith
 
 number_put : (a : NumberTree) (d rest : List Node) → fold with_folded d (number_nodes a rest) ≡ fold with_folded (number_onto (folded_number a) d) rest
 number_put (load p s a) d rest = number_put a d _

@@ -17,7 +17,7 @@ use Rattle.flt_gen.proofs.Counted.{bare_ports}
 use Rattle.flt_gen.proofs.Deciding.{some_front, rows, Likes, likes_put, length_put, alike, alike_alike, self_relation}
 use Rattle.flt_gen.proofs.EitherSide.{one_formula, one_size, list_read, list_size, list_alone, list_more, none_size, size_put, list_good, like_either}
 use Rattle.flt_gen.proofs.{Exclusive.or_no, Exclusive.both_either, Exclusive.either_assoc, IdleBits.uncut, Deciding.value_same, Needed.bare_needed}
-use Rattle.flt_gen.proofs.{Once.relation_sizes, Once.guarded_sizes, Once.equal_are, Once.relation_same, Once.all_read, Once.guarded_read}
+use Rattle.flt_gen.proofs.{Once.relation_sizes, Once.guarded_sizes, Once.relation_same, Once.all_read, Once.guarded_read}
 use Rattle.flt_gen.proofs.Relations.{entry_tests, entry_bare, IsEntry, entry_is}
 use Rattle.flt_gen.proofs.Prefixes.{Idle, idle_sought, cut_in, cut_within, cut_order, cut_apart}
 use Rattle.flt_gen.proofs.Together.{Fitting, fitting_small, unmasked_fitting, address_fitting, PortsReady, members_read, members_more, members_alone}
@@ -318,7 +318,7 @@ or_stands link f a group k s same = record { counts = sizes group.entries (λ l.
 
 -- which members go together
 protocols_are : (a b : Option Protocol) → same_protocol a b ≡ true → b ≡ a
-protocols_are a b e = grind (arith, equal_are)
+protocols_are a b e = grind arith
 
 directions_are : (a b : Direction) → same_direction a b ≡ true → (b ≡ a) × Merged a
 directions_are a b e = grind arith
@@ -419,11 +419,8 @@ Cased link d c tests f = (same_words d c c ≡ true) × (length (case_front link
 abbrev IsCase : Link → ValueType → Option Protocol → Direction → Value → Case → Type 0
 IsCase link k o d v c = Cased link d c (count.typed_tests k o d v) (value_formula link k o d v)
 
-self_number : (x : ℕ) → (x == x) ≡ true
-self_number x = grind (arith, nat_tests)
-
 case_is : (link : Link) (k : ValueType) (o : Option Protocol) (d : Direction) (v : Value) → Each (case_of k o d v) (IsCase link k o d v)
-case_is link k o d v = grind (arith, self_number)
+case_is link k o d v = grind (arith, nat_tests)
 
 fronts_few : (link : Link) (p : Protocol) → length (accessor_tests link p) + 1 ≤ accessor_test_count p + 1
 fronts_few link p = grind arith
@@ -485,8 +482,7 @@ kept_with_case q e c group (nothing none all empty alone) g w =
     ap (λ es. either one (reads link (rows_formula link es) p n)) none ∙ or_no one
     ∙ ap (both (all_read link p n (case_front link c)))
     (sym (ap (λ cs. list_read b link q.direction c (insert_case c cs) p n) empty ∙ list_alone b link q.direction c p n))))
-kept_with_case q e c group (numbered l empty ms h) g w =
-    absurd (let none = ap (shares_words q.direction c) (sym empty) ∙ (case_fits c q.direction group group.entries l g).0 in cc)
+kept_with_case q e c group (numbered l empty ms h) g w = grind (arith, case_fits)
 kept_with_case q e c group (listed l h) g w =
     let fit = case_fits c q.direction group group.entries l g in
     let j = subst (λ d. Listed d group) fit.1 h in

@@ -4,14 +4,14 @@ use Rattle.flt_bpf.proofs.Codes.{code_is}
 use Rattle.flt_gen.proofs.Common.{accessor_offset, ◌≡◌, ℕ, ◌+◌, ◌-◌, ◌*◌, ◌<◌, ◌≤◌, List, [], ◌∷◌, length, Bool, true, false, cond, Option, Some, None, refl}
 use Rattle.flt_gen.proofs.Common.{ap, ◌∙◌, arith, ◌≢◌, nat_lt, ◌&&◌, if◌then◌else◌, count_by, nat_tests, sum_by-cons, All-cons, Insn, Operand, Constant}
 use Rattle.flt_gen.proofs.Common.{IndexRegister, Operation, LoadAbsolute, LoadIndirect, Load, LoadHeaderLength, Store, Compute, Negate, Jump, JumpIf}
-use Rattle.flt_gen.proofs.Common.{CopyToIndex, Accumulator, Index, Immediate, Memory, Length, Test, Width, fault_if_known, operation_fault, unless}
-use Rattle.flt_gen.proofs.Common.{ends_in_return, IsValidUnlessLong, code_of, is_branch, JUMP, HasNoJump, Comparison, Equal, NotEqual, Less, AtMost, Greater}
-use Rattle.flt_gen.proofs.Common.{AtLeast, Operator, Protocol, Tcp, Udp, Icmp, number_words, number_size, NumberTree, literal, len, named, load, negated}
-use Rattle.flt_gen.proofs.Common.{applied, Link, network_offset, Elementary, Outcome, Field, Offset, Fixed, AfterHeader, width_of, Formula, Single, Compare}
-use Rattle.flt_gen.proofs.Common.{Both, Either, Except, Split, AtIndex, plain, computation, takes_constant, constant, constant_operand, branch_insn}
-use Rattle.flt_gen.proofs.Common.{emit_branch, emit_comparison, emit_field, emit_mask, emit_accessor, emit_base, emit_number, Block, at_top, emit_test}
-use Rattle.flt_gen.proofs.Common.{emit_after, emit_formula, words, nodes, tests, test_count, place_loads, mask_loads, field_loads, test_loads, loads, is_loaded}
-use Rattle.flt_gen.proofs.Common.{left_by, FieldPlace}
+use Rattle.flt_gen.proofs.Common.{CopyToIndex, Accumulator, Index, Immediate, Memory, Length, Test, Width, operation_fault, unless, ends_in_return}
+use Rattle.flt_gen.proofs.Common.{IsValidUnlessLong, code_of, is_branch, JUMP, HasNoJump, Comparison, Equal, NotEqual, Less, AtMost, Greater, AtLeast, Operator}
+use Rattle.flt_gen.proofs.Common.{Protocol, Tcp, Udp, Icmp, number_words, number_size, NumberTree, literal, len, named, load, negated, applied, Link}
+use Rattle.flt_gen.proofs.Common.{network_offset, Elementary, Outcome, Field, Offset, Fixed, AfterHeader, width_of, Formula, Single, Compare, Both, Either}
+use Rattle.flt_gen.proofs.Common.{Except, Split, AtIndex, plain, computation, takes_constant, constant, constant_operand, branch_insn, emit_branch}
+use Rattle.flt_gen.proofs.Common.{emit_comparison, emit_field, emit_mask, emit_accessor, emit_base, emit_number, Block, at_top, emit_test, emit_after}
+use Rattle.flt_gen.proofs.Common.{emit_formula, words, nodes, tests, test_count, place_loads, mask_loads, field_loads, test_loads, loads, is_loaded, left_by}
+use Rattle.flt_gen.proofs.Common.{FieldPlace}
 use Rattle.flt_gen.proofs.{Counted.place_few, Numbers.operand_is}
 use Rattle.flt_gen.proofs.Leads.{Extends, extends_none, extends_put, extends_on, by_operand}
 use Rattle.flt_bpf.specs.{Check.fault_of, Instructions.operation_of}
@@ -44,13 +44,7 @@ branch_count o i c e =
 sound_put : (o : Operation) (i : Insn) (c : List Insn) → i.code ≡ code_of o → jumps (Some o) ≡ false → operation_fault o i (length c) ≡ None → Sound c
     → Sound (i ∷ c)
 unfolding fault_of
-sound_put o i c e other f s = record {
-  valid = record {
-    faultless = (ap (λ x. fault_if_known x i (length c)) (ap operation_of e ∙ code_is o) ∙ f, s.valid.faultless);
-    ends = ends_put i c s.valid.ends;
-  };
-  no_jump = All-cons (λ j. j.code ≢ JUMP) i c (no_jump o i e other) s.no_jump;
-}
+sound_put o i c e other f s = grind (arith, code_is, ends_put, All-cons)
 
 -- what is known if it is asked for
 abbrev pub Asked : Bool → Type 0 → Type 0
@@ -211,15 +205,7 @@ module _ (b : Bool) where
 
   -- one part of the code in front of another
   fits_on : {c d : List Insn} {e : Block} {m w m' w' : ℕ} → GrowsBy b c d m w → FitsBy b d e m' w' → FitsBy b c e (m + m') (w + w')
-  fits_on a f = record {
-    grows = record {
-      sound = f.grows.sound;
-      tail = extends_on a.tail f.grows.tail;
-      shorter = omega (arith, a.shorter, f.grows.shorter);
-      lighter = omega (arith, a.lighter, f.grows.lighter);
-    };
-    entry = f.entry;
-  }
+  fits_on a f = grind (arith, extends_on)
 
   test_fits : (held : Option FieldPlace) (t : Elementary) (hit miss : ℕ) (c : List Insn) → Asked b (Sound c) → Asked b (Inside c hit) → Asked b (Inside c miss)
       → FitsBy b c (emit_test held t hit miss c) (test_loads held t + test_count t) (test_loads held t + 3 * test_count t)

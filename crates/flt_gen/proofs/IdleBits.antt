@@ -10,7 +10,7 @@ none_left k first is e = ap (λ n. idle_bits n first is) e
 pub one_less : (k : ℕ) (first : Interval) (is : List Interval) → 0 < k → k ≤ 31 → idle_bits k first is ≡
     (if is_aligned (1 * 2 ^ k % 4294967296 - 1) first && list_all (is_aligned (1 * 2 ^ k % 4294967296 - 1)) is then 1 * 2 ^ k % 4294967296 - 1 else
     idle_bits (k - 1) first is)
-one_less x0 first is some l = grind (arith, pow_mono, mod-eq_of_lt)
+one_less k first is some l = grind (arith, pow_mono, mod-eq_of_lt)
 
 pub uncut : (last : ℕ) (is : List Interval) → last ≡ 0 → map (cut last) is ≡ is
 uncut last [] e = refl

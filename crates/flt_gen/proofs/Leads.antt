@@ -1,6 +1,6 @@
 -- Code that grew in front still stands at its end; what its first instruction does; and where it
 -- leads: its answer from a place on.
-use Rattle.flt_gen.proofs.Common.{constant_or, ◌≡◌, ℕ, suc, ◌-◌, ◌≤◌, List, ◌∷◌, length, drop, Option, Some, refl, sym, ap, ◌∙◌, arith, Insn, State, Operation}
+use Rattle.flt_gen.proofs.Common.{constant_or, ◌≡◌, ℕ, ◌-◌, ◌≤◌, List, ◌∷◌, length, drop, Option, Some, refl, sym, ap, ◌∙◌, arith, Insn, State, Operation}
 use Rattle.flt_gen.proofs.Common.{plain, answer_of, answer_after, answer_drop, code_of, does, does_if_known}
 use Rattle.flt_bpf.proofs.Codes.{code_is}
 use Rattle.flt_bpf.specs.{Instructions.operation_of, Machine.step}
@@ -14,19 +14,10 @@ pub extends_none : (c : List Insn) → Extends c c
 extends_none c = record { longer = omega arith; same = λ place l. refl }
 
 pub extends_put : {c d : List Insn} (i : Insn) → Extends c d → Extends c (i ∷ d)
-extends_put {d = d} i e =
-    record {
-      longer = omega (arith, e.longer);
-      same = λ place l. (let more : length (i ∷ d) - place ≡ suc (length d - place) = omega (arith, e.longer) in ap (λ k. drop k (i ∷ d)) more)
-          ∙ e.same place l;
-    }
+extends_put {d = d} i e = grind arith
 
 pub extends_on : {c d f : List Insn} → Extends c d → Extends d f → Extends c f
-extends_on a b =
-    record {
-      longer = omega (arith, a.longer, b.longer);
-      same = λ place l. b.same place (omega (arith, a.longer)) ∙ a.same place l;
-    }
+extends_on a b = grind arith
 
 -- by a constant operand or index
 pub by_operand : (P : List Insn → Type 0) (o : Option ℕ) (short : ℕ → List Insn) (long : List Insn) → ((k : ℕ) → o ≡ Some k → P (short k)) → P long

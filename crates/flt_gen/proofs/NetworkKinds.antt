@@ -1,12 +1,12 @@
 -- The test of a kind of network header reads what the packet's network header is.
-use Rattle.flt_gen.proofs.Common.{◌≡◌, get_or-drop, ℕ, ◌+◌, ◌*◌, ◌/◌, ◌%◌, ◌<◌, List, length, drop, Bool, true, nat_le, ◌==◌, not, Option, Some, None, refl}
-use Rattle.flt_gen.proofs.Common.{sym, ap, subst, ◌∙◌, arith, if◌then◌else◌, ◌↔◌, ◌^◌, All, bit_and, slice_index, nat_tests, HalfWord, big_endian_at, Link}
-use Rattle.flt_gen.proofs.Common.{MatchResult, Yes, No, Rejected, reading_of, with, elementary_reads, is_at, kind_test, type_test, link_of, link_type}
-use Rattle.flt_gen.proofs.Common.{type_offset, frame_kind, carries_kind, carries}
+use Rattle.flt_gen.proofs.Common.{◌≡◌, get_or-drop, ℕ, ◌+◌, ◌*◌, ◌/◌, ◌%◌, ◌<◌, List, length, drop, Bool, true, nat_le, ◌==◌, Option, Some, None, refl, sym, ap}
+use Rattle.flt_gen.proofs.Common.{subst, ◌∙◌, arith, if◌then◌else◌, ◌↔◌, ◌^◌, All, bit_and, slice_index, nat_tests, HalfWord, big_endian_at, Link, MatchResult}
+use Rattle.flt_gen.proofs.Common.{Yes, No, Rejected, reading_of, with, elementary_reads, is_at, kind_test, type_test, link_of, link_type, type_offset}
+use Rattle.flt_gen.proofs.Common.{frame_kind, carries_kind, carries}
 use Rattle.std.proofs.lemmas.Grind.{and_high_numeral}
 use Rattle.cap_octet.specs.Assigned.{ETHERTYPE_IPV4, ETHERTYPE_IPV6, ETHERTYPE_ARP, ETHERTYPE_RARP}
 use Rattle.cap_octet.specs.Link.{all_links}
-use Rattle.cap_octet.specs.NetworkHeader.{header_after, network_header, header_by_ethertype, header_by_version}
+use Rattle.cap_octet.specs.NetworkHeader.{header_after, network_header, header_by_version}
 use Rattle.cap_octet.specs.Number.{u16_in, number_in}
 use Rattle.cap_octet.specs.declared.{network.NetworkHeader.NetworkHeader}
 use Rattle.cap_octet.specs.declared.network.NetworkHeader.TheVariants.{Known, Short}
@@ -31,21 +31,12 @@ pub record Agrees (reading : MatchResult) (header : NetworkHeader) (kind : Netwo
 kind_agrees : (header : NetworkHeader) (kind : NetworkKind) (carried : Bool) → Agrees (reads_kind header kind carried) header kind carried
 kind_agrees header kind carried = grind arith
 
--- the first bytes are captured, or they aren't
-captured : (kind : NetworkKind) (long short : Bool) (v : ℕ) (test : ℕ → Bool) (header : NetworkHeader) → short ≡ not long
-    → (long ≡ true → reading_of (Some (test v)) ≡ reads_kind header kind true)
-    → reading_of (with (if long then Some v else None) (λ x. Some (test x))) ≡ reads_kind (if short then Short else header) kind true
-captured kind x1 x2 v test header e there = grind (arith)
-
 -- the type of a header tells its kind
 abbrev type_of : NetworkKind → ℕ
 type_of Ipv4 = ETHERTYPE_IPV4
 type_of Ipv6 = ETHERTYPE_IPV6
 type_of Arp = ETHERTYPE_ARP
 type_of Rarp = ETHERTYPE_RARP
-
-number_reads : (v : ℕ) (kind : NetworkKind) → reading_of (Some (v == type_of kind)) ≡ reads_kind (header_by_ethertype v) kind true
-number_reads v kind = grind (arith, nat_tests)
 
 -- raw IP tells it by the version, which the first four bits are
 version_test : (v n m : ℕ) → m ≡ 16 * n → v < 2 ^ 8 → (bit_and v 0xf0 == m) ≡ (v / 16 == n)
@@ -63,14 +54,14 @@ same_number p at =
 
 type_reads : (at : ℕ) (kind : NetworkKind) (p : List ℕ) → elementary_reads (is_at at HalfWord (type_of kind)) p ≡ reads_kind
     (header_after (Some at) p) kind true
-type_reads at kind p = grind (arith, nat_tests, same_number, captured, number_reads)
+type_reads at kind p = grind (arith, nat_tests, same_number)
 
 -- by the version n, which the mask leaves as m
 version_reads : (kind : NetworkKind) (n m : ℕ) → m ≡ 16 * n → ((w : ℕ) → reading_of (Some (w == n)) ≡ reads_kind (header_by_version w) kind true)
     → (p : List ℕ) → All (λ b. b < 2 ^ 8) p
     → reading_of (with (if nat_le (0 + 1) (length p) then Some (slice_index p 0) else None) (λ (x : ℕ). Some (bit_and x 0xf0 == m))) ≡ reads_kind
     (header_after None p) kind true
-version_reads kind n m times is p bytes = grind (arith, nat_tests, captured, version_test)
+version_reads kind n m times is p bytes = grind (arith, nat_tests, version_test)
 
 by_place : (place : Option ℕ) (kind : NetworkKind) (p : List ℕ) → All (λ b. b < 2 ^ 8) p
     → elementary_reads (type_test place (frame_kind kind)) p ≡ reads_kind (header_after place p) kind (carries_kind place kind)

@@ -150,15 +150,9 @@ module _ (p : List ℕ) (n : ℕ) where
   accessor_runs link Icmp w c slot v s t f k e h = transport_runs link w c slot v s t f k e h _ refl
   accessor_runs link _ w c slot v s t f k e h = base_runs (network_offset link) w c slot v s t f k e h
 
-  -- the field of an accessor with a constant index
-  header_same : (o : Option ℕ) (l v : ℕ) (w : Width) → with (with o (λ b. Some (header_length b)))
-      (λ x. field p ((x + (l + v) % 2 ^ 32) % 2 ^ 32) w) ≡ with (with (with o (λ b. Some (header_length b))) (λ x. Some (x + l)))
-      (λ at. field p ((at + v) % 2 ^ 32) w)
-  header_same o l v w = grind arith
-
   pub indexed_same : (link : Link) (protocol : Protocol) (w : Width) (v : ℕ) → field_at (accessor_offset link protocol v) w p ≡ with
       (base link protocol p) (λ at. field p ((at + v) % 2 ^ 32) w)
-  indexed_same link protocol w v = grind (arith, header_same)
+  indexed_same link protocol w v = grind arith
 
   indexed_runs : (link : Link) (protocol : Protocol) (w : Width) (c : List Insn) (slot v : ℕ) (s : State) (f : ℕ → ℕ) → Keeps slot s s
       → GoesOn c slot s f → answer_of (emit_field (accessor_offset link protocol v) w c) p n 0 s ≡ Some

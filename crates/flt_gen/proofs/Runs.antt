@@ -205,7 +205,7 @@ module _ (p : List ℕ) (n : ℕ) where
       (leads_on p n (emitted_by false None link b hit miss c (omega arith) tt tt tt).grows.tail h)
       (by_itself (emitted_after None link b hit miss v w c (omega arith) h m)))))
   emitted_after held link (Except a) hit miss v w c few h m =
-      anyhow held (leads_to p n (pick_negated (reads link a p n) v w) (by_itself (emitted_after None link a miss hit w v c few m h)))
+      grind (arith, anyhow, leads_to, pick_negated, by_itself, emitted_after None link a miss hit w v c few m h)
   emitted_after held link (Split t a b) hit miss v w c few h m =
       let left = left_by t in
       let no = emit_after left link b hit miss c in

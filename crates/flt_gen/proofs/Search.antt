@@ -3,19 +3,16 @@
 use Rattle.flt_gen.proofs.Ascending.{if_case, is_in, is_within, Apart, Searchable, Reached, Ready, searchable_apart, apart_take, apart_drop, apart_without}
 use Rattle.flt_gen.proofs.Ascending.{length_without, within_without, lower_half, upper_half, first_taken, ends_few, none_below}
 use Rattle.flt_gen.proofs.Common.{◌≡◌, ℕ, zero, suc, ◌+◌, ◌-◌, ◌*◌, ◌/◌, ◌%◌, ◌^◌, ◌<◌, ◌≤◌, List, [], ◌∷◌, length, take, drop, Bool, true, false, Option, Some}
-use Rattle.flt_gen.proofs.Common.{None, refl, ap, ap₂, sym, ◌∙◌, subst, arith, max, nat_le, nat_lt, ◌==◌, not, ◌&&◌, ◌||◌, if◌then◌else◌, take_rest}
-use Rattle.flt_gen.proofs.Common.{length-drop, length-take, nat_tests, or-false, Width, Insn, Interval, Sides, Offset, FieldPlace, MatchResult, Yes, Rejected}
-use Rattle.flt_gen.proofs.Common.{reading_of, with, compares, field_at, under_mask, elementary_reads, Formula, Split, both, either, reads, Link, Direction}
-use Rattle.flt_gen.proofs.Common.{Source, Destination, And, Or, Comparison, Equal, Less, AtMost, AtLeast, Block, emit_after, emit_test, emit_comparison}
-use Rattle.flt_gen.proofs.Common.{emit_field, emit_mask, at_top, Constant, same_offset, same_width, same_mask, Numbers, field_test, are_few, low_of}
-use Rattle.flt_gen.proofs.Common.{within_formula, sought_formula, first_ends, sought_tests, tests, loads, test_loads, place_loads, mask_loads, nodes, words}
-use Rattle.flt_gen.proofs.Common.{Single, Outcome}
+use Rattle.flt_gen.proofs.Common.{None, refl, ap, ap₂, sym, ◌∙◌, subst, arith, max, nat_le, nat_lt, ◌==◌, not, ◌||◌, if◌then◌else◌, take_rest, length-drop}
+use Rattle.flt_gen.proofs.Common.{length-take, nat_tests, or-false, Width, Insn, Interval, Sides, Offset, FieldPlace, MatchResult, Yes, Rejected, reading_of}
+use Rattle.flt_gen.proofs.Common.{with, compares, field_at, under_mask, elementary_reads, Formula, Split, both, either, reads, Link, Direction, Source}
+use Rattle.flt_gen.proofs.Common.{Destination, And, Or, Comparison, Equal, Less, AtMost, AtLeast, Block, emit_after, emit_test, emit_comparison, emit_field}
+use Rattle.flt_gen.proofs.Common.{emit_mask, at_top, Constant, Numbers, field_test, are_few, low_of, within_formula, sought_formula, first_ends, sought_tests}
+use Rattle.flt_gen.proofs.Common.{tests, loads, test_loads, place_loads, mask_loads, nodes, words, Single, Outcome}
 use Rattle.flt_gen.proofs.Counted.{Bare, bare_within, bare_some, place_few, mask_few}
 use Rattle.flt_gen.proofs.Firsts.{exact, or_yes, by_first}
 use Rattle.flt_gen.proofs.{Exclusive.or_no, Runs.one_number}
-use Rattle.flt_gen.specs.Formula.{choose}
-use Rattle.flt_gen.specs.inside.Search.{held_if, chain_of, search, MOST_HALVINGS, few_formula, many_formula, sides_at_index, at_index, index_of}
-use Rattle.flt_gen.specs.inside.Search.{fewest_at_index, never, always}
+use Rattle.flt_gen.specs.inside.Search.{held_if, chain_of, search, MOST_HALVINGS, few_formula, many_formula, sides_at_index, at_index, index_of, never, always}
 use Rattle.std.proofs.Math.Nat.{mod-eq_of_lt}
 
 -- ---- the code
@@ -57,17 +54,11 @@ search_put held link f (suc k) from is hit miss c some many =
 -- of a search that isn't halved, and of one that is
 pub ruleset search_steps = (search_none, search_few, search_put)
 
-equal_self : (a : ℕ) → (a == a) ≡ true
-equal_self a = grind (arith, nat_tests)
-
-same_self : (f : FieldPlace) → (same_offset f.offset f.offset && (same_width f.width f.width && same_mask f.mask f.mask)) ≡ true
-same_self f = grind (arith, equal_self)
-
 -- a field that A holds isn't loaded
 pub loaded_if : (b : Bool) (f : FieldPlace) (comparison : Comparison) (v hit miss : ℕ) (c : List Insn)
     → emit_test (held_if b f) (field_test f comparison v) hit miss c
     ≡ (let d = emit_comparison comparison Constant v hit miss c in at_top (if b then d else emit_field f.offset f.width (emit_mask f.mask d)))
-loaded_if b f comparison v hit miss c = grind (arith, same_self)
+loaded_if b f comparison v hit miss c = grind (arith, nat_tests)
 
 -- ---- the reading
 
@@ -80,10 +71,6 @@ are_many is e = grind arith
 
 less_is : (a b : ℕ) → nat_lt a b ≡ not (nat_le b a)
 less_is a b = grind (arith, nat_tests)
-
--- by a test, and by what is known where it is yes and where it is no
-by_test : (b inside : Bool) (x y : MatchResult) → (b ≡ true → x ≡ exact inside) → (b ≡ false → y ≡ exact inside) → choose (exact b) x y ≡ exact inside
-by_test b inside x y hit miss = grind arith
 
 above_first : (x : ℕ) (i : Interval) (is : List Interval) → i.low ≤ x → (is_in x i || is_within x is) ≡ (nat_le x i.high || is_within x is)
 above_first x i is l = grind (arith, nat_tests)
@@ -100,7 +87,7 @@ module _ (link : Link) (p : List ℕ) (n : ℕ) (f : FieldPlace) where
     split_told : (comparison : Comparison) (v : ℕ) (a b : Formula) (inside : Bool)
         → (compares comparison u v ≡ true → reads link a p n ≡ exact inside) → (compares comparison u v ≡ false → reads link b p n ≡ exact inside)
         → reads link (Split (field_test f comparison v) a b) p n ≡ exact inside
-    split_told comparison v a b inside hit miss = grind (arith, by_test)
+    split_told comparison v a b inside hit miss = grind arith
 
     chain_told : (from : Bool) (a : ℕ) (is : List Interval) → Apart a is → (from ≡ true → low_of is ≤ u)
         → reads link (chain_of f from is) p n ≡ exact (is_within u is)
@@ -142,15 +129,9 @@ module _ (link : Link) (p : List ℕ) (n : ℕ) (f : FieldPlace) where
 
   -- where it isn't captured
   module _ (is_none : field_at f.offset f.width p ≡ None) where
-    split_lost : (comparison : Comparison) (v : ℕ) (a b : Formula) → reads link (Split (field_test f comparison v) a b) p n ≡ Rejected
-    split_lost comparison v a b = grind arith
-
-    chain_lost : (is : List Interval) → Searchable is → reads link (chain_of f false is) p n ≡ Rejected
-    chain_lost is some = grind (arith, split_lost)
-
     search_lost : (k : ℕ) (is : List Interval) → Searchable is → reads link (search f k false is) p n ≡ Rejected
     unfolding search
-    search_lost k is some = grind (arith, chain_lost, split_lost)
+    search_lost k is some = grind arith
 
   search_reads : (is : List Interval) → Searchable is → reads link (search f MOST_HALVINGS false is) p n ≡ read_by (field_at f.offset f.width p)
       (λ x. is_within (under_mask f.mask x) is)
@@ -176,11 +157,8 @@ at_index_same : (p : List ℕ) (index : ℕ) (mask : Option ℕ) (a b : Offset) 
     → (field_at (at_index index a) w p ≡ field_at a w p) × (field_at (at_index index b) w p ≡ field_at b w p)
 at_index_same p index mask a b w l = grind (arith, counted)
 
-zero_low : (x : ℕ) → nat_le 0 x ≡ true
-zero_low x = grind (arith, nat_tests)
-
 captured_is : (o : Option ℕ) (f : ℕ → Bool) → read_by o (λ x. nat_le 0 x) ≡ either (read_by o f) Yes
-captured_is o f = grind (arith, zero_low, or_yes)
+captured_is o f = grind (arith, nat_tests, or_yes)
 
 -- the source, if it is captured, is of the first member, of all, and of the others
 few_told : (b c o : Bool) (d : Option ℕ) (f a : ℕ → Bool) → (b ≡ true → c ≡ true) → (b ≡ false → o ≡ c)
@@ -232,22 +210,14 @@ module _ (link : Link) (p : List ℕ) (n : ℕ) (at : Sides) (numbers : Numbers)
           (λ t. ap (is_within y) r.others_are ∙ within_without y numbers.first numbers.all (sym (or-false (is_in y numbers.first)) ∙ t))
 
   many_read : reads link (many_formula (sides_at_index link at) numbers) p n ≡ either_side
-  many_read =
-      let same = at_index_same p (index_of link at) numbers.mask at.source at.destination at.width r.reached in
-      let a = at_index (index_of link at) at.source in
-      let b = at_index (index_of link at) at.destination in
-      ap₂ (λ x y. either (both x (either (reads link (within_formula numbers.mask (numbers.first ∷ []) a at.width) p n)
-      (read_by (field_at b at.width p) (λ z. nat_le 0 z)))) y) (all_read a) (all_read b)
-      ∙ ap₂ (λ x y. either (both (read_by (field_at a at.width p) of_all) (either x y)) (read_by (field_at b at.width p) of_all)) (first_read a)
-      (captured_is (field_at b at.width p) of_first)
-      ∙ ap₂ (λ s d. by_first (read_by s of_all) (read_by s of_first) (read_by d of_first) (read_by d of_all)) same.0 same.1
+  many_read = grind (arith, at_index_same, all_read, first_read, captured_is)
 
   pub sought_read : (d : Direction) → Merged d → reads link (sought_formula link d at numbers) p n ≡ sides_read d source destination of_first of_all
   sought_read d m = grind (arith, all_read, many_read, few_read)
 
 -- ---- the counts
 
--- a formula without comparisons, where A holds a field or none, with at most so many loads and tests
+-- a formula without comparisons, with at most so many loads, if A holds this field or none, and tests
 record Cheap (held : Option FieldPlace) (g : Formula) (l t : ℕ) : Type 0 where
   nodes_fit : nodes g ≤ 0
   words_fit : words g ≤ 0
@@ -270,12 +240,12 @@ cheap_as : {held : Option FieldPlace} {g : Formula} {l t : ℕ} (u : ℕ) → t 
 cheap_as u m h = omega arith
 
 module _ (f : FieldPlace) where
-  -- a test of the field takes so many loads at most where A holds a field or none; none where it holds this one
+  -- a test of the field takes so many loads at most, by the field that A holds; none if it holds this one
   abbrev Takes : Option FieldPlace → ℕ → Type 0
   Takes held l = (comparison : Comparison) (v : ℕ) → test_loads held (field_test f comparison v) ≤ l
 
   none_taken : Takes (Some f) 0
-  none_taken comparison v = grind (arith, same_self)
+  none_taken comparison v = grind (arith, nat_tests)
 
   all_taken : Takes None (place_loads f.offset + mask_loads f.mask)
   all_taken comparison v = omega arith
@@ -290,23 +260,7 @@ module _ (f : FieldPlace) where
   chain_cheap : (held : Option FieldPlace) (l : ℕ) → Takes held l → (from : Bool) (is : List Interval)
       → Cheap held (chain_of f from is) l (2 * length is - 1 + first_more from is)
   chain_cheap held l few from [] = cheap_none false
-  chain_cheap held l few from (i ∷ is) =
-      let m = rest_few is in
-      let rest : Cheap (Some f) (chain_of f false is) 0 (2 * length is) = cheap_as _ m (chain_cheap (Some f) 0 none_taken false is) in
-      let upper : (held : Option FieldPlace) (l : ℕ) → Takes held l → Cheap held (Split (field_test f AtMost i.high) always (chain_of f false is)) l
-      (1 + (0 + 2 * length is)) = λ held l few. cheap_split {s = 0} AtMost i.high few (cheap_none true) rest in
-      if_case (λ (g : Formula). Cheap held g l (2 * length (i ∷ is) - 1 + first_more from (i ∷ is))) (i.low == i.high) _ _
-      (λ e. cheap_as _ (omega arith) (cheap_split {s = 0} Equal i.low few (cheap_none true) rest))
-      (λ e. by from e upper)
-    where
-      by : (from : Bool) → (i.low == i.high) ≡ false → ((held : Option FieldPlace) (l : ℕ) → Takes held l
-          → Cheap held (Split (field_test f AtMost i.high) always (chain_of f false is)) l (1 + (0 + 2 * length is)))
-          → Cheap held (if from then Split (field_test f AtMost i.high) always (chain_of f false is) else Split (field_test f AtLeast i.low)
-          (Split (field_test f AtMost i.high) always (chain_of f false is)) never) l (2 * length (i ∷ is) - 1 + first_more from (i ∷ is))
-      by true e upper = cheap_as _ (omega arith) (upper held l few)
-      by false e upper =
-          let two : first_more false (i ∷ is) ≡ 1 = ap (λ b. if b then 0 else 1) e in
-          cheap_as _ (omega arith) (cheap_split {t = 0} AtLeast i.low few (upper (Some f) 0 none_taken) (cheap_none false))
+  chain_cheap held l few from (i ∷ is) = grind (arith, rest_few, cheap_as, chain_cheap (Some f) 0 none_taken false is, none_taken, cheap_split, cheap_none)
 
   search_cheap : (k : ℕ) (held : Option FieldPlace) (l : ℕ) → Takes held l → (from : Bool) (is : List Interval)
       → Cheap held (search f k from is) l (2 * length is - 1 + first_more from is)
@@ -329,9 +283,6 @@ lean index mask a b h = grind (arith, mask_few)
 
 some_searched : (is : List Interval) → Searchable is → 1 ≤ length is
 some_searched is h = grind arith
-
-at_index_many : (w : Width) (b : Bool) (n : ℕ) → nat_le (fewest_at_index w b) n ≡ true → nat_le 5 n ≡ true
-at_index_many w b n e = grind (arith, nat_tests)
 
 module _ (link : Link) (at : Sides) (numbers : Numbers) (r : Ready link at numbers) where
   within_cheap : (is : List Interval) (offset : Offset) → let x = within_formula numbers.mask is offset at.width in
@@ -387,4 +338,4 @@ module _ (link : Link) (at : Sides) (numbers : Numbers) (r : Ready link at numbe
   bare_sought (Direction.One Source) = side_bare at.source (lean (index_of link at) numbers.mask at.source at.destination r.reached).0
   bare_sought (Direction.One Destination) = side_bare at.destination (lean (index_of link at) numbers.mask at.source at.destination r.reached).1
   bare_sought (Direction.Both And) = bare_some 1 (omega arith)
-  bare_sought (Direction.Both Or) = grind (arith, at_index_many, many_bare, bare_within, few_bare)
+  bare_sought (Direction.Both Or) = grind (arith, nat_tests, many_bare, bare_within, few_bare)

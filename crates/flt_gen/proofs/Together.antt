@@ -3,13 +3,12 @@ use Rattle.flt_gen.proofs.Ascending.{if_case, Each, Ordered, within_joined, is_i
 use Rattle.flt_gen.proofs.Common.{◌≡◌, ℕ, ◌+◌, ◌*◌, ◌^◌, ◌%◌, ◌<◌, ◌≤◌, List, [], ◌∷◌, map, Bool, true, false, Option, Some, None, refl, ap, ap₂, ◌-◌, ◌∙◌}
 use Rattle.flt_gen.proofs.Common.{arith, inl, inr, ◌==◌, ◌||◌, ◌&&◌, nat_le, min, max, bit_and, nat_tests, and_parts, or-false, Protocol, Ip, Tcp, Udp}
 use Rattle.flt_gen.proofs.Common.{ValueType, Numbers, Host, Net, Port, PortRange, Source, Destination, And, Or, Direction, CompleteQualifiers, Value}
-use Rattle.flt_gen.proofs.Common.{first_bits, Word, HalfWord, Offset, field, Link, FrameKind, Elementary, Interval, Sides, Transport, MatchResult, Yes, No}
-use Rattle.flt_gen.proofs.Common.{field_at, under_mask, kind_test, elementary_reads, Formula, sought_formula, both, either, all_of, sides, reads}
-use Rattle.flt_gen.proofs.Common.{address_places, partial_mask, port_is, port_between, port_places, in_net, hosts_formula, transport, following, ip_transport}
-use Rattle.flt_gen.proofs.Common.{ip6_transport, port_formula, value_formula, joined_all, left_out, high_mask, cut, sought, has_addresses, net_numbers}
-use Rattle.flt_gen.proofs.Common.{member_of, several_formula}
+use Rattle.flt_gen.proofs.Common.{first_bits, HalfWord, Offset, Link, FrameKind, Elementary, Interval, Sides, Transport, MatchResult, Yes, No, field_at}
+use Rattle.flt_gen.proofs.Common.{under_mask, kind_test, elementary_reads, Formula, sought_formula, both, either, all_of, sides, reads, address_places}
+use Rattle.flt_gen.proofs.Common.{partial_mask, port_is, port_between, port_places, in_net, hosts_formula, ip_transport, ip6_transport, port_formula}
+use Rattle.flt_gen.proofs.Common.{value_formula, joined_all, left_out, high_mask, cut, sought, has_addresses, net_numbers, member_of, several_formula}
 use Rattle.flt_gen.proofs.Exclusive.{or_no, both_either, kinds_exclude}
-use Rattle.flt_gen.proofs.Firsts.{Known, first_alone}
+use Rattle.flt_gen.proofs.Firsts.{Known}
 use Rattle.flt_gen.proofs.Prefixes.{Idle, idle_sought, Small, cut_in, cut_within, net_hit}
 use Rattle.flt_gen.proofs.{Runs.one_number, Search.Merged, Search.read_by, Search.sides_read, Search.sought_read}
 use Rattle.std.specs.Prelude.{◌⊎◌, count_ones}
@@ -31,12 +30,8 @@ fitting_small false at m is fit p x e = λ l. absurd (omega arith)
 pub unmasked_fitting : (b : Bool) (at : Sides) → b ≡ false → Fitting b at
 unmasked_fitting b at e = grind arith
 
--- a word is below 2^32
-pub word_small : (p : List ℕ) (at x : ℕ) → field p at Word ≡ Some x → x < 2 ^ 32
-word_small p at x e = grind (arith, mod-lt)
-
 pub address_fitting : (b : Bool) (link : Link) (k : FrameKind) → Fitting b (address_places link k)
-address_fitting b link k e p x h = grind (arith, word_small)
+address_fitting b link k e p x h = grind (arith, mod-lt)
 
 -- numbers that are searched in the ports after both headers
 abbrev pub PortsReady : Link → Numbers → Type 0
@@ -52,12 +47,6 @@ plain_reads (Direction.One Destination) s d f = read_by d f
 plain_reads (Direction.Both Or) s d f = either (read_by s f) (read_by d f)
 plain_reads (Direction.Both And) s d f = both (read_by s f) (read_by d f)
 
-read_or : (o : Option ℕ) (f g : ℕ → Bool) → read_by o (λ x. f x || g x) ≡ either (read_by o f) (read_by o g)
-read_or o f g = grind arith
-
-read_seen : (o : Option ℕ) (f g : ℕ → Bool) → ((x : ℕ) → o ≡ Some x → f x ≡ g x) → read_by o f ≡ read_by o g
-read_seen o f g e = grind arith
-
 -- where one is no, the field is there
 known_read : (o : Option ℕ) (f g : ℕ → Bool) → read_by o f ≡ No → Known (read_by o g)
 known_read None f g e = cc
@@ -66,14 +55,14 @@ known_read (Some x) f g e = (g x, refl)
 -- one more in front of those of which k is the first
 one_more : (d : Direction) (s t : Option ℕ) (m k o : ℕ → Bool) → Merged d → sides_read d s t m (λ x. m x || (k x || o x)) ≡ either
     (plain_reads d s t m) (sides_read d s t k (λ x. k x || o x))
-one_more d s t m k o h = grind (arith, read_or, known_read)
+one_more d s t m k o h = grind (arith, known_read)
 
 one_alone : (d : Direction) (s t : Option ℕ) (m : ℕ → Bool) → sides_read d s t m (λ x. m x || false) ≡ plain_reads d s t m
-one_alone d s t m = grind (arith, or-false, or_no, first_alone)
+one_alone d s t m = grind (arith, or-false, or_no)
 
 sides_seen : (d : Direction) (s t : Option ℕ) (f g a b : ℕ → Bool) → ((x : ℕ) → s ≡ Some x → f x ≡ g x) → ((x : ℕ) → t ≡ Some x → f x ≡ g x)
     → ((x : ℕ) → s ≡ Some x → a x ≡ b x) → ((x : ℕ) → t ≡ Some x → a x ≡ b x) → sides_read d s t f a ≡ sides_read d s t g b
-sides_seen d s t f g a b i j h k = grind (arith, read_seen)
+sides_seen d s t f g a b i j h k = grind arith
 
 -- how many tests a member, an address or a port, has at least by itself
 abbrev pub member_tests : Bool → Option Protocol → Direction → ℕ
@@ -84,11 +73,6 @@ more_tests : (d : Direction) → count.side_tests d 1 ≤ count.side_tests d 2
 more_tests d = grind arith
 
 module _ (link : Link) (p : List ℕ) (n : ℕ) where
-  -- where a test is yes those after it are no
-  kinds : (i a x s t : MatchResult) → (i ≡ Yes → (s ≡ No) × (t ≡ No)) → either (both i (either a x)) (either s t) ≡ either (either (both i a) s)
-      (either (both i x) t)
-  kinds i a x s t only = grind (arith, or_no)
-
   abbrev kind_reads : FrameKind → MatchResult
   kind_reads k = elementary_reads (kind_test link k) p
 
@@ -108,21 +92,6 @@ module _ (link : Link) (p : List ℕ) (n : ℕ) where
 
   abbrev after_reads : Option Protocol → Transport → MatchResult → MatchResult
   after_reads protocol header r = both (transport_reads protocol header) (both (whole_reads header.no_later_fragment) r)
-
-  after_more : (protocol : Option Protocol) (header : Transport) (a b : MatchResult) → after_reads protocol header (either a b) ≡ either
-      (after_reads protocol header a) (after_reads protocol header b)
-  after_more protocol header a b = grind (arith, both_either)
-
-  whole_is : (o : Option Elementary) (f : Formula) → reads link (following o f) p n ≡ both (whole_reads o) (reads link f p n)
-  whole_is o f = grind arith
-
-  transport_is : (protocol : Option Protocol) (header : Transport) (f : Formula) → reads link (transport protocol header.tcp header.udp f) p n ≡ both
-      (transport_reads protocol header) (reads link f p n)
-  transport_is protocol header f = grind arith
-
-  after_is : (protocol : Option Protocol) (header : Transport) (f : Formula)
-      → reads link (transport protocol header.tcp header.udp (following header.no_later_fragment f)) p n ≡ after_reads protocol header (reads link f p n)
-  after_is protocol header f = grind (arith, transport_is, whole_is)
 
   -- hosts or ports, by what is read of their sides
   abbrev two_headers : Option Protocol → MatchResult → MatchResult → MatchResult
@@ -145,24 +114,13 @@ module _ (link : Link) (p : List ℕ) (n : ℕ) where
   by_sides true protocol x = hosts_by protocol x
   by_sides false protocol x = ports_by protocol x
 
-  hosts_join : (protocol : Option Protocol) (x y : Sides → MatchResult) → hosts_by protocol (λ at. either (x at) (y at)) ≡ either
-      (hosts_by protocol x) (hosts_by protocol y)
-  hosts_join protocol x y = grind (arith, kinds_exclude, both_either, kinds)
-
-  ports_join : (protocol : Option Protocol) (x y : Sides → MatchResult) → ports_by protocol (λ at. either (x at) (y at)) ≡ either
-      (ports_by protocol x) (ports_by protocol y)
-  ports_join protocol x y = grind (arith, after_more, both_either, kinds, kinds_exclude)
-
   sides_join : (k : Bool) (protocol : Option Protocol) (x y : Sides → MatchResult) → by_sides k protocol (λ at. either (x at) (y at)) ≡ either
       (by_sides k protocol x) (by_sides k protocol y)
-  sides_join k protocol x y = grind (arith, hosts_join, ports_join)
+  sides_join k protocol x y = grind (arith, kinds_exclude, both_either, or_no)
 
   -- what is asked of the places
   abbrev told_at : (Sides → Formula) → Sides → MatchResult
   told_at asked at = reads link (asked at) p n
-
-  ports_are : (protocol : Option Protocol) (asked : Sides → Formula) → reads link (port_formula link protocol asked) p n ≡ ports_by protocol (told_at asked)
-  ports_are protocol asked = grind (arith, after_is)
 
   hosts_are : (protocol : Option Protocol) (asked : Sides → Formula) → reads link (hosts_formula link protocol asked) p n ≡ hosts_by protocol (told_at asked)
   hosts_are protocol asked = grind arith
@@ -240,7 +198,7 @@ module _ (link : Link) (p : List ℕ) (n : ℕ) where
     -- ports have no mask
     several_ports : b ≡ false → PortsReady link (sought b m all) → reads link (port_formula link q.protocol asked) p n
         ≡ members_read false q.protocol q.direction m ms
-    several_ports e r = grind (arith, ports_are, sides_are, unmasked_fitting)
+    several_ports e r = grind (arith, sides_are, unmasked_fitting)
 
     pub several_are : (k : Bool) → (b ≡ true → k ≡ true) → (k ≡ true → (f : FrameKind)
         → Ready link (address_places link f) (sought b m all)) → (k ≡ false → PortsReady link (sought b m all))
@@ -248,15 +206,10 @@ module _ (link : Link) (p : List ℕ) (n : ℕ) where
     several_are true f r s = several_hosts (r refl)
     several_are false f r s = several_ports (not_both b _ f refl) (s refl)
 
-  -- the row of a member
-  row_sides : (at : Sides) (d : Direction) (s t : List Elementary) (f : ℕ → Bool) → reads link (all_of s) p n ≡ read_by (source_of at) f
-      → reads link (all_of t) p n ≡ read_by (destination_of at) f → reads link (sides d s t) p n ≡ plain_reads d (source_of at) (destination_of at) f
-  row_sides at d s t f e h = grind arith
-
   address_row : (protocol : Option Protocol) (d : Direction) (mask : Option ℕ) (a : ℕ) (f : ℕ → Bool)
       → ((x : ℕ) → x < 2 ^ 32 → (under_mask mask x == a) ≡ f x) → reads link (hosts_formula link protocol (in_net d mask a)) p n ≡ hosts_by protocol
       (λ at. plain_reads d (source_of at) (destination_of at) f)
-  address_row protocol d mask a f e = grind (arith, hosts_are, hosts_same, address_fitting, row_sides, read_seen)
+  address_row protocol d mask a f e = grind (arith, hosts_are, hosts_same, address_fitting)
 
   both_ends : (o : Option ℕ) (a b : ℕ) → both (read_by o (λ x. nat_le a x)) (read_by o (λ x. nat_le x b)) ≡ read_by o (λ x. nat_le a x && nat_le x b)
   both_ends o a b = grind arith
@@ -265,7 +218,7 @@ module _ (link : Link) (p : List ℕ) (n : ℕ) where
       → ((at : Offset) → reads link (all_of (tests at)) p n ≡ read_by (field_at at HalfWord p) f)
       → reads link (port_formula link protocol (λ at. sides d (tests at.source) (tests at.destination))) p n ≡ ports_by protocol
       (λ at. plain_reads d (source_of at) (destination_of at) f)
-  port_row protocol d tests f e = grind (arith, ports_are, row_sides)
+  port_row protocol d tests f e = grind arith
 
   -- a value that looks for these numbers: their order, its tests, of which there are no fewer, and how it reads
   abbrev pub IsMember : ValueType → Option Protocol → Direction → Value → Interval → Type 0

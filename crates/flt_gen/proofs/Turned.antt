@@ -35,10 +35,7 @@ both_walked link w v _ _ ns none e = never v e
 
 one_walked : (link : Link) (w : Walk) (n m : Node) (ns : List Node) → emit_both_nodes link w n m ≡ None → emit_nodes link w (n ∷ m ∷ ns) ≡ emit_nodes
     link (emit_node link w n) (m ∷ ns)
-one_walked link w x2 x3 ns e = grind (arith)
-
-last_walked : (link : Link) (w : Walk) (n : Node) → emit_nodes link w (n ∷ []) ≡ emit_node link w n
-last_walked link w x2 = grind (arith)
+one_walked link w n m ns e = grind arith
 
 -- the last of the nodes that are left, and the last two or four
 abbrev node : List Node → ℕ → Node
@@ -61,10 +58,7 @@ last_four ns l = ap reverse (sym (take_all (length ns) ns (omega arith))) ∙ fo
 
 pub relation_put : (link : Link) (ns : List Node) (j : ℕ) (w : Walk) (e : Entry) → 4 ≤ length (take j ns) → j ≤ length ns
     → relation_in (reverse (take j ns)) ≡ Some e → emit_nodes link (emit_member link e w) (reverse (take (j - 4) ns)) ≡ emit_nodes link w (reverse (take j ns))
-relation_put link ns j w e some within is =
-    let long = length-take j ns in
-    let four = four_put ns j (omega arith) within in
-    sym (ap (emit_nodes link w) four ∙ relation_walked link w _ _ _ _ (reverse (take (j - 4) ns)) e (ap relation_in (sym four) ∙ is))
+relation_put link ns j w e some within is = grind (arith, length-take, four_put, relation_walked)
 
 -- what is left to do after so many nodes
 abbrev left_walk : Link → List Node → ℕ → Walk → Walk
@@ -72,7 +66,7 @@ left_walk link ns k w = emit_nodes link w (reverse (take k ns))
 
 pub first_put : (link : Link) (ns : List Node) (left : ℕ) (w : Walk) → 0 < left → left ≤ length ns → left - 1 ≡ 0 → left_walk link ns (left - 1)
     (emit_node link w (get_or ns (left - 1) (Check Ether))) ≡ left_walk link ns left w
-first_put link ns (suc zero) w some within first = grind (arith, one_put, last_walked)
+first_put link ns (suc zero) w some within first = grind (arith, one_put)
 first_put link ns _ w some within first = absurd (omega arith)
 
 pub node_put : (link : Link) (ns : List Node) (left : ℕ) (w : Walk) → 0 < left - 1 → left ≤ length ns → emit_both_nodes link w

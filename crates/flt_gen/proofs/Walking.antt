@@ -178,10 +178,7 @@ module _ (link : Link) (a b : TruthTree) (ha : (more : Group) → Walks link a m
   apart : (e : Entry) (group : Group) (c : List Insn) (to : Targets) (p : Option Group) → larger_group e no_group ≡ p
       → emit_nodes link (emit_entry link e (after_or c to ts group) None) (truth_onto a d) ≡ emit_nodes link
       (emit_apart link e (flush_members link (waiting c to (left_after_or to ∷ ts) group) (is_empty group.entries)) Pending.Or p) (truth_onto a d)
-  apart e group c to p is =
-      let flushed = flush_members link (waiting c to (left_after_or to ∷ ts) group) (is_empty group.entries) in
-      ap (λ o. emit_nodes link (emit_apart link e flushed Pending.Or o) (truth_onto a d))
-      (ap (larger_group e) (flushed_group link (waiting c to (left_after_or to ∷ ts) group) (is_empty group.entries)) ∙ is)
+  apart e group c to p is = grind (arith, flushed_group)
 
   or_member : (e : Entry) (group : Group) (c : List Insn) (to : Targets) → entry_of b ≡ Some e → (o p : Option Group) → larger_group e group ≡ o
       → larger_group e no_group ≡ p → emit_nodes link (emit_entry link e (after_or c to ts group) o) (truth_onto a d) ≡ emit_nodes link
@@ -204,10 +201,7 @@ truth_walked link (denied a) group =
     λ c to ts d. settled link group Pending.Nothing ts (Except (grouped_formula link no_group a)) d
     (λ w. emit_nodes link (emit_truth_node link w Not) (truth_onto a d)) (λ c to. truth_walked link a no_group c (targets to.no to.yes) ts d) c to
     group.entries
-truth_walked link (joined And a b) group =
-    λ c to ts d. settled link group Pending.Nothing ts (Both (grouped_formula link no_group a) (grouped_formula link no_group b)) d
-    (λ v. emit_nodes link (record v { truths = record { join = And; to = v.to } ∷ v.truths }) (truth_onto b (truth_onto a d)))
-    (λ c to. both_walked link a b (truth_walked link a no_group) (truth_walked link b no_group) c to ts d) c to group.entries
+truth_walked link (joined And a b) group = grind (arith, settled, both_walked, truth_walked link a no_group, truth_walked link b no_group)
 truth_walked link (joined Or a b) group =
     λ c to ts d. either_walked link a b (λ more. truth_walked link a more) (λ more. truth_walked link b more) ts d group c to (entry_of b) refl
 truth_walked link a group = leaf_walked link (formula link a) group

@@ -215,8 +215,8 @@ emit_test held (Field t) hit miss c =
 abbrev pub emit_elementary : Elementary → ℕ → ℕ → List Insn → Block
 emit_elementary t hit miss c = emit_test None t hit miss c
 
--- the code of a formula that goes on at one of two places, where A holds a field or none. A test by
--- which one of two formulas is chosen doesn't load that field again
+-- the code of a formula that goes on at one of two places. A test by which one of two formulas is
+-- chosen doesn't load the field that A holds, if it holds one
 abbrev pub emit_after : Option FieldPlace → Link → Formula → ℕ → ℕ → List Insn → Block
 emit_after held link (Single t) hit miss c = emit_elementary t hit miss c
 emit_after held link (Compare comparison l r) hit miss c =

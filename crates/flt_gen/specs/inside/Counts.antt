@@ -68,12 +68,12 @@ mask_loads (Some mask) = 1
 abbrev pub field_loads : FieldTest → ℕ
 field_loads t = place_loads t.offset + mask_loads t.mask
 
--- how many do it for a test, where A holds a field or none
+-- how many do it for a test, if A holds this field, or none
 abbrev pub test_loads : Option FieldPlace → Elementary → ℕ
 test_loads held (Outcome b) = 0
 test_loads held (Field t) = if is_loaded held t then 0 else field_loads t
 
--- how many other instructions the code of a formula has at most, where A holds a field or none, if
+-- how many other instructions the code of a formula has at most, if A holds this field, or none, and
 -- those of arithmetic's nodes are counted by themselves
 abbrev pub loads : Option FieldPlace → Formula → ℕ
 loads held (Single t) = test_loads None t
