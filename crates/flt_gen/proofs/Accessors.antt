@@ -1,6 +1,6 @@
 -- Tests of accessors and members of a group, one more at a time.
-use Rattle.flt_gen.proofs.Common.{◌≡◌, ℕ, ◌+◌, ◌<◌, List, [], ◌∷◌, ◌++◌, length, take, get_or, refl, ap, ◌∙◌, add-one, reverse, take-suc, reverse-append, Insn}
-use Rattle.flt_gen.proofs.Common.{Protocol, Link, accessor_tests, Block, block, emit_all, emit_accessor_tests, Entry, rows_formula}
+use Rattle.flt_gen.proofs.Common.{arith, ◌≡◌, ℕ, ◌+◌, ◌<◌, List, [], ◌∷◌, ◌++◌, length, take, get_or, ap, ◌∙◌, add-one, reverse, take-suc, reverse-append, Insn}
+use Rattle.flt_gen.proofs.Common.{Protocol, Link, accessor_tests, block, emit_all, emit_accessor_tests, Entry, rows_formula}
 use Rattle.flt_gen.specs.inside.{Code.emit_formula, Group.entry_formula}
 
 -- one more, and the last is the first
@@ -17,15 +17,10 @@ one_more link ps k other hit miss c l = ap (λ qs. emit_accessor_tests link qs h
 
 row_first : (link : Link) (e : Entry) (es : List Entry) (hit miss : ℕ) (c : List Insn) → let b = emit_formula link (rows_formula link es) hit miss c
     in emit_formula link (rows_formula link (e ∷ es)) hit miss c ≡ emit_formula link (entry_formula link e) hit b.entry b.code
-row_first link e [] hit miss c = refl
-row_first link e (x ∷ xs) hit miss c = refl
+row_first link e es hit miss c = grind arith
 
 pub one_more_row : (link : Link) (es : List Entry) (k : ℕ) (other : Entry) (hit miss : ℕ) (c d d' : List Insn) (entry entry' : ℕ) → k < length es
     → emit_formula link (rows_formula link (reverse (take k es))) hit miss c ≡ block d entry
     → emit_formula link (entry_formula link (get_or es k other)) hit entry d ≡ block d' entry'
     → emit_formula link (rows_formula link (reverse (take (k + 1) es))) hit miss c ≡ block d' entry'
-one_more_row link es k other hit miss c d d' entry entry' l h n =
-    let e = get_or es k other in
-    ap (λ (xs : List Entry). emit_formula link (rows_formula link xs) hit miss c) (turned es k other l)
-    ∙ row_first link e (reverse (take k es)) hit miss c
-    ∙ ap (λ (b : Block). emit_formula link (entry_formula link e) hit b.entry b.code) h ∙ n
+one_more_row link es k other hit miss c d d' entry entry' l h n = grind (arith, turned, row_first)

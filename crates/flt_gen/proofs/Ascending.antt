@@ -1,15 +1,13 @@
 -- Intervals that ascend.
-use Rattle.flt_gen.proofs.Common.{◌≡◌, ℕ, zero, suc, ◌+◌, ◌-◌, ◌^◌, ◌<◌, ◌≤◌, List, [], ◌∷◌, length, take, drop, get_or, Bool, true, false, Option, Some, None}
-use Rattle.flt_gen.proofs.Common.{refl, sym, ap, ap₂, ◌∙◌, arith, nat_lt, nat_le, ◌==◌, ◌&&◌, ◌||◌, max, if◌then◌else◌, nat_tests, and_parts, or_assoc}
-use Rattle.flt_gen.proofs.Common.{Interval, Sides, Offset, Fixed, AfterHeader, field_at, under_mask, low_of, Link, index_of}
-use Rattle.flt_gen.proofs.Common.{Numbers, no_interval, first_ends, insert_ascending, is_gap, extended, joined_from}
-use Rattle.flt_gen.proofs.Common.{joined_all, same_interval, without}
+use Rattle.flt_gen.proofs.Common.{◌≡◌, ℕ, zero, suc, ◌+◌, ◌^◌, ◌<◌, ◌≤◌, List, [], ◌∷◌, length, take, drop, get_or, Bool, true, false, Option, Some, None, refl}
+use Rattle.flt_gen.proofs.Common.{ap, arith, nat_lt, nat_le, ◌&&◌, ◌||◌, max, if◌then◌else◌, nat_tests, Interval, Sides, Offset, Fixed, AfterHeader, field_at}
+use Rattle.flt_gen.proofs.Common.{under_mask, low_of, Link, index_of, Numbers, no_interval, first_ends, insert_ascending, extended, joined_from, joined_all}
+use Rattle.flt_gen.proofs.Common.{without}
 use Rattle.std.specs.List.{insert}
 
 -- by a test
 pub if_case : {A : Type 0} (P : A → Type 0) (b : Bool) (x y : A) → (b ≡ true → P x) → (b ≡ false → P y) → P (if b then x else y)
-if_case P true x y t f = t refl
-if_case P false x y t f = f refl
+if_case P b x y t f = grind arith
 
 -- a number is in an interval, and in one of some intervals
 abbrev pub is_in : ℕ → Interval → Bool
@@ -32,10 +30,7 @@ pub inserted_at : (i : Interval) (is : List Interval) (at : ℕ) → at ≤ leng
     → (at < length is → i.low ≤ (get_or is at no_interval).low) → insert is at i ≡ insert_ascending i is
 inserted_at i [] zero l low high = refl
 inserted_at i [] (suc at) l low high = absurd (omega arith)
-inserted_at i (j ∷ js) zero l low high =
-    let h = high (omega arith) in
-    if_case (λ r. i ∷ j ∷ js ≡ r) (nat_lt j.low i.low) (j ∷ insert_ascending i js) (i ∷ j ∷ js)
-    (λ e. absurd (let k : j.low < i.low = grind (arith, nat_tests) in omega arith)) (λ e. refl)
+inserted_at i (j ∷ js) zero l low high = grind (arith, nat_tests)
 inserted_at i (j ∷ js) (suc at) l low high =
     let k = low 0 (omega arith) in
     let h = inserted_at i js at (omega arith) (λ n m. low (suc n) (omega arith)) (λ m. high (omega arith)) in
@@ -68,8 +63,7 @@ pub record Ready (link : Link) (at : Sides) (numbers : Numbers) : Type 0 where
   pub reached : Reached (index_of link at) numbers.mask at.source at.destination
 
 pub searchable_apart : (is : List Interval) → Searchable is → Apart 0 is
-searchable_apart [] h = absurd h
-searchable_apart (i ∷ is) h = h
+searchable_apart is h = grind arith
 
 pub apart_less : (a b : ℕ) (is : List Interval) → a ≤ b → Apart b is → Apart a is
 apart_less a b [] l h = tt
@@ -96,14 +90,7 @@ length_without i (j ∷ js) = grind (arith, length_without i js)
 
 pub within_without : (x : ℕ) (i : Interval) (is : List Interval) → is_in x i ≡ false → is_within x (without i is) ≡ is_within x is
 within_without x i [] out = refl
-within_without x i (j ∷ js) out =
-    if_case (λ xs. is_within x xs ≡ is_within x (j ∷ js)) (same_interval i j) (without i js) (j ∷ without i js)
-    (λ e. let t = and_parts (i.low == j.low) (i.high == j.high) e in
-    let low : i.low ≡ j.low = (let u = t.0 in grind (arith, nat_tests)) in
-    let high : i.high ≡ j.high = (let u = t.1 in grind (arith, nat_tests)) in
-    let none : is_in x j ≡ false = ap₂ (λ a b. nat_le a x && nat_le x b) (sym low) (sym high) ∙ out in
-    within_without x i js out ∙ ap (λ b. b || is_within x js) (sym none))
-    (λ e. ap (λ b. is_in x j || b) (within_without x i js out))
+within_without x i (j ∷ js) out = grind (arith, nat_tests, within_without x i js out)
 
 -- which half a number can be in
 pub none_below : (x a : ℕ) (is : List Interval) → x < a → Apart a is → is_within x is ≡ false
@@ -123,10 +110,7 @@ at_least a (suc h) (i ∷ is) up l = let k = up.0 in let m = up.1 in let n = at_
 pub upper_half : (x a h : ℕ) (is : List Interval) → Apart a is → h < length is → low_of (drop h is) ≤ x → is_within x is ≡ is_within x (drop h is)
 upper_half x a h [] up l m = absurd (omega arith)
 upper_half x a zero (i ∷ is) up l m = refl
-upper_half x a (suc h) (i ∷ is) up l m =
-    let low = at_least (i.high + 1) h is up.2 (omega arith) in
-    let out : is_in x i ≡ false = grind (arith, nat_tests) in
-    ap (λ b. b || is_within x is) out ∙ upper_half x (i.high + 1) h is up.2 (omega arith) m
+upper_half x a (suc h) (i ∷ is) up l m = grind (arith, at_least, nat_tests, upper_half x (i.high + 1) h is up.2 (omega arith) m)
 
 pub first_taken : (h : ℕ) (is : List Interval) → 0 < h → low_of (take h is) ≡ low_of is
 first_taken h is l = grind arith
@@ -144,9 +128,6 @@ pub length_inserted : (i : Interval) (is : List Interval) → length (insert_asc
 length_inserted i [] = refl
 length_inserted i (j ∷ js) = grind (arith, length_inserted i js)
 
-or_swap : (a b c : Bool) → (b || (a || c)) ≡ (a || (b || c))
-or_swap a b c = grind (arith, nat_tests)
-
 pub within_inserted : (x : ℕ) (i : Interval) (is : List Interval) → is_within x (insert_ascending i is) ≡ (is_in x i || is_within x is)
 within_inserted x i [] = refl
 within_inserted x i (j ∷ js) = grind (arith, nat_tests, within_inserted x i js)
@@ -160,10 +141,6 @@ pub points_inserted : (i : Interval) (is : List Interval) → i.low ≡ i.high �
 points_inserted i [] e h = (e, tt)
 points_inserted i (j ∷ js) e h = grind (arith, points_inserted i js)
 
--- those that touch, joined
-joined_in : (x : ℕ) (i j : Interval) → i.low ≤ i.high → i.low ≤ j.low → j.low ≤ j.high → j.low ≤ i.high + 1 → is_in x (extended i j) ≡ (is_in x i || is_in x j)
-joined_in x i j low order high touch = grind (arith, nat_tests)
-
 ordered_less : (a b : ℕ) (is : List Interval) → a ≤ b → Ordered b is → Ordered a is
 ordered_less a b [] l h = tt
 ordered_less a b (i ∷ is) l h = (let k = h.0 in omega arith, h.1, h.2)
@@ -175,12 +152,7 @@ apart_from a i (j ∷ js) l m h = grind (arith, nat_tests, apart_from (i.high + 
 within_from : (x : ℕ) (i : Interval) (js : List Interval) → i.low ≤ i.high → Ordered i.low js → is_within x (joined_from i js) ≡ (is_in x i || is_within x js)
 within_from x i [] m h = refl
 within_from x i (j ∷ js) m h =
-    if_case (λ is. is_within x is ≡ (is_in x i || (is_in x j || is_within x js))) (is_gap i j) (i ∷ joined_from j js) (joined_from (extended i j) js)
-    (λ e. ap (λ b. is_in x i || b) (within_from x j js h.1 h.2))
-    (λ e. let near : j.low - i.high ≤ 1 = grind (arith, nat_tests) in
-    within_from x (extended i j) js (omega arith) (ordered_less i.low j.low js h.0 h.2)
-    ∙ ap (λ b. b || is_within x js) (joined_in x i j m h.0 h.1 (omega arith))
-    ∙ or_assoc (is_in x i) (is_in x j) (is_within x js))
+    grind (arith, within_from x j js h.1 h.2, within_from x (extended i j) js (omega arith) (ordered_less i.low j.low js h.0 h.2), ordered_less, nat_tests)
 
 length_from : (i : Interval) (js : List Interval) → (1 ≤ length (joined_from i js)) × (length (joined_from i js) ≤ length js + 1)
 length_from i [] = (omega arith, omega arith)
@@ -201,22 +173,14 @@ searchable_joined [] l h = absurd (omega arith)
 searchable_joined (i ∷ is) l h = some (joined_from i is) (length_from i is).0 (apart_from 0 i is h.0 h.1 h.2)
   where
     some : (js : List Interval) → 1 ≤ length js → Apart 0 js → Searchable js
-    some [] l h = absurd (omega arith)
-    some (j ∷ js) l h = h
+    some js l h = grind arith
 
 pub within_joined : (x : ℕ) (is : List Interval) → Ordered 0 is → is_within x (joined_all is) ≡ is_within x is
-within_joined x [] h = refl
-within_joined x (i ∷ is) h = within_from x i is h.1 h.2
+within_joined x is h = grind (arith, within_from)
 
 -- no more than there were, and where they were single numbers, one less if the first one is more
 pub joined_few : (is : List Interval) → 1 ≤ length is → max 1 (length (joined_all is)) ≤ length is
-joined_few [] l = absurd (omega arith)
-joined_few (i ∷ is) l = let h = length_from i is in let a = h.0 in let b = h.1 in omega arith
+joined_few is l = grind (arith, length_from)
 
 pub joined_points : (is : List Interval) → 1 ≤ length is → Points is → max 1 (length (joined_all is)) + first_ends (joined_all is) ≤ length is
-joined_points [] l h = absurd (omega arith)
-joined_points (i ∷ is) l h =
-    let none = one_point i h.0 in
-    let few = tests_from i is in
-    let some = (length_from i is).0 in
-    omega arith
+joined_points is l h = grind (arith, one_point, tests_from, length_from)

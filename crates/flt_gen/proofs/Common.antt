@@ -1,17 +1,17 @@
 -- The names that most proofs here cite, passed on from one place. Declares nothing.
 pub use Rattle.std.proofs.Common.{◌≡◌, ℕ, ◌+◌, ◌<◌, List, [], ◌∷◌, ◌++◌, length, take, get_or, ap, ◌∙◌, add-one, reverse, zero, suc, ◌-◌, ◌≤◌, drop, Bool, true}
 pub use Rattle.std.proofs.Common.{false, refl, arith, nat_lt, nat_le, ◌==◌, ◌&&◌, ◌||◌, max, if◌then◌else◌, Some, min, Option, None, ◌%◌, ◌^◌, sym, fold, ◌*◌}
-pub use Rattle.std.proofs.Common.{ap₂, subst, bit_and, ◌/◌, cond, length-drop, length-take, ◌≢◌, not, count_by, map, ⊎_elim, unwrap_or, get_or-drop, ◌↔◌, All}
-pub use Rattle.std.proofs.Common.{slice_index, slice_get, slice_set, inl, inr, Result, Ok, Err, OnOk}
-pub use Rattle.std.proofs.Math.Nat.{suc-mul, mod-add-mod, div-mul-le_self, lt-div-mul-add, le-div_iff_mul-le, mul-le-mul_right, pow-succ'}
+pub use Rattle.std.proofs.Common.{ap₂, subst, bit_and, ◌/◌, cond, length-drop, length-take, ◌≢◌, not, count_by, map, ⊎_elim, get_or-drop, ◌↔◌, All, slice_index}
+pub use Rattle.std.proofs.Common.{slice_get, slice_set, inl, inr}
+pub use Rattle.std.proofs.Math.Nat.{suc-mul, div-mul-le_self, lt-div-mul-add, le-div_iff_mul-le, mul-le-mul_right, pow-succ'}
 pub use Rattle.std.proofs.Math.Seq.{take-suc}
-pub use Rattle.std.proofs.lemmas.Bool.{and_parts, or_parts, cases_lt, eqb-true, Decides.nat_tests}
+pub use Rattle.std.proofs.lemmas.Bool.{and_parts, or_parts, cases_lt, Decides.nat_tests}
 pub use Rattle.std.proofs.lemmas.List.{reverse-append, get_or-set_same, get_or-set_other, take_rest}
-pub use Rattle.std.proofs.lemmas.List.Elements.{All-cons, All-drop, All-nil}
+pub use Rattle.std.proofs.lemmas.List.Elements.{All-cons, All-drop}
 pub use Rattle.std.proofs.lemmas.List.Sums.{sum_by-cons, sum_by-take-drop}
 pub use Rattle.std.proofs.lemmas.Nat.{pow-add, and_le_r, pow_pos}
 pub use Rattle.std.specs.Option.{option_map}
-pub use mathlib.Core.Bool.{and-false, or_assoc, or-false}
+pub use mathlib.Core.Bool.{and-false, or-false}
 pub use Rattle.cap_octet.specs.Link.{network_offset, link_of, link_type, type_offset}
 pub use Rattle.cap_octet.specs.declared.link.Link.{Link}
 pub use Rattle.flt_ast.specs.Counts.{number_size, number_words, number_tests, truth_size, truth_words, truth_tests, bound_of, words_of, accessor_test_count}
@@ -26,7 +26,7 @@ pub use Rattle.flt_ast.specs.declared.qualifiers.{CompleteQualifiers.CompleteQua
 pub use Rattle.flt_ast.specs.declared.value.Value.{Value}
 pub use Rattle.flt_ast.specs.inside.Nodes.{number_onto, truth_onto, expr_onto}
 pub use Rattle.flt_bpf.specs.Answer.{answer_of, answer_after}
-pub use Rattle.flt_bpf.specs.Check.{fault_if_known, operation_fault, unless, ends_in_return, IsValidUnlessLong, IsFaultless}
+pub use Rattle.flt_bpf.specs.Check.{operation_fault, unless, ends_in_return, IsValidUnlessLong}
 pub use Rattle.flt_bpf.specs.Instructions.{code_of}
 pub use Rattle.flt_bpf.specs.Layout.{is_branch, JUMP, HasNoJump, IsShort, JumpsAreNeeded}
 pub use Rattle.flt_bpf.specs.Machine.{does, does_if_known, field, big_endian_at, Goes, Lost, compute, operand_value, into, word_into, header_length, test_holds}
@@ -35,7 +35,7 @@ pub use Rattle.flt_bpf.specs.declared.{insn.Insn.Insn, machine.State.State}
 pub use Rattle.flt_bpf.specs.declared.operation.Operand.{Operand, TheVariants.Constant, TheVariants.IndexRegister}
 pub use Rattle.flt_bpf.specs.declared.operation.Operation.{Operation}
 pub use Rattle.flt_bpf.specs.declared.operation.Operation.TheVariants.{LoadAbsolute, LoadIndirect, Load, Store, Compute, JumpIf, LoadHeaderLength, Negate, Jump}
-pub use Rattle.flt_bpf.specs.declared.operation.Operation.TheVariants.{CopyToIndex, ReturnConstant}
+pub use Rattle.flt_bpf.specs.declared.operation.Operation.TheVariants.{CopyToIndex}
 pub use Rattle.flt_bpf.specs.declared.operation.Register.TheVariants.{Accumulator, Index}
 pub use Rattle.flt_bpf.specs.declared.operation.Source.TheVariants.{Immediate, Memory, Length}
 pub use Rattle.flt_bpf.specs.declared.operation.{Test.Test, Width.Width}
@@ -44,35 +44,33 @@ pub use Rattle.flt_bpf.proofs.Suffix.{answer_drop, valid_if_short, faultless_dro
 pub use Rattle.flt_gen.specs.{Correct.IsProgramOf, Counts.short_bound_of}
 pub use Rattle.flt_gen.specs.Elementary.{Yes, No, reading_of, with, under_mask, elementary_reads, type_test, MatchResult, compares, kind_test, Rejected, is_at}
 pub use Rattle.flt_gen.specs.Elementary.{field_at, field_reads}
-pub use Rattle.flt_gen.specs.Formula.{Formula, Single, Compare, Both, Either, Except, Split, all_of, sides}
-pub use Rattle.flt_gen.specs.Formula.{both, either, negation, reads, relation_reads, guarded_formula, checked_formula}
+pub use Rattle.flt_gen.specs.Formula.{Formula, Single, Compare, Both, Either, Except, Split, all_of, sides, both, either, negation, reads, guarded_formula}
+pub use Rattle.flt_gen.specs.Formula.{checked_formula}
 pub use Rattle.flt_gen.specs.Laws.{word_mask, frame_kind, carries_kind, carries}
 pub use Rattle.flt_gen.specs.Numbers.{accessor_tests, width_of, base, number, result_of, accessors}
 pub use Rattle.flt_gen.specs.Primitives.{after, any_proto, mac_tests, check_formula, cast_formula, proto_formula, hosts_of_kind, hosts_formula, in_net}
-pub use Rattle.flt_gen.specs.Primitives.{ip6_formula, ether_host, port_formula, is_port, in_range, transport, value_formula, sized_formula}
-pub use Rattle.flt_gen.specs.Primitives.{qualified_formula, partial_mask, ip6_tests, address_test, ip6_test, address_places, port_is, port_between, port_places}
-pub use Rattle.flt_gen.specs.Primitives.{following, ip_transport, ip6_transport}
+pub use Rattle.flt_gen.specs.Primitives.{ip6_formula, ether_host, port_formula, value_formula, sized_formula, partial_mask, ip6_tests, address_places, port_is}
+pub use Rattle.flt_gen.specs.Primitives.{port_between, port_places, ip_transport, ip6_transport}
 pub use Rattle.flt_gen.specs.Reading.{formula, holds}
 pub use Rattle.flt_gen.specs.declared.elementary.Elementary.{Elementary, TheVariants.Outcome, TheVariants.Field}
 pub use Rattle.flt_gen.specs.declared.elementary.{FieldPlace.FieldPlace, FieldTest.FieldTest, FrameKind.FrameKind, Interval.Interval, Offset.Offset}
 pub use Rattle.flt_gen.specs.declared.elementary.Offset.TheVariants.{Fixed, AfterHeader, AtIndex}
 pub use Rattle.flt_gen.specs.declared.{elementary.Sides.Sides, group.Entry.Entry}
 pub use Rattle.flt_gen.specs.declared.port.Transport.{Transport}
-pub use Rattle.flt_gen.specs.inside.Code.{accessor_offset, constant_or, Block, block, emit_all, plain, constant, computation, takes_constant}
-pub use Rattle.flt_gen.specs.inside.Code.{constant_operand, branch_insn, emit_branch, emit_comparison, emit_field, emit_mask, emit_accessor, emit_number}
-pub use Rattle.flt_gen.specs.inside.Code.{at_top, emit_elementary, emit_test, emit_after, emit_formula, alu_operation, emit_base, is_loaded, nothing}
-pub use Rattle.flt_gen.specs.inside.Code.{emit_transport, emit_operands, emit_relation, same_offset, same_width, same_mask}
+pub use Rattle.flt_gen.specs.inside.Code.{accessor_offset, constant_or, Block, block, emit_all, plain, constant, computation, takes_constant, constant_operand}
+pub use Rattle.flt_gen.specs.inside.Code.{branch_insn, emit_branch, emit_comparison, emit_field, emit_mask, emit_accessor, emit_number, at_top, emit_test}
+pub use Rattle.flt_gen.specs.inside.Code.{emit_after, emit_formula, alu_operation, emit_base, is_loaded, left_by, emit_transport, emit_operands, emit_relation}
+pub use Rattle.flt_gen.specs.inside.Code.{same_offset, same_width, same_mask}
 pub use Rattle.flt_gen.specs.inside.Counts.{first_ends, sought_tests, tests, test_count, nodes, words, place_loads, mask_loads, field_loads, test_loads, loads}
 pub use Rattle.flt_gen.specs.inside.Emitted.{protocols_of, relation_formula, qualified_needed, is_empty, is_idle, capture_test, last_test, needed_tests}
-pub use Rattle.flt_gen.specs.inside.Emitted.{ip6_needed, value_needed, equals, without_protocol}
-pub use Rattle.flt_gen.specs.inside.Folding.{negated_constant, applied_constant, number_or, negated_number, applied_number, folded_number, and_denied}
-pub use Rattle.flt_gen.specs.inside.Folding.{joined_truth, folded_truth, folded_expression, node_or, with_negation, with_operator, Held, with_held, with_folded}
-pub use Rattle.flt_gen.specs.inside.Folding.{hold, put_back}
+pub use Rattle.flt_gen.specs.inside.Emitted.{value_needed, without_protocol}
+pub use Rattle.flt_gen.specs.inside.Folding.{negated_constant, applied_constant, number_or, negated_number, applied_number, folded_number, joined_truth}
+pub use Rattle.flt_gen.specs.inside.Folding.{folded_truth, folded_expression, with_negation, with_operator, with_folded, hold, put_back}
 pub use Rattle.flt_gen.specs.inside.Group.{Group, no_group, entry, interval, with_member, same_type, same_protocol, same_direction, goes_with, net_numbers}
 pub use Rattle.flt_gen.specs.inside.Group.{member_of, group_and, larger_group, is_searched, has_addresses, numbers_of, several_formula, rows_formula}
-pub use Rattle.flt_gen.specs.inside.Group.{group_formula, or_any, or_group, truth_member, choice, grouped_formula, MOST_TOGETHER, FEWEST_RANGES}
-pub use Rattle.flt_gen.specs.inside.Intervals.{no_interval, insert_ascending, is_gap, extended, joined_from, joined_all, is_aligned, idle_bits, left_out}
-pub use Rattle.flt_gen.specs.inside.Intervals.{high_mask, cut, same_interval, without, numbers_by, sought}
+pub use Rattle.flt_gen.specs.inside.Group.{group_formula, or_any, or_group, choice, grouped_formula, MOST_TOGETHER, FEWEST_RANGES}
+pub use Rattle.flt_gen.specs.inside.Intervals.{no_interval, insert_ascending, extended, joined_from, joined_all, is_aligned, idle_bits, left_out, high_mask}
+pub use Rattle.flt_gen.specs.inside.Intervals.{cut, without, sought}
 pub use Rattle.flt_gen.specs.inside.ProgramCode.{emit_accessor_tests, expression_code, program_code, returns_code}
 pub use Rattle.flt_gen.specs.inside.Search.{Numbers, field_test, are_few, low_of, sought_formula, within_formula, index_of}
 pub use Rattle.flt_gen.specs.inside.Walk.{Walk, finish_formula, emit_node, emit_both_nodes, or_walk, emit_nodes, start_walk, insns_of, targets, finish_truth}

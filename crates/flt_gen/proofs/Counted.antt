@@ -1,14 +1,10 @@
 -- The counts of the table's formulas are at most those of the tree.
-use Rattle.flt_gen.proofs.Ascending.{if_case}
-use Rattle.flt_gen.proofs.Common.{◌≡◌, ℕ, ◌+◌, ◌-◌, ◌*◌, ◌≤◌, max, min, List, [], ◌∷◌, length, Option, Some, None, arith, Protocol, Source, Destination}
-use Rattle.flt_gen.proofs.Common.{And}
-use Rattle.flt_gen.proofs.Common.{Or, ValueType, Host, Net, Port, PortRange, Proto, Direction, Value, Link, FrameKind, Elementary, Sides}
-use Rattle.flt_gen.proofs.Common.{ip_transport, ip6_transport, Formula, Single, Both, Either, Split, all_of, sides, after, Field, Outcome}
-use Rattle.flt_gen.proofs.Common.{FieldTest, Offset, loads, test_loads, field_loads, place_loads, mask_loads, is_loaded, nothing}
-use Rattle.flt_gen.proofs.Common.{in_net, is_port, in_range, port_places}
-use Rattle.flt_gen.proofs.Common.{any_proto, mac_tests, check_formula, cast_formula, proto_formula, hosts_of_kind, hosts_formula, ip6_formula}
-use Rattle.flt_gen.proofs.Common.{ether_host, port_formula, transport, value_formula, tests, nodes, words}
-use Rattle.flt_words.specs.declared.token.Cast.{Cast, TheVariants.Broadcast, TheVariants.Multicast}
+use Rattle.flt_gen.proofs.Common.{◌≡◌, ℕ, ◌+◌, ◌-◌, ◌*◌, ◌≤◌, max, List, [], ◌∷◌, length, Option, Some, None, arith, Protocol, Source, Destination, And, Or}
+use Rattle.flt_gen.proofs.Common.{ValueType, Host, Net, Port, PortRange, Proto, Direction, Value, Link, FrameKind, Elementary, Sides, ip_transport}
+use Rattle.flt_gen.proofs.Common.{ip6_transport, Formula, Single, Both, Either, Split, all_of, sides, after, FieldTest, Offset, loads, field_loads, place_loads}
+use Rattle.flt_gen.proofs.Common.{mask_loads, left_by, FieldPlace, in_net, port_places, any_proto, mac_tests, check_formula, cast_formula, proto_formula}
+use Rattle.flt_gen.proofs.Common.{hosts_of_kind, hosts_formula, ip6_formula, ether_host, port_formula, value_formula, tests, nodes, words}
+use Rattle.flt_words.specs.declared.token.Cast.{Cast}
 use Rattle.flt_ast.specs.Counts as count
 
 -- a formula with at most s nodes of arithmetic and w words of memory, whose code is as long as that
@@ -16,8 +12,8 @@ use Rattle.flt_ast.specs.Counts as count
 pub record Sized (f : Formula) (s w n : ℕ) : Type 0 where
   pub nodes_fit : nodes f ≤ s
   pub words_fit : words f ≤ w
-  pub short_fit : loads nothing f + tests f ≤ 4 * n
-  pub light_fit : loads nothing f + 3 * tests f ≤ 6 * n
+  pub short_fit : loads None f + tests f ≤ 4 * n
+  pub light_fit : loads None f + 3 * tests f ≤ 6 * n
 
 -- one without comparisons
 abbrev pub Bare : Formula → ℕ → Type 0
@@ -37,8 +33,7 @@ field_few : (t : FieldTest) → field_loads t ≤ 3
 field_few t = let a = place_few t.offset in let b = mask_few t.mask in omega arith
 
 pub bare_one : (t : Elementary) → Bare (Single t) 1
-bare_one (Outcome b) = omega arith
-bare_one (Field t) = let l = field_few t in omega arith
+bare_one t = grind (arith, field_few)
 
 -- a test of which there may be more
 pub bare_some : {t : Elementary} (n : ℕ) → 1 ≤ n → Bare (Single t) n
@@ -59,16 +54,12 @@ pub bare_else : {a b : Formula} {s w m n : ℕ} → Sized a s w m → Bare b n �
 bare_else h k = sized_as _ _ _ (omega arith) (omega arith) (omega arith) (bare_either h k)
 
 -- a field that A holds isn't loaded
-less_loads : (held : Elementary) (f : Formula) → loads held f ≤ loads nothing f
-less_loads held (Split t a b) = let l = test held t in omega arith
-  where
-    test : (held t : Elementary) → test_loads held t ≤ test_loads nothing t
-    test held (Outcome b) = omega arith
-    test held (Field t) = if_case (λ n. n ≤ field_loads t) (is_loaded held t) 0 (field_loads t) (λ e. omega arith) (λ e. omega arith)
+less_loads : (held : Option FieldPlace) (f : Formula) → loads held f ≤ loads None f
+less_loads held (Split t a b) = grind arith
 less_loads held _ = omega arith
 
 pub bare_split : {t : Elementary} {a b : Formula} {m n : ℕ} → Bare a m → Bare b n → Bare (Split t a b) (1 + (m + n))
-bare_split {t = t} {a = a} {b = b} h k = omega (arith, bare_one t, less_loads t a, less_loads t b)
+bare_split {t = t} {a = a} {b = b} h k = omega (arith, bare_one t, less_loads (left_by t) a, less_loads (left_by t) b)
 
 pub bare_after : {t : Elementary} {a : Formula} {s w n : ℕ} → Sized a s w n → Sized (after t a) s w (1 + n)
 bare_after {t = t} h = sized_as _ _ _ (omega arith) (omega arith) (omega arith) (bare_both (bare_one t) h)
@@ -92,30 +83,16 @@ bare_proto : (link : Link) (n : ℕ) → Bare (any_proto link n) 4
 bare_proto link n = bare_either bare_pair bare_pair
 
 pub bare_check : (link : Link) (p : Protocol) → Bare (check_formula link p) (count.check_tests p)
-bare_check link Protocol.Tcp = bare_proto link 6
-bare_check link Protocol.Udp = bare_proto link 17
-bare_check link Protocol.Icmp = bare_pair
-bare_check link Protocol.Icmp6 = bare_pair
-bare_check link _ = bare_one _
+bare_check link p = grind (arith, bare_proto, bare_pair, bare_one)
 
 bare_ether : (link : Link) (d : Direction) (a : ℕ) → Bare (ether_host link d a) (count.ether_tests d)
 bare_ether link d a = bare_after (bare_sides d (mac_tests 6 a) (mac_tests 0 a) 2 (omega arith) (omega arith) (omega arith))
 
 pub bare_cast : (link : Link) (p : Option Protocol) (c : Cast) → Bare (cast_formula link p c) (count.cast_tests c)
-bare_cast link None Broadcast = bare_ether link (Direction.One Destination) 0xffff_ffff_ffff
-bare_cast link (Some Protocol.Ether) Broadcast = bare_ether link (Direction.One Destination) 0xffff_ffff_ffff
-bare_cast link (Some _) Broadcast = bare_some _ (omega arith)
-bare_cast link None Multicast = bare_pair
-bare_cast link (Some Protocol.Ether) Multicast = bare_pair
-bare_cast link (Some Protocol.Ip) Multicast = bare_pair
-bare_cast link (Some Protocol.Ip6) Multicast = bare_pair
-bare_cast link (Some _) Multicast = bare_some _ (omega arith)
+bare_cast link p c = grind (arith, bare_ether, bare_some, bare_pair)
 
 bare_proto_value : (link : Link) (p : Option Protocol) (n : ℕ) → Bare (proto_formula link p n) (count.proto_tests p)
-bare_proto_value link None n = bare_proto link n
-bare_proto_value link (Some Protocol.Ip) n = bare_pair
-bare_proto_value link (Some Protocol.Ip6) n = bare_pair
-bare_proto_value link (Some _) n = bare_some _ (omega arith)
+bare_proto_value link p n = grind (arith, bare_proto, bare_pair, bare_some)
 
 -- hosts of one kind, or of one of three
 abbrev pub of_kinds : Option Protocol → ℕ → ℕ
@@ -142,18 +119,10 @@ bare_net link p d mask a =
 bare_ip6 : (link : Link) (d : Direction) (prefix : Option ℕ) (a : ℕ) → Bare (ip6_formula link d prefix a) (count.ip6_test_count d)
 bare_ip6 link d prefix a = bare_after (bare_sides d _ _ 4 (omega arith) (omega arith) (omega arith))
 
--- ports, by the tests of their sides
-bare_transport : (p : Option Protocol) (s t : Elementary) (f : Formula) (n : ℕ) → Bare f n → Bare (transport p s t f) (count.transport_tests p + n)
-bare_transport None s t f n h = bare_both (bare_either (bare_one s) (bare_one t)) h
-bare_transport (Some Protocol.Tcp) s t f n h = bare_after h
-bare_transport (Some Protocol.Udp) s t f n h = bare_after h
-bare_transport (Some _) s t f n h = bare_some _ (omega arith)
-
 pub bare_ports : (link : Link) (p : Option Protocol) (asked : Sides → Formula) (n : ℕ) → Bare (asked (port_places (ip_transport link))) n
     → Bare (asked (port_places (ip6_transport link))) n → Bare (port_formula link p asked)
     (1 + count.transport_tests p + 1 + n + (1 + count.transport_tests p + n))
-bare_ports link p asked n ip ip6 =
-    bare_within _ (omega arith) (bare_either (bare_after (bare_transport p _ _ _ _ (bare_after ip))) (bare_after (bare_transport p _ _ _ n ip6)))
+bare_ports link p asked n ip ip6 = grind (arith, bare_within, bare_either, bare_after, bare_both, bare_one, bare_some)
 
 -- values
 pub bare_value : (link : Link) (k : ValueType) (p : Option Protocol) (d : Direction) (v : Value) → Bare (value_formula link k p d v) (count.typed_tests k p d v)
@@ -163,12 +132,8 @@ bare_value link Host p d (Value.Mac a) = bare_ether link d a
 bare_value link Net p d (Value.Number n m) = bare_net link p d _ _
 bare_value link Net p d (Value.Dotted a m) = bare_net link p d _ _
 bare_value link Net p d (Value.Ip6 a n) = bare_ip6 link d n a
-bare_value link Port p d (Value.Number n m) =
-    bare_ports link p (is_port d n) _ (bare_sides d _ _ 1 (omega arith) (omega arith) (omega arith))
-    (bare_sides d _ _ 1 (omega arith) (omega arith) (omega arith))
-bare_value link PortRange p d (Value.Range a b) =
-    bare_ports link p (in_range d (min a b) (max a b)) _ (bare_sides d _ _ 2 (omega arith) (omega arith) (omega arith))
-    (bare_sides d _ _ 2 (omega arith) (omega arith) (omega arith))
+bare_value link Port p d (Value.Number n m) = grind (arith, bare_ports, bare_sides)
+bare_value link PortRange p d (Value.Range a b) = grind (arith, bare_ports, bare_sides)
 bare_value link Proto p d (Value.Number n m) = bare_proto_value link p n
 bare_value link _ None d _ = bare_some _ (omega arith)
 bare_value link _ _ d _ = bare_some _ (omega arith)

@@ -1,19 +1,18 @@
 -- Decision trees of cases: they read as one case after the other, and have few tests.
-use Rattle.flt_gen.proofs.Ascending.{if_case, each_is}
-use Rattle.flt_gen.proofs.Common.{◌≡◌, ℕ, zero, suc, ◌+◌, ◌-◌, ◌*◌, ◌/◌, ◌^◌, ◌<◌, ◌≤◌, List, [], ◌∷◌, ◌++◌, length, map, max, length-take, take, drop, Bool}
-use Rattle.flt_gen.proofs.Common.{true}
-use Rattle.flt_gen.proofs.Common.{false, Option, Some, None, refl, sym, ap, ap₂, ◌∙◌, subst, arith, add-one, field, is_empty, is_idle, capture_test, last_test}
-use Rattle.flt_gen.proofs.Common.{needed_tests, ◌==◌, ◌&&◌, nat_lt, nat_le, bit_and, nat_tests, and_parts, pow_pos, and_le_r, Tcp, Direction, Link, first_bits}
-use Rattle.flt_gen.proofs.Common.{Word, HalfWord, Byte, Width, Offset, Fixed, Equal, Elementary, Field, MatchResult, Yes, No, Rejected, reading_of, with}
-use Rattle.flt_gen.proofs.Common.{field_at, under_mask, compares, elementary_reads, network_offset, Formula, both, either, all_of, reads, partial_mask}
-use Rattle.flt_gen.proofs.Common.{sides, value_needed, value_formula, kind_test, FrameKind, ValueType, Net, Value, Source, Destination, And}
+use Rattle.std.proofs.Math.Nat.{mod-lt}
+use Rattle.flt_gen.proofs.Ascending.{if_case}
+use Rattle.flt_gen.proofs.Common.{◌≡◌, ℕ, zero, suc, ◌+◌, ◌-◌, ◌*◌, ◌^◌, ◌<◌, ◌≤◌, List, [], ◌∷◌, ◌++◌, length, map, max, length-take, take, drop, Bool, true}
+use Rattle.flt_gen.proofs.Common.{false, Option, Some, None, refl, sym, ap, ap₂, ◌∙◌, subst, arith, add-one, is_empty, is_idle, capture_test, last_test}
+use Rattle.flt_gen.proofs.Common.{needed_tests, ◌==◌, ◌&&◌, nat_lt, nat_le, bit_and, nat_tests, and_parts, pow_pos, and_le_r, Direction, Link, first_bits, Word}
+use Rattle.flt_gen.proofs.Common.{HalfWord, Byte, Width, Offset, Fixed, Equal, Elementary, Field, MatchResult, Yes, No, Rejected, reading_of, with, field_at}
+use Rattle.flt_gen.proofs.Common.{under_mask, elementary_reads, network_offset, Formula, both, either, all_of, reads, partial_mask, sides, value_needed}
+use Rattle.flt_gen.proofs.Common.{value_formula, kind_test, FrameKind, ValueType, Net, Value, Source, Destination}
 use Rattle.flt_words.specs.declared.token.Side.{Side}
 use Rattle.flt_gen.proofs.Counted.{Bare, bare_within, bare_all, bare_one, bare_some, bare_both, bare_either, bare_split}
 use Rattle.flt_gen.proofs.Exclusive.{both_either, or_no, either_assoc, and_yes}
-use Rattle.flt_gen.proofs.{Needed.all_put, Needed.later_none, Needed.idle_holds, Needed.fewer, Once.equal_are, Together.word_small}
-use Rattle.std.specs.{List.list_all, List.insert, Prelude.slice_get, Prelude.is_none}
+use Rattle.flt_gen.proofs.{Needed.all_put, Needed.later_none, Needed.idle_holds, Needed.fewer}
+use Rattle.std.specs.{List.list_all, List.insert, Prelude.slice_get}
 use Rattle.flt_ast.specs.declared.qualifiers.Direction.TheVariants as direction
-use Rattle.flt_words.specs.declared.token.Join.TheVariants.{Or}
 use Rattle.flt_gen.specs.Formula.{choose, Split}
 use Rattle.flt_gen.specs.declared.cases.Bound.{Bound, TheVariants.Below, TheVariants.From, TheVariants.Exactly}
 use Rattle.flt_gen.specs.declared.cases.Case.{Case}
@@ -22,8 +21,7 @@ use Rattle.flt_gen.specs.declared.{elementary.FieldTest.FieldTest, relation.Rela
 use Rattle.flt_gen.specs.inside.{Emitted.equals, Code.accessor_offset}
 use Rattle.flt_gen.specs.Numbers.{accessor_tests, width_of}
 use Rattle.flt_words.specs.declared.token.Protocol.{Protocol}
-use Rattle.flt_gen.specs.inside.Cases.{shares, same_words, case_front, mac_place, ip6_place, case_tests, word_test, lowest, is_whole, keeps, all_keep, chain}
-use Rattle.flt_gen.specs.inside.Cases.{test_at}
+use Rattle.flt_gen.specs.inside.Cases.{same_words, case_front, mac_place, ip6_place, case_tests, word_test, lowest, is_whole, keeps, all_keep, chain, test_at}
 use Rattle.flt_gen.specs.inside.Cases.{from_test, middle, is_parted, same_word, decided, decision}
 use Rattle.std.proofs.lemmas.{List.length-map, List.map-append, List.take-append-drop, List.length-drop, List.length-append, Nat.and-not, Nat.and_comm}
 
@@ -61,57 +59,23 @@ fields_of link d (Case.Relation r) = (accessor_offset link r.protocol r.index, w
 
 masked_part : (k : ℕ) (fs : List (Offset × Width)) (prefix : Option ℕ) (word : ℕ) → Later (Fixed k, Word) fs → Masked (Fixed k, Word) fs
     (with prefix (λ bits. partial_mask (first_bits 32 (bits - 32 * word))))
-masked_part k fs None word later = tt
-masked_part k fs (Some bits) word later =
-    let some = pow_pos (32 - (bits - 32 * word)) in
-    if_case (Masked (Fixed k, Word) fs) (first_bits 32 (bits - 32 * word) == 2 ^ 32 - 1) None (Some (first_bits 32 (bits - 32 * word))) (λ e. tt)
-    (λ e. (omega (arith, some), refl, (k, refl), later))
+masked_part k fs prefix word later = grind (arith, pow_pos)
 
 pub shape_of : (link : Link) (d : Direction) (c : Case) → Shape (fields_of link d c) (case_tests link d c)
 shape_of link d (Mac a) = (refl, refl, refl, tt, (refl, refl, refl, tt, tt))
-shape_of link d (Ip6 n a) =
-    let at = network_offset link + ip6_place d in
-    let word : ℕ → Offset × Width = λ k. (Fixed (at + 4 * k), Word) in
-    let later : (k : ℕ) (p : List ℕ) → field p (at + 4 * k) Word ≡ None → field p (at + 4 * suc k) Word ≡ None = λ k p. later_none link p 0 at k in (
-      refl,
-      refl,
-      refl,
-      masked_part _ (word 1 ∷ word 2 ∷ word 3 ∷ []) n 0 (later 0),
-      (
-        refl,
-        refl,
-        refl,
-        masked_part _ (word 2 ∷ word 3 ∷ []) n 1 (later 1),
-        (
-          refl,
-          refl,
-          refl,
-          masked_part _ (word 3 ∷ []) n 2 (later 2),
-          (refl, refl, refl, masked_part _ [] n 3 tt, tt),
-        ),
-      ),
-    )
+shape_of link d (Ip6 n a) = grind (arith, later_none, masked_part)
 shape_of link d _ = (refl, refl, refl, tt, tt)
 
 pub some_fields : (link : Link) (d : Direction) (c : Case) → 0 < length (fields_of link d c)
-some_fields link d (Mac a) = omega arith
-some_fields link d _ = omega arith
+some_fields link d c = grind arith
 
 -- relations of one accessor
 relations_are : (d : Direction) (a b : Relation) → same_words d (Case.Relation a) (Case.Relation b) ≡ true → (a.protocol ≡ b.protocol) × (a.size
     ≡ b.size) × (a.index ≡ b.index)
-relations_are d a b e =
-    let one = and_parts (equals a.protocol b.protocol) _ e in
-    let same = one.1 in
-    (equal_are a.protocol b.protocol one.0, grind (arith, nat_tests), grind (arith, nat_tests))
+relations_are d a b e = grind (arith, nat_tests)
 
 pub some_front : (link : Link) (c : Case) → 0 < length (case_front link c)
-some_front link (Case.Relation r) = by r.protocol
-  where
-    by : (p : Protocol) → 0 < length (accessor_tests link p)
-    by Tcp = omega arith
-    by _ = omega arith
-some_front link _ = omega arith
+some_front link c = grind arith
 
 pub alike : (link : Link) (e d : Direction) (a b : Case) → same_words e a b ≡ true → (fields_of link d b ≡ fields_of link d a)
     × (case_front link b ≡ case_front link a)
@@ -148,11 +112,7 @@ miss t (Below n) (Some mask) v x small k l =
     let apart : bit_and x mask ≡ v → ⊥ = λ e. omega arith in
     grind (arith, nat_tests)
 miss t (From n) None v x small k l = grind (arith, nat_tests)
-miss t (From n) (Some mask) v x small k l =
-    let over : n ≤ v = grind (arith, nat_tests) in
-    let few : bit_and x mask ≤ x = (let c = and_comm x mask in let r = and_le_r mask x in omega arith) in
-    let apart : bit_and x mask ≡ v → ⊥ = λ e. omega arith in
-    grind (arith, nat_tests)
+miss t (From n) (Some mask) v x small k l = grind (arith, nat_tests, and_comm, and_le_r)
 miss t (Exactly n) mask v x small k l = absurd l
 
 -- the first test, if there is one, and the tests after it
@@ -244,9 +204,7 @@ module _ (link : Link) (p : List ℕ) (n : ℕ) where
 
   word_read : (f : Offset × Width) (t : FieldTest) → t.offset ≡ f.0 → t.width ≡ f.1 → t.comparison ≡ Equal → elementary_reads (Field t) p ≡ by_field f
       t.mask t.value
-  word_read f t a b c =
-      ap₂ (λ o w. reading_of (with (field_at o w p) (λ x. Some (compares t.comparison (under_mask t.mask x) t.value)))) a b
-      ∙ ap (λ k. reading_of (with (field_at f.0 f.1 p) (λ x. Some (compares k (under_mask t.mask x) t.value)))) c
+  word_read f t a b c = grind arith
 
   test_read : (f : Offset × Width) (fs : List (Offset × Width)) (t : FieldTest) (ts : List Elementary) → Shape (f ∷ fs) (Field t ∷ ts)
       → told (Field t ∷ ts) ≡ both (by_field f t.mask t.value) (told ts)
@@ -254,9 +212,7 @@ module _ (link : Link) (p : List ℕ) (n : ℕ) where
 
   small_word : (f : Offset × Width) (fs : List (Offset × Width)) (mask : Option ℕ) (x : ℕ) → Masked f fs mask → field_at f.0 f.1 p ≡ Some x → (m : ℕ)
       → mask ≡ Some m → (m < 2 ^ 32) × (x < 2 ^ 32)
-  small_word f fs None x h e m is = cc
-  small_word f fs (Some k) x h e m is =
-      (each_is (Some k) (λ z. z < 2 ^ 32) m h.0 is, word_small p (h.2).0 x (ap₂ (λ o w. field_at o w p) (sym (h.2).1) (sym h.1) ∙ e))
+  small_word f fs mask x h e m is = grind (arith, mod-lt)
 
   missed : (f : Offset × Width) (mask : Option ℕ) (v x : ℕ) (r : MatchResult) → field_at f.0 f.1 p ≡ Some x → (under_mask mask x == v) ≡ false
       → both (by_field f mask v) r ≡ No
@@ -276,8 +232,7 @@ module _ (link : Link) (p : List ℕ) (n : ℕ) where
   none_there : (f : Offset × Width) (fs : List (Offset × Width)) (rs : List (List Elementary)) → Shapes (f ∷ fs) rs → 0 < length rs
       → field_at f.0 f.1 p ≡ None → read_all rs ≡ Rejected
   none_there f fs [] h some e = absurd (omega arith)
-  none_there f fs ((Field t ∷ ts) ∷ rs) h some e =
-      ap (λ r. either r (read_all rs)) (test_read f fs t ts h.0 ∙ ap (λ o. both (reading_of (with o (λ y. Some (under_mask t.mask y == t.value)))) (told ts)) e)
+  none_there f fs ((Field t ∷ ts) ∷ rs) h some e = grind (arith, test_read)
   none_there f fs (_ ∷ rs) h some e = absurd h.0
 
   -- by a test of the first word that parts those that keep two bounds
@@ -299,8 +254,7 @@ module _ (link : Link) (p : List ℕ) (n : ℕ) where
 
   -- all have the same first word
   one_word : (f : Offset × Width) (k : ℕ) (mask : Option ℕ) (v : ℕ) → (is_whole mask && v == k) ≡ true → by_field f mask v ≡ by_field f None k
-  one_word f k None v e = let same : v ≡ k = grind (arith, nat_tests) in ap (by_field f None) same
-  one_word f k (Some m) v e = cc
+  one_word f k mask v e = grind (arith, nat_tests)
 
   same_read : (f : Offset × Width) (fs : List (Offset × Width)) (k : ℕ) (rs : List (List Elementary)) → Shapes (f ∷ fs) rs → all_rows (Exactly k) rs ≡
       true → 0 < length rs → read_all rs ≡ both (by_field f None k) (read_all (map rest rs))
@@ -313,14 +267,12 @@ module _ (link : Link) (p : List ℕ) (n : ℕ) where
       others : (qs : List (List Elementary)) → (0 < length qs → read_all qs ≡ both (by_field f None k) (read_all (map rest qs)))
           → either (both (by_field f None k) (told ts)) (read_all qs) ≡ both (by_field f None k) (either (told ts) (read_all (map rest qs)))
       others [] g = or_no _ ∙ ap (both (by_field f None k)) (sym (or_no (told ts)))
-      others (q ∷ qs) g = ap (either (both (by_field f None k) (told ts))) (g (omega arith))
-          ∙ sym (both_either (by_field f None k) (told ts) (read_all (map rest (q ∷ qs))))
+      others (q ∷ qs) g = grind (arith, both_either)
   same_read f fs k (_ ∷ rs) h a some = absurd h.0
 
   first_told : (f : Offset × Width) (fs : List (Offset × Width)) (t : FieldTest) (ts : List Elementary) (rs : List (List Elementary))
       → Shape (f ∷ fs) (Field t ∷ ts) → all_rows (Exactly t.value) ((Field t ∷ ts) ∷ rs) ≡ true → elementary_reads (Field t) p ≡ by_field f None t.value
-  first_told f fs t ts rs h a = word_read f t h.0 h.1 h.2 ∙ one_word f t.value t.mask t.value
-      (and_parts (is_whole t.mask && t.value == t.value) (all_rows (Exactly t.value) rs) a).0
+  first_told f fs t ts rs h a = grind (arith, word_read, one_word)
 
   all_over : (rs : List (List Elementary)) → Shapes [] rs → 0 < length rs → read_all rs ≡ Yes
   all_over [] h some = absurd (omega arith)
@@ -328,11 +280,6 @@ module _ (link : Link) (p : List ℕ) (n : ℕ) where
   all_over ((t ∷ ts) ∷ rs) h some = absurd h.0
 
   -- ---- tests that decide nothing are left out
-
-  idle_later : (f g : Offset × Width) (gs : List (Offset × Width)) (mask : Option ℕ) (v : ℕ) → (is_empty mask && v == 0) ≡ true
-      → Masked f (g ∷ gs) mask → field_at f.0 f.1 p ≡ None → field_at g.0 g.1 p ≡ None
-  idle_later f g gs None v e h = cc
-  idle_later f g gs (Some m) v e h = h.3 p
 
   idle_yes : (f : Offset × Width) (mask : Option ℕ) (v x : ℕ) → (is_empty mask && v == 0) ≡ true → field_at f.0 f.1 p ≡ Some x → by_field f mask v ≡ Yes
   idle_yes f mask v x e is = ap (λ o. reading_of (with o (λ y. Some (under_mask mask y == v)))) is ∙ ap (λ b. reading_of (Some b)) (idle_holds mask v x e)
@@ -343,11 +290,7 @@ module _ (link : Link) (p : List ℕ) (n : ℕ) where
   idle_read f g gs t u us h e = test_read f (g ∷ gs) t (Field u ∷ us) h ∙ by (field_at f.0 f.1 p) refl
     where
       by : (o : Option ℕ) → field_at f.0 f.1 p ≡ o → both (by_field f t.mask t.value) (told (Field u ∷ us)) ≡ told (Field u ∷ us)
-      by None is =
-          ap (λ o. both (reading_of (with o (λ y. Some (under_mask t.mask y == t.value)))) (told (Field u ∷ us))) is
-          ∙ sym (test_read g gs u us h.4 ∙ ap (λ o. both (reading_of (with o (λ y. Some (under_mask u.mask y == u.value)))) (told us))
-          (idle_later f g gs t.mask t.value e h.3 is))
-      by (Some x) is = ap (λ r. both r (told (Field u ∷ us))) (idle_yes f t.mask t.value x e is)
+      by o is = grind (arith, test_read, idle_yes)
 
   last_read : (f : Offset × Width) (t : FieldTest) → Shape (f ∷ []) (Field t ∷ []) → elementary_reads (last_test (Field t)) p ≡ elementary_reads (Field t) p
   last_read f t h =
@@ -356,8 +299,7 @@ module _ (link : Link) (p : List ℕ) (n : ℕ) where
     where
       by : is_idle (Field t) ≡ true → (o : Option ℕ) → field_at t.offset t.width p ≡ o → elementary_reads (capture_test (Field t)) p ≡
           elementary_reads (Field t) p
-      by e None is = ap (λ o. reading_of (with o (λ y. Some (nat_le 0 y)))) is
-          ∙ sym (ap (λ o. reading_of (with o (λ y. Some (compares t.comparison (under_mask t.mask y) t.value)))) is)
+      by e None is = grind arith
       by e (Some x) is =
           let low : nat_le 0 x ≡ true = grind (arith, nat_tests) in
           ap (λ o. reading_of (with o (λ y. Some (nat_le 0 y)))) is ∙ ap (λ b. reading_of (Some b)) low
@@ -377,10 +319,7 @@ module _ (link : Link) (p : List ℕ) (n : ℕ) where
 
   -- a value, by the tests that decide
   sides_same : (d : Direction) (s t u v : List Elementary) → told s ≡ told u → told t ≡ told v → reads link (sides d s t) p n ≡ reads link (sides d u v) p n
-  sides_same (direction.One Source) s t u v h k = h
-  sides_same (direction.One Destination) s t u v h k = k
-  sides_same (direction.Both Or) s t u v h k = ap₂ either h k
-  sides_same (direction.Both And) s t u v h k = ap₂ both h k
+  sides_same d s t u v h k = grind arith
 
   pub value_same : (k : ValueType) (q : Option Protocol) (d : Direction) (v : Value) → reads link (value_needed link k q d v) p n ≡ reads link
       (value_formula link k q d v) p n
@@ -393,35 +332,18 @@ module _ (link : Link) (p : List ℕ) (n : ℕ) where
 
   -- ---- cases in another order
 
-  swapped : (a b z : MatchResult) → (a ≡ Yes → b ≡ Rejected → ⊥) → (b ≡ Yes → a ≡ Rejected → ⊥) → either a (either b z) ≡ either b (either a z)
-  swapped Yes Rejected z h k = absurd (h refl refl)
-  swapped Rejected Yes z h k = absurd (k refl refl)
-  swapped _ _ z h k = refl
-
   -- of tests of the same words none is rejected where one is yes
   never_both : (fs : List (Offset × Width)) (r s : List Elementary) → Shape fs r → Shape fs s → told r ≡ Yes → told s ≡ Rejected → ⊥
   never_both [] [] [] h k y j = cc
   never_both [] [] _ h k y j = absurd k
-  never_both (f ∷ fs) (Field t ∷ ts) (Field u ∷ us) h k y j = by (field_at f.0 f.1 p) (never_both fs ts us h.4 k.4) (sym (test_read f fs t ts h) ∙ y)
-      (sym (test_read f fs u us k) ∙ j)
-    where
-      by : (o : Option ℕ) → (told ts ≡ Yes → told us ≡ Rejected → ⊥) → both (reading_of (with o (λ x. Some (under_mask t.mask x == t.value))))
-          (told ts) ≡ Yes → both (reading_of (with o (λ x. Some (under_mask u.mask x == u.value)))) (told us) ≡ Rejected → ⊥
-      by None later y j = cc
-      by (Some x) later y j = hit (under_mask t.mask x == t.value) (under_mask u.mask x == u.value) y j
-        where
-          hit : (b c : Bool) → both (reading_of (Some b)) (told ts) ≡ Yes → both (reading_of (Some c)) (told us) ≡ Rejected → ⊥
-          hit true true y j = later y j
-          hit _ _ y j = cc
+  never_both (f ∷ fs) (Field t ∷ ts) (Field u ∷ us) h k y j = grind (arith, never_both fs ts us h.4 k.4, test_read)
   never_both (f ∷ fs) (Field t ∷ ts) _ h k y j = absurd k
   never_both _ _ _ h k y j = absurd h
 
   pub read_inserted : (fs : List (Offset × Width)) (r : List Elementary) (rs ss : List (List Elementary)) → Shape fs r → Shapes fs rs
       → read_all (rs ++ r ∷ ss) ≡ either (told r) (read_all (rs ++ ss))
   read_inserted fs r [] ss h k = refl
-  read_inserted fs r (q ∷ rs) ss h k =
-      ap (either (told q)) (read_inserted fs r rs ss h k.1)
-      ∙ swapped (told q) (told r) (read_all (rs ++ ss)) (never_both fs q r k.0 h) (never_both fs r q h k.0)
+  read_inserted fs r (q ∷ rs) ss h k = grind (arith, read_inserted fs r rs ss h k.1, never_both)
 
 -- ---- decisions
 
@@ -438,17 +360,8 @@ module _ (link : Link) where
   chain_good : (few : ℕ) (by : Case → List Elementary) (w : ℕ) (fs : List (Offset × Width)) (cs : List Case) → Shapes fs (rows by w cs)
       → Good few fs (rows by w cs) (chain by w cs)
   chain_good few by w fs [] h = (λ p n. refl, λ some l. absurd (omega arith))
-  chain_good few by w fs (c ∷ []) h = (
-    λ p n. needed_read link p n fs (drop w (by c)) h.0 ∙ sym (or_no _),
-    λ some l. bare_within _ (omega arith)
-        (row_bare fs (drop w (by c)) h.0 some),
-  )
-  chain_good few by w fs (c ∷ d ∷ cs) h =
-      let more = chain_good few by w fs (d ∷ cs) h.1 in (
-        λ p n. ap₂ either (needed_read link p n fs (drop w (by c)) h.0) (more.0 p n),
-        λ some l. bare_within _ (omega arith)
-            (bare_either (row_bare fs (drop w (by c)) h.0 some) (more.1 some (omega arith))),
-      )
+  chain_good few by w fs (c ∷ []) h = grind (arith, needed_read, or_no, bare_within, row_bare)
+  chain_good few by w fs (c ∷ d ∷ cs) h = grind (arith, chain_good few by w fs (d ∷ cs) h.1, needed_read, bare_within, bare_either, row_bare)
 
   same_good : (few : ℕ) (next : Formula) (fs : List (Offset × Width)) (r : List Elementary) (rs : List (List Elementary)) → Shapes fs (r ∷ rs)
       → all_rows (Exactly (lowest (first r))) (r ∷ rs) ≡ true → ((gs : List (Offset × Width)) → Shapes gs (map rest (r ∷ rs))
@@ -514,8 +427,7 @@ module _ (link : Link) where
 
       parts : (ds : List Case) (at : ℕ) → Shapes fs (rows by w ds) → few < length ds → is_parted by w ds at ≡ true → Good few fs (rows by w ds)
           (Split (from_test (test_at by w ds 0) (lowest (test_at by w ds at))) (next w (drop at ds)) (next w (take at ds)))
-      parts [] at h many e = absurd (let a = and_parts (nat_lt 0 at) _ e in let b = and_parts (nat_lt at 0) _ a.1 in let t = b.0 in let no : at < 0 =
-          grind (arith, nat_tests) in omega arith)
+      parts [] at h many e = grind (arith, nat_tests)
       parts (d ∷ ds) zero h many e = cc
       parts (d ∷ ds) (suc at) h many e =
           let k = lowest (test_at by w (d ∷ ds) (suc at)) in
@@ -555,39 +467,11 @@ pub shapes_of : (link : Link) (e d : Direction) (k : Case) (cs : List Case) → 
 shapes_of link e d k [] h = tt
 shapes_of link e d k (c ∷ cs) h = (subst (λ fs. Shape fs (case_tests link d c)) (alike link e d k c h.0).0 (shape_of link d c), shapes_of link e d k cs h.1)
 
-shared : (e : Direction) (s t u : Bool) → (s ≡ true → t ≡ true → u ≡ true) → shares e s ≡ true → shares e t ≡ true → shares e u ≡ true
-shared (direction.Both Or) s t u h f g = h f g
-shared _ s t u h f g = refl
-
-same_number : (x y z : ℕ) → (x == y) ≡ true → (y == z) ≡ true → (x == z) ≡ true
-same_number x y z e f = grind (arith, nat_tests)
-
 pub alike_alike : (e : Direction) (a b c : Case) → same_words e a b ≡ true → same_words e b c ≡ true → same_words e a c ≡ true
-alike_alike e (Case.Relation a) (Case.Relation b) (Case.Relation c) f g =
-    let h = relations_are e a b f in
-    ap (λ p. equals p c.protocol && (a.size == c.size && a.index == c.index)) h.0
-    ∙ ap₂ (λ s i. equals b.protocol c.protocol && (s == c.size && i == c.index)) h.1 h.2 ∙ g
-alike_alike e (Mac a) (Mac b) (Mac c) f g = shared e _ _ _ (same_number (a / 2 ^ 16) (b / 2 ^ 16) (c / 2 ^ 16)) f g
-alike_alike e (Ip6 m a) (Ip6 n b) (Ip6 l c) f g = shared e _ _ _ by f g
-  where
-    by : ((is_none m && is_none n) && a / 2 ^ 32 == b / 2 ^ 32) ≡ true → ((is_none n && is_none l) && b / 2 ^ 32 == c / 2 ^ 32) ≡ true
-        → ((is_none m && is_none l) && a / 2 ^ 32 == c / 2 ^ 32) ≡ true
-    by f g =
-        let h = and_parts (is_none m && is_none n) _ f in
-        let k = and_parts (is_none n && is_none l) _ g in
-        ap₂ (λ x y. x && y)
-        (ap₂ (λ x y. x && y) (and_parts (is_none m) (is_none n) h.0).0 (and_parts (is_none n) (is_none l) k.0).1)
-        (same_number (a / 2 ^ 32) (b / 2 ^ 32) (c / 2 ^ 32) h.1 k.1)
-alike_alike e (IpProto a) (IpProto b) (IpProto c) f g = refl
-alike_alike e (Ip6Proto a) (Ip6Proto b) (Ip6Proto c) f g = refl
-alike_alike e _ _ _ f g = cc
+alike_alike e a b c f g = grind (arith, relations_are, nat_tests)
 
 pub self_relation : (r : Relation) → (equals r.protocol r.protocol && (r.size == r.size && r.index == r.index)) ≡ true
-self_relation r = ap₂ (λ b c. b && c) (self_equal r.protocol) (let t : (r.size == r.size && r.index == r.index) ≡ true = grind (arith, nat_tests) in t)
-  where
-    self_equal : (p : Protocol) → equals p p ≡ true
-    self_equal Tcp = refl
-    self_equal _ = refl
+self_relation r = grind (arith, nat_tests)
 
 pub likes_put : (e : Direction) (k c : Case) (i : ℕ) (cs : List Case) → same_words e k c ≡ true → Likes e k cs → Likes e k (insert cs i c)
 likes_put e k c zero cs f h = (f, h)

@@ -1,34 +1,27 @@
 -- A decision tree, unfolded once, and the tests of a case from a word on.
-use Rattle.std.proofs.Common.{◌≡◌, ℕ, zero, suc, ◌+◌, ◌-◌, ◌<◌, List, [], ◌∷◌, drop, take, get_or, length, Bool, true, false, Option, Some, refl, ap, ap₂}
-use Rattle.std.proofs.Common.{◌∙◌, sym, subst, arith, nat_le, ◌≤◌, ◌⊎◌, inl, inr}
+use Rattle.std.proofs.Common.{◌≡◌, ℕ, ◌+◌, ◌-◌, ◌<◌, List, [], ◌∷◌, drop, take, get_or, length, Bool, true, false, Option, Some, refl, ap, ◌∙◌, sym, arith, ◌≤◌}
+use Rattle.std.proofs.Common.{◌⊎◌}
 use Rattle.std.proofs.lemmas.Bool.Decides.{nat_tests}
 use Rattle.std.specs.Prelude.{is_none, if◌then◌else◌, Result}
 use Rattle.std.specs.declared.alloc.AllocError.{AllocError}
 use Rattle.flt_gen.specs.Formula.{Formula, Single, Both, Split, all_of, guarded_formula}
 use Rattle.flt_gen.specs.{declared.cases.Bound.TheVariants.Exactly, declared.cases.Case.Case}
-use Rattle.flt_gen.specs.declared.elementary.Elementary.{Elementary}
-use Rattle.flt_gen.specs.inside.Cases.{chain, decided, decision, all_keep, is_parted, middle}
-use Rattle.flt_gen.specs.inside.Cases.{test_at, lowest, from_test, same_word}
+use Rattle.flt_gen.specs.declared.elementary.{Elementary.Elementary, FieldPlace.FieldPlace}
+use Rattle.flt_gen.specs.inside.Cases.{chain, decided, decision, all_keep, is_parted, middle, test_at, lowest, from_test, same_word}
 use Rattle.flt_gen.specs.inside.Emitted.{needed_tests}
 use Rattle.flt_gen.specs.inside.{Code.Block, Code.emit_all, Code.emit_elementary, Code.emit_after, Code.emit_formula, Emits.Emits}
-use Rattle.flt_gen.proofs.Ascending.{if_case}
 use Rattle.flt_bpf.specs.declared.insn.Insn.{Insn}
 use Rattle.cap_octet.specs.declared.link.Link.{Link}
 
 decision_put : (few k : ℕ) (tests : Case → List Elementary) (word : ℕ) (cs : List Case) → 0 < k → decision few k tests word cs ≡ decided few
     (decision few (k - 1) tests) tests word cs
 unfolding decision
-decision_put few zero tests word cs l = absurd (omega arith)
-decision_put few (suc k) tests word cs l = ap (λ j. decided few (decision few j tests) tests word cs) (let e : k ≡ suc k - 1 = omega arith in e)
+decision_put few k tests word cs l = grind arith
 
 pub decision_chain : (few k : ℕ) (tests : Case → List Elementary) (word : ℕ) (cs : List Case) → (k ≡ 0) ⊎ (length cs ≤ few)
     → decision few k tests word cs ≡ chain tests word cs
 unfolding decision
-decision_chain few zero tests word cs h = refl
-decision_chain few (suc k) tests word cs (inl e) = absurd (omega arith)
-decision_chain few (suc k) tests word cs (inr l) =
-    if_case (λ (f : Formula). f ≡ chain tests word cs) (nat_le (length cs) few) _ _ (λ e. refl)
-    (λ e. absurd (let no : few < length cs = grind (arith, nat_tests) in omega arith))
+decision_chain few k tests word cs h = grind (arith, nat_tests)
 
 -- the code of tests, of which all hold
 pub all_emitted : (link : Link) (ts : List Elementary) (hit miss : ℕ) (c : List Insn) → emit_formula link (all_of ts) hit miss c ≡ emit_all ts hit miss c
@@ -43,35 +36,23 @@ guarded_emitted link [] f hit miss c = refl
 guarded_emitted link (t ∷ ts) f hit miss c = ap (λ (e : Block). emit_elementary t e.entry miss e.code) (guarded_emitted link ts f hit miss c)
 
 -- a test that stands alone, and one case after the other, are emitted alike after each test
-all_after : (held : Elementary) (link : Link) (ts : List Elementary) (hit miss : ℕ) (c : List Insn) → emit_after held link (all_of ts) hit miss c
+all_after : (held : Option FieldPlace) (link : Link) (ts : List Elementary) (hit miss : ℕ) (c : List Insn) → emit_after held link (all_of ts) hit miss c
     ≡ emit_formula link (all_of ts) hit miss c
 all_after held link [] hit miss c = refl
 all_after held link (t ∷ []) hit miss c = refl
 all_after held link (t ∷ u ∷ ts) hit miss c = refl
 
-pub chain_after : (held : Elementary) (link : Link) (tests : Case → List Elementary) (word : ℕ) (cs : List Case) (hit miss : ℕ) (c : List Insn)
+pub chain_after : (held : Option FieldPlace) (link : Link) (tests : Case → List Elementary) (word : ℕ) (cs : List Case) (hit miss : ℕ) (c : List Insn)
     → emit_after held link (chain tests word cs) hit miss c ≡ emit_formula link (chain tests word cs) hit miss c
 chain_after held link tests word [] hit miss c = refl
 chain_after held link tests word (d ∷ []) hit miss c = all_after held link (needed_tests (drop word (tests d))) hit miss c
 chain_after held link tests word (d ∷ x ∷ xs) hit miss c = refl
 
--- a case in front of others, of all that are searched or of some
-chain_emitted : (link : Link) (tests : Case → List Elementary) (word : ℕ) (cs : List Case) (other : Case) (hit miss : ℕ) (c : List Insn)
-    → 1 ≤ length cs → let e = emit_formula link (chain tests word (drop 1 cs)) hit miss c in emit_formula link (chain tests word cs) hit miss c ≡
-    emit_all (needed_tests (drop word (tests (get_or cs 0 other)))) hit e.entry e.code
-chain_emitted link tests word [] other hit miss c l = absurd (omega arith)
-chain_emitted link tests word (d ∷ []) other hit miss c l = all_emitted link (needed_tests (drop word (tests d))) hit miss c
-chain_emitted link tests word (d ∷ x ∷ xs) other hit miss c l = let e = emit_formula link (chain tests word (x ∷ xs)) hit miss c in
-    all_emitted link (needed_tests (drop word (tests d))) hit e.entry e.code
-
 pub turn_emitted : (r : Result ℕ AllocError) (new : List Insn) (link : Link) (tests : Case → List Elementary) (word : ℕ) (cs : List Case)
     (other : Case) (hit miss : ℕ) (c : List Insn) (e : Block) → 1 ≤ length cs → emit_formula link (chain tests word (drop 1 cs)) hit miss c ≡ e
     → Emits r (emit_all (needed_tests (drop word (tests (get_or cs 0 other)))) hit e.entry e.code) new
     → Emits r (emit_formula link (chain tests word cs) hit miss c) new
-turn_emitted r new link tests word cs other hit miss c e l is done =
-    subst (λ (f : Block). Emits r f new)
-    (sym (chain_emitted link tests word cs other hit miss c l ∙ ap (λ (f : Block). emit_all (needed_tests (drop word (tests (get_or cs 0 other)))) hit
-    f.entry f.code) is)) done
+turn_emitted r new link tests word cs other hit miss c e l is done = grind (arith, all_emitted)
 
 -- the parts of a decision
 module _ (few k : ℕ) (by : Case → List Elementary) (w : ℕ) (cs : List Case) (some : 0 < k) (many : few < length cs) where
@@ -89,14 +70,11 @@ module _ (few k : ℕ) (by : Case → List Elementary) (w : ℕ) (cs : List Case
       else chain by w cs)
 
   put : decision few k by w cs ≡ parts (all_keep by w (Exactly (lowest t)) cs) (is_parted by w cs (middle by w cs))
-  put = decision_put few k by w cs some ∙ (let over : nat_le (length cs) few ≡ false = grind (arith, nat_tests) in
-      ap (λ b. if b then chain by w cs else parts (all_keep by w (Exactly (lowest t)) cs) (is_parted by w cs (middle by w cs))) over)
+  put = grind (arith, decision_put, nat_tests)
 
   pub decision_same : (o : Option Elementary) → o ≡ t → true ≡ all_keep by w (Exactly (lowest o)) cs → same_word o (test_at by (w + 1) cs 0)
       (next (w + 1) cs) ≡ decision few k by w cs
-  decision_same o e a =
-      ap (λ x. same_word x (test_at by (w + 1) cs 0) (next (w + 1) cs)) e
-      ∙ sym (put ∙ ap (λ b. parts b (is_parted by w cs (middle by w cs))) (sym (a ∙ ap (λ x. all_keep by w (Exactly (lowest x)) cs) e)))
+  decision_same o e a = grind (arith, put)
 
   pub decision_told : (o : Elementary) (b : Bool) → Some o ≡ t → is_none (test_at by (w + 1) cs 0) ≡ b
       → true ≡ all_keep by w (Exactly (lowest (Some o))) cs → (if b then Single o else Both (Single o) (next (w + 1) cs)) ≡ decision few k by w cs
@@ -105,7 +83,4 @@ module _ (few k : ℕ) (by : Case → List Elementary) (w : ℕ) (cs : List Case
   pub decision_halves : (o : Option Elementary) (at : ℕ) (b : Bool) → o ≡ t → at ≡ middle by w cs → false ≡ all_keep by w (Exactly (lowest o)) cs
       → b ≡ is_parted by w cs at → (if b then Split (from_test o (lowest (test_at by w cs at))) (next w (drop at cs)) (next w (take at cs)) else chain
       by w cs) ≡ decision few k by w cs
-  decision_halves o at b e f a g =
-      ap₂ (λ x i. if b then Split (from_test x (lowest (test_at by w cs i))) (next w (drop i cs)) (next w (take i cs)) else chain by w cs) e f
-      ∙ ap (parts false) (g ∙ ap (is_parted by w cs) f)
-      ∙ sym (put ∙ ap (λ c. parts c (is_parted by w cs (middle by w cs))) (sym (a ∙ ap (λ x. all_keep by w (Exactly (lowest x)) cs) e)))
+  decision_halves o at b e f a g = grind (arith, put)

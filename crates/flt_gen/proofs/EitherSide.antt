@@ -1,25 +1,23 @@
 -- Addresses on either side, of which all words but the last are the same: a tree for each side reads
 -- as one after the other, and has no more tests.
 use Rattle.flt_gen.proofs.Ascending.{if_case}
-use Rattle.flt_gen.proofs.Common.{◌≡◌, ℕ, suc, ◌+◌, ◌-◌, ◌*◌, ◌/◌, ◌%◌, ◌^◌, ◌<◌, ◌≤◌, List, [], ◌∷◌, length, max, min, Bool, true, false, Option, Some, None}
-use Rattle.flt_gen.proofs.Common.{refl, sym, ap, ap₂, ◌∙◌, subst, arith, ◌==◌, ◌&&◌, nat_le, nat_tests, and_parts, Direction, Link, Source, Destination}
-use Rattle.flt_gen.proofs.Common.{And, Or, Word, Width, Offset, Elementary, Field, MatchResult, No, reading_of, with}
-use Rattle.flt_gen.proofs.Common.{network_offset, Formula, Outcome, both, either, all_of, reads, needed_tests, drop, if◌then◌else◌}
-use Rattle.flt_gen.proofs.Common.{zero, is_at, compares, under_mask, field_at, elementary_reads, slice_get}
+use Rattle.flt_gen.proofs.Common.{◌≡◌, ℕ, suc, ◌+◌, ◌-◌, ◌*◌, ◌/◌, ◌%◌, ◌^◌, ◌<◌, ◌≤◌, List, [], ◌∷◌, length, max, Bool, true, false, Option, Some, None, refl}
+use Rattle.flt_gen.proofs.Common.{sym, ap, ap₂, ◌∙◌, subst, arith, ◌==◌, ◌&&◌, nat_le, nat_tests, and_parts, Direction, Link, Source, Destination, And, Or}
+use Rattle.flt_gen.proofs.Common.{Word, Width, Offset, Elementary, Field, MatchResult, No, reading_of, with, Formula, Outcome, both, either, all_of, reads}
+use Rattle.flt_gen.proofs.Common.{needed_tests, drop, zero, is_at, compares, under_mask, field_at, elementary_reads, slice_get}
 use Rattle.flt_gen.proofs.Counted.{Bare, bare_within, bare_all, bare_one, bare_some, bare_both, bare_either}
-use Rattle.flt_gen.proofs.Deciding.{Shapes, fields_of, shape_of, some_fields, rows, rows_rest, shapes_rest, sizes, sizes_rest, read_all}
-use Rattle.flt_gen.proofs.Deciding.{needed_read, read_put}
+use Rattle.flt_gen.proofs.Deciding.{Shapes, fields_of, shape_of, some_fields, rows, rows_rest, shapes_rest, sizes, sizes_rest, read_all, needed_read, read_put}
 use Rattle.flt_gen.proofs.Deciding.{decision_good, Likes, shapes_of, sizes_put}
-use Rattle.flt_gen.proofs.Firsts.{Known, known_either, by_first, first_alone, first_more}
+use Rattle.flt_gen.proofs.Firsts.{Known, known_either, by_first, first_more}
 use Rattle.flt_gen.proofs.{Exclusive.or_no, Needed.fewer}
-use Rattle.std.specs.{List.insert, Prelude.is_none}
+use Rattle.std.specs.{List.insert}
 use Rattle.std.proofs.{Math.Nat.div-div-eq-div-mul, lemmas.List.length-map}
 use Rattle.flt_words.specs.declared.token.Side.{Side}
 use Rattle.flt_ast.specs.declared.qualifiers.Direction.TheVariants as direction
 use Rattle.flt_gen.specs.declared.{cases.Bound.TheVariants.Exactly, cases.Case.Case, cases.Case.TheVariants.Mac, cases.Case.TheVariants.Ip6}
 use Rattle.flt_gen.specs.inside.Group.{fewest_either}
-use Rattle.flt_gen.specs.inside.Cases.{same_words, case_tests, ip6_place, mac_place, word_test, test_at, lowest, keeps, is_whole, all_keep, same_word}
-use Rattle.flt_gen.specs.inside.Cases.{decision, few_of, MOST_DECISIONS, is_address, are_either, on_side, all_on_side, either_formula}
+use Rattle.flt_gen.specs.inside.Cases.{same_words, case_tests, mac_place, word_test, test_at, lowest, keeps, is_whole, all_keep, same_word, decision, few_of}
+use Rattle.flt_gen.specs.inside.Cases.{MOST_DECISIONS, is_address, are_either, on_side, all_on_side, either_formula, list_formula}
 
 -- ---- where one is no, none is rejected
 
@@ -60,23 +58,10 @@ side link s c = case_tests link (direction.One s) c
 macs_almost : (link : Link) (s : Side) (a b : ℕ) → a / 2 ^ 16 ≡ b / 2 ^ 16 → Almost (side link s (Mac a)) (side link s (Mac b))
 macs_almost link s a b e = (ap (λ v. is_at (mac_place (direction.One s)) Word (v % 2 ^ 32)) e, (refl, refl))
 
-ip6_almost : (link : Link) (s : Side) (a b : ℕ) → a / 2 ^ 32 ≡ b / 2 ^ 32 → Almost (side link s (Ip6 None a)) (side link s (Ip6 None b))
-ip6_almost link s a b e =
-    let at = network_offset link + ip6_place (direction.One s) in
-    let w : ℕ → ℕ → Elementary = λ i v. is_at (at + 4 * i) Word (v % 2 ^ 32) in
-    (ap (w 0) (upper_word a b (2 ^ 64) e), (ap (w 1) (upper_word a b (2 ^ 32) e), (ap (w 2) e, (refl, refl))))
-
 -- so it is with addresses that are looked for together, both ways
 almost : (link : Link) (s : Side) (a b : Case) → are_either either_side a ≡ true → same_words either_side a b ≡ true → Almost (side link s a) (side link s b)
     × Almost (side link s b) (side link s a) × Whole (side link s a)
-almost link s (Mac a) (Mac b) i e =
-    let h : a / 2 ^ 16 ≡ b / 2 ^ 16 = (let t : (a / 2 ^ 16 == b / 2 ^ 16) ≡ true = e in grind (arith, nat_tests)) in
-    (macs_almost link s a b h, macs_almost link s b a (sym h), (refl, (refl, tt)))
-almost link s (Ip6 None a) (Ip6 None b) i e =
-    let h : a / 2 ^ 32 ≡ b / 2 ^ 32 = (let t : (a / 2 ^ 32 == b / 2 ^ 32) ≡ true = e in grind (arith, nat_tests)) in
-    (ip6_almost link s a b h, ip6_almost link s b a (sym h), (refl, (refl, (refl, (refl, tt)))))
-almost link s (Ip6 _ a) (Ip6 _ b) i e = cc
-almost link s _ _ i e = cc
+almost link s a b i e = grind (arith, nat_tests, macs_almost, upper_word)
 
 module _ (link : Link) (s : Side) (p : List ℕ) (n : ℕ) where
   abbrev told : List Elementary → MatchResult
@@ -89,8 +74,7 @@ module _ (link : Link) (s : Side) (p : List ℕ) (n : ℕ) where
       last (Field t) (Field u) h k = subst (λ o. Known (reading_of (with o (λ x. Some (compares u.comparison (under_mask u.mask x) u.value)))))
           (ap₂ (λ o w. field_at o w p) h.0 h.1) (seen_by (field_at t.offset t.width p) _ _ k)
       last _ _ h k = absurd h
-  seen (t ∷ x ∷ xs) (u ∷ y ∷ ys) h k =
-      subst (λ z. Known (both (elementary_reads z p) (told (y ∷ ys)))) h.0 (seen_after (elementary_reads t p) _ _ (seen (x ∷ xs) (y ∷ ys) h.1) k)
+  seen (t ∷ x ∷ xs) (u ∷ y ∷ ys) h k = grind (arith, seen_after, seen (x ∷ xs) (y ∷ ys) h.1)
   seen _ _ h k = absurd h
 
   all_seen : (k : Case) (cs : List Case) → are_either either_side k ≡ true → Likes either_side k cs → Known (told (side link s k))
@@ -127,13 +111,11 @@ none_size b link d = grind arith
 
 pub size_put : (b : Bool) (link : Link) (d : Direction) (c : Case) (i : ℕ) (cs : List Case) → list_size b link d (insert cs i c)
     ≡ one_size b link d c + list_size b link d cs
-size_put true link d c i cs = omega (arith, sizes_put (side link Source) c i cs, sizes_put (side link Destination) c i cs)
-size_put false link d c i cs = sizes_put (case_tests link d) c i cs
+size_put b link d c i cs = grind (arith, sizes_put)
 
 pub list_alone : (b : Bool) (link : Link) (d : Direction) (c : Case) (p : List ℕ) (n : ℕ) → list_read b link d c (c ∷ []) p n ≡ reads link
     (one_formula b link d c) p n
-list_alone true link d c p n = first_alone _ _
-list_alone false link d c p n = or_no _
+list_alone b link d c p n = grind (arith, or_no)
 
 pub list_more : (b : Bool) (link : Link) (d : Direction) (kind first c : Case) (i : ℕ) (cs : List Case) (p : List ℕ) (n : ℕ)
     → are_either d kind ≡ b → same_words d kind c ≡ true → same_words d kind first ≡ true → Likes d kind cs → list_read b link d c (insert cs i c) p n
@@ -181,10 +163,7 @@ common_bare by few j w v m k (c ∷ cs) h l many more =
     (λ e. if_case (λ (f : Formula). Bare f (1 + m)) (all_keep by w (Exactly (lowest t)) (c ∷ cs)) _ _ (λ a. same t (test_at by (w + 1) (c ∷ cs) 0)) (λ a. cc))
   where
     same : (t u : Option Elementary) → Bare (same_word t u (decision few j by (w + 1) (c ∷ cs))) (1 + m)
-    same None u = bare_some _ (omega arith)
-    same (Some t) u =
-        if_case (λ (f : Formula). Bare f (1 + m)) (is_none u) _ _ (λ e. bare_some _ (omega arith))
-        (λ e. bare_within _ (omega arith) (bare_both (bare_one t) more))
+    same t u = grind (arith, bare_some, bare_within, bare_both, bare_one)
 
 -- one word of each
 single_sizes : (f : Offset × Width) (rs : List (List Elementary)) → Shapes (f ∷ []) rs → sizes rs ≡ length rs
@@ -238,11 +217,7 @@ module _ (link : Link) (s : Side) (few : ℕ) (k : Case) (cs : List Case) (i : a
 -- ---- both trees
 
 few_fits : (c : Case) (n : ℕ) → is_address c ≡ true → fewest_either c ≤ n → (2 ≤ few_of c n) × (few_of c n < n)
-few_fits (Mac a) n i l =
-    if_case (λ k. (2 ≤ k) × (k < n)) (nat_le 40 n) 4 (min (n - n / 2) 13) (λ e. (omega arith, let t : 40 ≤ n = grind (arith, nat_tests) in omega arith))
-    (λ e. (omega arith, omega arith))
-few_fits (Ip6 m a) n i l = (omega arith, omega arith)
-few_fits _ n i l = cc
+few_fits c n i l = grind (arith, nat_tests)
 
 -- of m words in front of the last
 both_bare : (link : Link) (m few : ℕ) (kind first : Case) (cs : List Case) → are_either either_side kind ≡ true → Likes either_side kind cs
@@ -273,11 +248,6 @@ either_bare link (Ip6 m a) (Ip6 l b) cs i e h many =
     let few = few_fits (Ip6 l b) (length cs) refl many in
     both_bare link 3 _ (Ip6 m a) (Ip6 l b) cs i h (λ s. (refl, refl, refl)) few.1 (omega arith) (omega arith)
 either_bare link _ _ cs i e h many = cc
-
--- a list's formula
-abbrev pub list_formula : Bool → Link → Direction → Case → List Case → Formula
-list_formula b link d first cs =
-    if b then either_formula link (few_of first (length cs)) first cs else decision (few_of first (length cs)) MOST_DECISIONS (case_tests link d) 0 cs
 
 pub list_good : (b : Bool) (link : Link) (d : Direction) (kind first : Case) (cs : List Case) → are_either d kind ≡ b → same_words d kind first ≡ true
     → Likes d kind cs → 0 < length cs → (b ≡ true → fewest_either first ≤ length cs) → Bare (list_formula b link d first cs) (list_size b link d cs +

@@ -1,6 +1,6 @@
 -- A frame is of one kind at most.
-use Rattle.flt_gen.proofs.Common.{◌≡◌, ℕ, List, Bool, true, false, Option, Some, None, refl, ap, ◌∙◌, arith, ◌==◌, nat_tests, HalfWord, Byte, field, FrameKind}
-use Rattle.flt_gen.proofs.Common.{Elementary, Yes, No, reading_of, with, under_mask, elementary_reads, type_test, MatchResult, both, either}
+use Rattle.flt_gen.proofs.Common.{◌≡◌, ℕ, List, Option, arith, nat_tests, FrameKind, Elementary, Yes, No, elementary_reads, type_test, MatchResult, both}
+use Rattle.flt_gen.proofs.Common.{either}
 
 -- readings after readings
 pub both_either : (i a b : MatchResult) → both i (either a b) ≡ either (both i a) (both i b)
@@ -15,18 +15,6 @@ either_assoc a b c = grind arith
 pub and_yes : (r : MatchResult) → both r Yes ≡ r
 and_yes r = grind arith
 
-pub is_yes : (b : Bool) → reading_of (Some b) ≡ Yes → b ≡ true
-is_yes b e = grind arith
-
--- a field that is one number is no other
-other_value : (o : Option ℕ) (mask : Option ℕ) (a b : ℕ) → (a == b) ≡ false → reading_of (with o (λ v. Some (under_mask mask v == a))) ≡ Yes
-    → reading_of (with o (λ v. Some (under_mask mask v == b))) ≡ No
-other_value None mask a b apart e = cc
-other_value (Some x) mask a b apart e =
-    let yes : (under_mask mask x == a) ≡ true = is_yes (under_mask mask x == a) e in
-    let same : under_mask mask x ≡ a = grind (arith, nat_tests) in
-    ap (λ y. reading_of (Some (y == b))) same ∙ ap (λ c. reading_of (Some c)) apart
-
 module _ (p : List ℕ) where
   -- where the first test is yes the second is no
   abbrev Excludes : Elementary → Elementary → Type 0
@@ -36,10 +24,4 @@ module _ (p : List ℕ) where
   pub kinds_exclude : (place : Option ℕ) → Excludes (type_test place FrameKind.Ip) (type_test place FrameKind.Ip6)
       × Excludes (type_test place FrameKind.Ip) (type_test place FrameKind.Arp) × Excludes (type_test place FrameKind.Ip)
       (type_test place FrameKind.Rarp) × Excludes (type_test place FrameKind.Arp) (type_test place FrameKind.Rarp)
-  kinds_exclude None = (other_value (field p 0 Byte) (Some 0xf0) 0x40 0x60 refl, λ e. refl, λ e. refl, λ e. refl)
-  kinds_exclude (Some at) = (
-    other_value (field p at HalfWord) None 0x0800 0x86dd refl,
-    other_value (field p at HalfWord) None 0x0800 0x0806 refl,
-    other_value (field p at HalfWord) None 0x0800 0x8035 refl,
-    other_value (field p at HalfWord) None 0x0806 0x8035 refl,
-  )
+  kinds_exclude place = grind (arith, nat_tests)

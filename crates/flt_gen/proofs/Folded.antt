@@ -1,12 +1,11 @@
 -- An expression with its arithmetic of numbers folded means the same, and counts no more.
-use Rattle.flt_gen.proofs.Common.{◌≡◌, ℕ, ◌+◌, ◌%◌, ◌^◌, ◌≤◌, List, [], ◌∷◌, Option, Some, None, refl, sym, ap, ap₂, ◌∙◌, arith, fold, or_assoc, ◌||◌, Operator}
-use Rattle.flt_gen.proofs.Common.{Protocol, field, Node, NumberTree, literal, load, negated, applied, TruthTree, compared, denied, joined, Expression, empty}
-use Rattle.flt_gen.proofs.Common.{truth, number_size, number_words, number_tests, truth_size, truth_words, truth_tests, bound_of, words_of, number_nodes}
-use Rattle.flt_gen.proofs.Common.{truth_nodes, expr_nodes, number_onto, truth_onto, expr_onto, is_unfilled, any_primitive, some_primitive, Link, MatchResult}
-use Rattle.flt_gen.proofs.Common.{with, reading_of, compares, width_of, base, number, result_of, accessors, Compare, both, either, negation, reads}
-use Rattle.flt_gen.proofs.Common.{checked_formula, constant, formula, holds, short_bound_of, negated_constant, applied_constant, number_or, negated_number}
-use Rattle.flt_gen.proofs.Common.{applied_number, folded_number, and_denied, joined_truth, folded_truth, folded_expression, node_or, with_negation}
-use Rattle.flt_gen.proofs.Common.{with_operator, Held, with_held, with_folded}
+use Rattle.flt_gen.proofs.Common.{◌≡◌, ℕ, ◌+◌, ◌%◌, ◌^◌, ◌≤◌, List, [], ◌∷◌, Option, Some, refl, sym, ap, ap₂, ◌∙◌, arith, fold, ◌||◌, Operator, Protocol}
+use Rattle.flt_gen.proofs.Common.{field, Node, NumberTree, literal, load, negated, applied, TruthTree, compared, denied, joined, Expression, empty, truth}
+use Rattle.flt_gen.proofs.Common.{number_size, number_words, number_tests, truth_size, truth_words, truth_tests, bound_of, words_of, number_nodes, truth_nodes}
+use Rattle.flt_gen.proofs.Common.{expr_nodes, number_onto, truth_onto, expr_onto, is_unfilled, any_primitive, some_primitive, Link, with, reading_of, compares}
+use Rattle.flt_gen.proofs.Common.{width_of, base, number, accessors, Compare, negation, reads, checked_formula, constant, formula, holds, short_bound_of}
+use Rattle.flt_gen.proofs.Common.{negated_constant, applied_constant, number_or, negated_number, applied_number, folded_number, joined_truth, folded_truth}
+use Rattle.flt_gen.proofs.Common.{folded_expression, with_negation, with_operator, with_folded}
 use Rattle.flt_gen.proofs.{Held.held_truth, Held.none_held, Held.back_truth, Numbers.constant_is, Once.both_again, Once.checked_same}
 use Rattle.flt_words.specs.declared.token.Join.{Join}
 
@@ -24,21 +23,13 @@ applied_some o v u k e = grind arith
 constant_alone : (a : NumberTree) (k : ℕ) (rest : List Protocol) → constant a ≡ Some k → accessors a rest ≡ rest
 constant_alone a k rest e = grind arith
 
-denied_both : (r q : MatchResult) → negation (either r q) ≡ both (negation r) (negation q)
-denied_both r q = grind arith
-
 module _ (p : List ℕ) (n : ℕ) (link : Link) where
   negated_is : (a : NumberTree) (u : Option ℕ) → constant a ≡ u → (k : ℕ) → negated_constant u ≡ Some k → number link (negated a) p n ≡ Some k
-  negated_is a None c k e = cc
-  negated_is a (Some x) c k e = ap (λ o. negated_constant o) (constant_is p n link a x c) ∙ e
+  negated_is a u c k e = grind (arith, constant_is)
 
   applied_is : (o : Operator) (a b : NumberTree) (v u : Option ℕ) → constant a ≡ u → constant b ≡ v → (k : ℕ) → applied_constant o u v ≡ Some k
       → number link (applied o a b) p n ≡ Some k
-  applied_is o a b (Some y) (Some x) c d k e =
-      ap (λ q. with q (λ v. with (number link b p n) (λ w. result_of o v w))) (constant_is p n link a x c)
-      ∙ ap (λ q. with q (λ w. result_of o x w)) (constant_is p n link b y d)
-      ∙ e
-  applied_is o a b _ _ c d k e = cc
+  applied_is o a b v u c d k e = grind (arith, constant_is)
 
 -- a number in the place of another one: it counts no more, has the same accessors and the same value
 record Replaces (b a : NumberTree) : Type 0 where
@@ -48,8 +39,7 @@ record Replaces (b a : NumberTree) : Type 0 where
 
 operands_same : (o : Operator) (c a d b : NumberTree) → Replaces c a → Replaces d b → (p : List ℕ) (n : ℕ) (link : Link) → number link (applied o c d)
     p n ≡ number link (applied o a b) p n
-operands_same o c a d b h g p n link =
-    ap₂ (λ q r. with q (λ v. with r (λ w. result_of o v w))) (h.same p n link) (g.same p n link)
+operands_same o c a d b h g p n link = grind arith
 
 number_folded : (a : NumberTree) → Replaces (folded_number a) a
 number_folded (load q s a) =
@@ -94,28 +84,12 @@ record Stands (a b : TruthTree) : Type 0 where
 itself : (a : TruthTree) → Stands a a
 itself a = record { counts = omega arith; filled = refl; same = λ p n link. refl }
 
-denied_stands : (a b : TruthTree) → Stands (and_denied a b) (joined Join.And a (denied b))
-denied_stands (denied a) b = record {
-  counts = omega arith;
-  filled = refl;
-  same = λ p n link. denied_both (reads link (formula link a) p n) (reads link (formula link b) p n);
-}
-denied_stands (joined Join.And x (denied a)) b = record {
-  counts = omega arith;
-  filled = sym (or_assoc (any_primitive is_unfilled x) (any_primitive is_unfilled a) (any_primitive is_unfilled b));
-  same = λ p n link. ap (λ r. both (reads link (formula link x) p n) r) (denied_both (reads link (formula link a) p n) (reads link (formula link b) p n))
-      ∙ both_again (reads link (formula link x) p n) (negation (reads link (formula link a) p n)) (negation (reads link (formula link b) p n));
-}
-denied_stands a b = itself (joined Join.And a (denied b))
-
 joined_stands : (j : Join) (a b : TruthTree) → Stands (joined_truth j a b) (joined j a b)
-joined_stands Join.And a (denied b) = denied_stands a b
-joined_stands j a b = itself (joined j a b)
+joined_stands j a b = grind (arith, both_again, itself)
 
 both_same : (j : Join) (a c b d : TruthTree) → Stands a c → Stands b d → (p : List ℕ) (n : ℕ) (link : Link) → reads link (formula link (joined j a b))
     p n ≡ reads link (formula link (joined j c d)) p n
-both_same Join.And a c b d h g p n link = ap₂ both (h.same p n link) (g.same p n link)
-both_same Join.Or a c b d h g p n link = ap₂ either (h.same p n link) (g.same p n link)
+both_same j a c b d h g p n link = grind arith
 
 truth_folded : (a : TruthTree) → Stands (folded_truth a) a
 truth_folded (compared c a b) =
@@ -160,16 +134,11 @@ expression_folded (truth a) =
 
 -- ---- the nodes of the folded tree
 
-one_or_both : (o : Operator) (r : Option ℕ) (a b : NumberTree) (d : List Node) → node_or r d (Node.Apply o ∷ number_onto b (number_onto a d)) ≡
-    number_onto (number_or r (applied o a b)) d
-one_or_both o r a b d = grind arith
-
 with_negated : (a : NumberTree) (d : List Node) → with_negation (number_onto a d) ≡ number_onto (negated_number a) d
 with_negated a d = grind arith
 
 with_applied : (o : Operator) (b a : NumberTree) (d : List Node) → with_operator o (number_onto b (number_onto a d)) ≡ number_onto (applied_number o a b) d
-with_applied o (literal y) (literal x) d = one_or_both o (result_of o x y) (literal x) (literal y) d
-with_applied o _ _ d = refl
+with_applied o b a d = grind arith
 
 number_put : (a : NumberTree) (d rest : List Node) → fold with_folded d (number_nodes a rest) ≡ fold with_folded (number_onto (folded_number a) d) rest
 number_put (load p s a) d rest = number_put a d _
@@ -179,16 +148,7 @@ number_put (applied o a b) d rest = number_put a d _ ∙ number_put b _ _ ∙ ap
 number_put _ d rest = refl
 
 join_put : (j : Join) (b a : TruthTree) (d : List Node) → with_folded (truth_onto b (truth_onto a d)) (Node.Join j) ≡ truth_onto (joined_truth j a b) d
-join_put Join.Or b a d = refl
-join_put Join.And (denied b) a d =
-    ap (λ (h : Held). with_held h.held h.rest) (held_truth b 0 [] (truth_onto a d) ∙ none_held 0 (truth_nodes b []) (truth_onto a d) refl) ∙ after b a d
-  where
-    after : (b a : TruthTree) (d : List Node) → with_held (truth_nodes b []) (truth_onto a d) ≡ truth_onto (joined_truth Join.And a (denied b)) d
-    after b (denied a) d = ap (λ ns. Node.Not ∷ Node.Join Join.Or ∷ ns) (back_truth b [] (truth_onto a d))
-    after b (joined Join.And x (denied a)) d = ap (λ ns. Node.Join Join.And ∷ Node.Not ∷ Node.Join Join.Or ∷ ns)
-        (back_truth b [] (truth_onto a (truth_onto x d)))
-    after b a d = ap (λ ns. Node.Join Join.And ∷ Node.Not ∷ ns) (back_truth b [] (truth_onto a d))
-join_put Join.And b a d = refl
+join_put j b a d = grind (arith, held_truth, none_held, back_truth)
 
 truth_put : (a : TruthTree) (d rest : List Node) → fold with_folded d (truth_nodes a rest) ≡ fold with_folded (truth_onto (folded_truth a) d) rest
 truth_put (compared c a b) d rest = number_put a d _ ∙ number_put b _ _

@@ -1,49 +1,40 @@
 -- The formula of a truth in which hosts or ports are looked for together reads as the truth's own,
 -- and has no more tests.
 use Rattle.flt_gen.proofs.Ascending.{if_case, Each, each_is, Searchable, Reached, Ready, Ordered, Points, ordered_inserted, points_inserted, length_inserted}
-use Rattle.flt_gen.proofs.Ascending.{is_in, is_within}
-use Rattle.flt_gen.proofs.Ascending.{within_inserted, within_joined, searchable_joined, ends_few, one_point, joined_few, joined_points}
-use Rattle.flt_gen.proofs.Common.{◌≡◌, ℕ, ◌+◌, ◌-◌, ◌*◌, ◌/◌, ◌^◌, ◌<◌, ◌≤◌, max, List, [], ◌∷◌, length, Bool, true, false, Option, Some, None, refl, sym, ap}
-use Rattle.flt_gen.proofs.Common.{ap₂, ◌∙◌}
-use Rattle.flt_gen.proofs.Common.{subst, arith, ◌==◌, ◌||◌, ◌&&◌, nat_lt, nat_le, if◌then◌else◌, suc-mul, nat_tests, and_parts, or_parts, Protocol, Ip, Tcp}
-use Rattle.flt_gen.proofs.Common.{Source, Destination, And, Or, ValueType, Host, Net, Port, PortRange, Direction, CompleteQualifiers, Value, Interval}
-use Rattle.flt_gen.proofs.Common.{index_of, Sides, FrameKind, network_offset, not, map, and-false, inl, inr, sought_formula, sought_tests, has_addresses}
-use Rattle.flt_gen.proofs.Common.{joined_all}
-use Rattle.flt_gen.proofs.Common.{left_out}
-use Rattle.flt_gen.proofs.Common.{high_mask, cut, address_places, port_places, ip_transport, ip6_transport, sought, Entry, TruthTree, check, cast, sized, bare}
-use Rattle.flt_gen.proofs.Common.{valued, qualified, compared, denied, joined, is_unfilled, any_primitive, Link, Formula, Both, Either, Except}
-use Rattle.flt_gen.proofs.Common.{both, either, negation, Numbers, reads, check_formula, cast_formula, sized_formula, hosts_formula}
-use Rattle.flt_gen.proofs.Common.{port_formula, relation_formula, qualified_needed, formula, first_ends, Group, no_group, entry, with_member, same_type}
-use Rattle.flt_gen.proofs.Common.{same_protocol, same_direction, goes_with, member_of, group_and, larger_group, is_searched, numbers_of, several_formula}
-use Rattle.flt_gen.proofs.Common.{accessor_tests, accessor_test_count, guarded_formula, Elementary, with, Tcp, value_formula, Proto, rows_formula}
-use Rattle.flt_gen.proofs.Common.{group_formula, or_any, or_group, choice, grouped_formula, MOST_TOGETHER, FEWEST_RANGES}
-use Rattle.flt_gen.proofs.Counted.{Sized, Bare, bare_within, bare_some, bare_both, bare_either, bare_else, bare_after, bare_check, bare_cast}
-use Rattle.flt_gen.proofs.Counted.{of_kinds, bare_hosts, bare_ports}
+use Rattle.flt_gen.proofs.Ascending.{is_in, is_within, within_inserted, within_joined, searchable_joined, ends_few, one_point, joined_few, joined_points}
+use Rattle.flt_gen.proofs.Common.{◌≡◌, ℕ, ◌+◌, ◌-◌, ◌*◌, ◌<◌, ◌≤◌, max, List, [], ◌∷◌, length, Bool, true, false, Option, Some, None, refl, sym, ap, ap₂, ◌∙◌}
+use Rattle.flt_gen.proofs.Common.{subst, arith, ◌==◌, ◌||◌, ◌&&◌, nat_lt, nat_le, if◌then◌else◌, suc-mul, nat_tests, and_parts, or_parts, Protocol, And, Or}
+use Rattle.flt_gen.proofs.Common.{ValueType, Direction, CompleteQualifiers, Value, Interval, index_of, Sides, FrameKind, network_offset, not, map, and-false}
+use Rattle.flt_gen.proofs.Common.{inl, inr, sought_formula, sought_tests, has_addresses, joined_all, left_out, high_mask, cut, address_places, port_places}
+use Rattle.flt_gen.proofs.Common.{ip_transport, ip6_transport, sought, Entry, TruthTree, check, cast, sized, bare, valued, qualified, compared, denied, joined}
+use Rattle.flt_gen.proofs.Common.{is_unfilled, any_primitive, Link, Formula, Both, Either, Except, both, either, negation, Numbers, reads, check_formula}
+use Rattle.flt_gen.proofs.Common.{cast_formula, sized_formula, hosts_formula, port_formula, relation_formula, qualified_needed, formula, first_ends, Group}
+use Rattle.flt_gen.proofs.Common.{no_group, entry, with_member, same_type, same_protocol, same_direction, goes_with, member_of, group_and, larger_group}
+use Rattle.flt_gen.proofs.Common.{is_searched, numbers_of, several_formula, accessor_tests, accessor_test_count, guarded_formula, Elementary, with}
+use Rattle.flt_gen.proofs.Common.{value_formula, rows_formula, group_formula, or_any, or_group, choice, grouped_formula, MOST_TOGETHER, FEWEST_RANGES}
+use Rattle.flt_gen.proofs.Counted.{Sized, Bare, bare_within, bare_both, bare_either, bare_else, bare_after, bare_check, bare_cast, of_kinds, bare_hosts}
+use Rattle.flt_gen.proofs.Counted.{bare_ports}
 use Rattle.flt_gen.proofs.Deciding.{some_front, rows, Likes, likes_put, length_put, alike, alike_alike, self_relation}
-use Rattle.flt_gen.proofs.EitherSide.{one_formula, one_size, list_read, list_size, list_alone, list_more, none_size, size_put, list_formula, list_good}
-use Rattle.flt_gen.proofs.EitherSide.{like_either}
-use Rattle.flt_gen.proofs.{Exclusive.or_no, Exclusive.both_either, Exclusive.either_assoc, IdleBits.uncut}
-use Rattle.flt_gen.proofs.{Deciding.value_same, Needed.bare_needed, Once.relation_sizes, Once.guarded_sizes, Once.equal_are, Once.relation_same}
-use Rattle.flt_gen.proofs.{Once.all_read, Once.guarded_read}
+use Rattle.flt_gen.proofs.EitherSide.{one_formula, one_size, list_read, list_size, list_alone, list_more, none_size, size_put, list_good, like_either}
+use Rattle.flt_gen.proofs.{Exclusive.or_no, Exclusive.both_either, Exclusive.either_assoc, IdleBits.uncut, Deciding.value_same, Needed.bare_needed}
+use Rattle.flt_gen.proofs.{Once.relation_sizes, Once.guarded_sizes, Once.relation_same, Once.all_read, Once.guarded_read}
 use Rattle.flt_gen.proofs.Relations.{entry_tests, entry_bare, IsEntry, entry_is}
 use Rattle.flt_gen.proofs.Prefixes.{Idle, idle_sought, cut_in, cut_within, cut_order, cut_apart}
 use Rattle.flt_gen.proofs.Together.{Fitting, fitting_small, unmasked_fitting, address_fitting, PortsReady, members_read, members_more, members_alone}
-use Rattle.flt_gen.proofs.Together.{member_reads}
+use Rattle.flt_gen.proofs.Together.{member_reads, IsMember, member_tests, several_are, member_is}
 use Rattle.flt_gen.proofs.Search.{Merged, bare_sought}
-use Rattle.flt_gen.proofs.Together.{IsMember, member_tests, several_are, member_is}
 use Rattle.std.specs.Prelude.{◌⊎◌, count_by, is_none}
 use Rattle.flt_words.specs.declared.token.Protocol.TheVariants as protocol
 use Rattle.flt_gen.specs.declared.cases.Case.{Case}
-use Rattle.flt_gen.specs.inside.Cases.{case_of, same_words, key_of, case_front, insert_case, are_either}
-use Rattle.flt_gen.specs.inside.Group.{with_case, shares_words, case_goes_with, larger_with, together_formula, entry_formula, entry_of, leaf_formula}
-use Rattle.flt_gen.specs.inside.Group.{fewest, fewest_as, fewest_either}
+use Rattle.flt_gen.specs.inside.Cases.{case_of, same_words, key_of, case_front, insert_case, are_either, list_formula}
+use Rattle.flt_gen.specs.inside.Group.{with_case, shares_words, case_goes_with, larger_with, together_formula, entry_formula, entry_of, leaf_formula, fewest}
+use Rattle.flt_gen.specs.inside.Group.{fewest_either}
 use Rattle.std.proofs.lemmas.List.{length-map}
 use Rattle.cap_octet.specs.declared.link.Link.TheVariants as link
 use Rattle.cap_octet.specs.declared.link.Link.TheVariants.{Ether}
 use Rattle.flt_gen.specs.declared.elementary.FrameKind.TheVariants as kind
 use Rattle.flt_words.specs.declared.token.Size.{Size}
 use Rattle.flt_ast.specs.declared.qualifiers.Direction.TheVariants as direction
-use Rattle.flt_ast.specs.declared.value.Value.TheVariants as value
 use Rattle.flt_ast.specs.Counts as count
 
 -- how many tests members have one by one
@@ -63,9 +54,10 @@ pub record Held (group : Group) (ms : List Interval) : Type 0 where
   pub all_within : (y : ℕ) → is_within y group.all ≡ is_within y (group.first ∷ ms)
   pub all_count : length group.all ≡ length group.entries
   pub points : group.is_plain ≡ true → (group.first.low ≡ group.first.high) × Points group.all
-  pub counted : length group.entries * member_tests group.qualifiers.value_type group.qualifiers.protocol group.qualifiers.direction ≤ group_tests group
-  pub rows : (link : Link) (p : List ℕ) (n : ℕ) → reads link (rows_formula link group.entries) p n ≡ members_read link p n group.qualifiers.value_type
-      group.qualifiers.protocol group.qualifiers.direction group.first ms
+  pub counted : length group.entries * member_tests (has_addresses group.qualifiers.value_type) group.qualifiers.protocol group.qualifiers.direction
+      ≤ group_tests group
+  pub rows : (link : Link) (p : List ℕ) (n : ℕ) → reads link (rows_formula link group.entries) p n ≡ members_read link p n
+      (has_addresses group.qualifiers.value_type) group.qualifiers.protocol group.qualifiers.direction group.first ms
 
 -- a group of cases of this direction, which have the words of one, of which another one stands first
 pub record Listed (d : Direction) (group : Group) : Type 0 where
@@ -92,13 +84,11 @@ kept_none = nothing refl refl refl refl
 -- several members' formula has no more tests
 several_hosts_few : (protocol : Option Protocol) (d : Direction) (n x : ℕ) → 1 + x ≤ n → of_kinds protocol (1 + (n * count.side_tests d 1 + x)) ≤ n *
     count.ip4_tests protocol d
-several_hosts_few None d n x l = omega arith
-several_hosts_few _ d n x l = omega arith
+several_hosts_few protocol d n x l = grind arith
 
 several_ports_few : (protocol : Option Protocol) (d : Direction) (n x : ℕ) → 2 ≤ n → 1 + x ≤ n → 1 + count.transport_tests protocol + 1 +
     (n * count.side_tests d 1 + x) + (1 + count.transport_tests protocol + (n * count.side_tests d 1 + x)) ≤ n * count.port_tests protocol d 1
-several_ports_few None d n x l m = omega arith
-several_ports_few _ d n x l m = omega arith
+several_ports_few protocol d n x l m = grind arith
 
 -- numbers of a group with members that are one number each, of which there are two at least, or of
 -- three others
@@ -108,26 +98,13 @@ Numbered numbers n =
     ⊎ ((max 1 (length numbers.all) ≤ n) × (3 ≤ n))
 
 sought_few : (d : Direction) (numbers : Numbers) (n : ℕ) → Numbered numbers n → 2 ≤ n → sought_tests d numbers ≤ n * count.side_tests d 1 + (n - 1)
-sought_few (direction.Both Or) numbers n h two = by (nat_le 5 (length numbers.all)) refl h
-  where
-    by : (b : Bool) → nat_le 5 (length numbers.all) ≡ b → Numbered numbers n → 2 * max 1 (length numbers.all) + max (first_ends numbers.all)
-        (first_ends (numbers.first ∷ [])) + (if b then 3 else 1) ≤ n * count.side_tests (direction.Both Or) 1 + (n - 1)
-    by true e (inl h) = let k = h.0 in let l = h.1 in let five : 5 ≤ length numbers.all = grind (arith, nat_tests) in omega arith
-    by true e (inr h) = let k = h.0 in let few = ends_few numbers.all in let one = ends_few (numbers.first ∷ []) in
-        let five : 5 ≤ length numbers.all = grind (arith, nat_tests) in omega arith
-    by false e (inl h) = let k = h.0 in let l = h.1 in omega arith
-    by false e (inr h) = let k = h.0 in let l = h.1 in let few = ends_few numbers.all in let one = ends_few (numbers.first ∷ []) in omega arith
-sought_few (direction.Both And) numbers n h two = omega arith
-sought_few (direction.One s) numbers n (inl h) two = let k = h.0 in omega arith
-sought_few (direction.One s) numbers n (inr h) two = let k = h.0 in let l = h.1 in let few = ends_few numbers.all in omega arith
+sought_few d numbers n h two = grind (arith, nat_tests, ends_few)
 
 offset_few : (link : Link) → network_offset link ≤ 16
-offset_few link.Ether = omega arith
-offset_few _ = omega arith
+offset_few link = grind arith
 
 address_reached : (link : Link) (k : FrameKind) (mask : Option ℕ) → let at = address_places link k in Reached (index_of link at) mask at.source at.destination
-address_reached link kind.Ip mask = let l = offset_few link in (omega arith, omega arith, omega arith, omega arith)
-address_reached link _ mask = let l = offset_few link in (omega arith, omega arith, omega arith, omega arith)
+address_reached link k mask = grind (arith, offset_few)
 
 module _ (link : Link) (q : CompleteQualifiers) (numbers : Numbers) (n : ℕ) (h : Numbered numbers n) (two : 2 ≤ n) where
   sought_bare : (at : Sides) → Ready link at numbers → Bare (sought_formula link q.direction at numbers) (n * count.side_tests q.direction 1 + (n - 1))
@@ -145,13 +122,10 @@ module _ (link : Link) (q : CompleteQualifiers) (numbers : Numbers) (n : ℕ) (h
   ports_bare r = bare_within _ (several_ports_few q.protocol q.direction n (n - 1) two (omega arith))
       (bare_ports link q.protocol asked _ (sought_bare _ r.0) (sought_bare _ r.1))
 
-  bare_several : (k : ValueType) → (has_addresses k ≡ true → (f : FrameKind) → Ready link (address_places link f) numbers)
-      → (has_addresses k ≡ false → PortsReady link numbers) → Bare (several_formula link q k numbers) (n * member_tests k q.protocol q.direction)
-  bare_several Host r s = hosts_bare (r refl)
-  bare_several Net r s = hosts_bare (r refl)
-  bare_several Port r s = ports_bare (s refl)
-  bare_several PortRange r s = ports_bare (s refl)
-  bare_several _ r s = bare_some _ (omega arith)
+  bare_several : (k : Bool) → (k ≡ true → (f : FrameKind) → Ready link (address_places link f) numbers)
+      → (k ≡ false → PortsReady link numbers) → Bare (several_formula link q k numbers) (n * member_tests k q.protocol q.direction)
+  bare_several true r s = hosts_bare (r refl)
+  bare_several false r s = ports_bare (s refl)
 
 -- the numbers of a group
 searchable_cut : (last : ℕ) (first : Interval) (is : List Interval) → Idle last first is → Searchable is → Searchable (map (cut last) is)
@@ -186,16 +160,16 @@ ready link at b group ms h some fit reached = record {
 
 -- the numbers of a group are searched in all places where its members may be
 module _ (link : Link) (group : Group) (ms : List Interval) (h : Held group ms) (some : 1 ≤ length group.entries) where
-  abbrev k : ValueType
-  k = group.qualifiers.value_type
+  abbrev k : Bool
+  k = has_addresses group.qualifiers.value_type
 
   abbrev masked : Bool
-  masked = has_addresses k && not group.is_plain
+  masked = k && not group.is_plain
 
   addresses_ready : (f : FrameKind) → Ready link (address_places link f) (numbers_of group)
   addresses_ready f = ready link (address_places link f) masked group ms h some (address_fitting masked link f) (λ mask _. address_reached link f mask)
 
-  ports_ready : has_addresses k ≡ false → PortsReady link (numbers_of group)
+  ports_ready : k ≡ false → PortsReady link (numbers_of group)
   ports_ready e =
       let no = ap (λ c. c && not group.is_plain) e in
       let l = offset_few link in (
@@ -210,14 +184,15 @@ by_numbers : (group : Group) → group.case ≡ None → is_searched group ≡ n
 by_numbers group e = ap (λ o. nat_le (fewest o group.qualifiers.direction group.is_plain) (length group.entries)) e
 
 group_bare_several : (link : Link) (group : Group) (ms : List Interval) → Held group ms → nat_le (if group.is_plain then 2 else FEWEST_RANGES)
-    (length group.entries) ≡ true → Bare (several_formula link group.qualifiers group.qualifiers.value_type (numbers_of group)) (group_tests group)
+    (length group.entries) ≡ true → Bare (several_formula link group.qualifiers (has_addresses group.qualifiers.value_type) (numbers_of group))
+    (group_tests group)
 group_bare_several link group ms h e = by group.is_plain refl e
   where
     n : ℕ
     n = length group.entries
 
-    k : ValueType
-    k = group.qualifiers.value_type
+    k : Bool
+    k = has_addresses group.qualifiers.value_type
 
     with_numbers : Numbered (numbers_of group) n → 2 ≤ n → Bare (several_formula link group.qualifiers k (numbers_of group)) (group_tests group)
     with_numbers few two =
@@ -235,7 +210,7 @@ group_bare_several link group ms h e = by group.is_plain refl e
         let c = h.all_count in
         let pts = h.points plain in
         let few = joined_points group.all (omega arith) pts.1 in
-        let off : (has_addresses k && not group.is_plain) ≡ false = ap (λ b. has_addresses k && not b) plain ∙ and-false (has_addresses k) in
+        let off : (k && not group.is_plain) ≡ false = ap (λ b. k && not b) plain ∙ and-false k in
         let point : first_ends (cut 0 group.first ∷ []) ≡ 0 = one_point (cut 0 group.first) (let e = pts.0 in omega arith) in
         with_numbers
         (subst (λ b. Numbered (sought b group.first group.all) n) (sym off)
@@ -245,7 +220,7 @@ group_bare_several link group ms h e = by group.is_plain refl e
         let three : 3 ≤ n = grind (arith, nat_tests) in
         let c = h.all_count in
         let few = joined_few group.all (omega arith) in
-        let same = length_cut (has_addresses k && not group.is_plain) in
+        let same = length_cut (k && not group.is_plain) in
         with_numbers (inr (omega arith, three)) (omega arith)
 
 rows_bare : (link : Link) (es : List Entry) → 0 < length es → Bare (rows_formula link es) (entries_tests es)
@@ -287,13 +262,7 @@ listed_is link group h searched = subst Good (sym h.is_first)
     put = ap (λ c. guarded_formula (case_front link h.first) (list_formula c link d h.first group.cases)) same
 
     many : b ≡ true → fewest_either h.first ≤ length group.cases
-    many e =
-        let t : nat_le (fewest_either h.first) (length group.entries) ≡ true =
-        sym (ap (λ o. nat_le (fewest o d group.is_plain) (length group.entries)) h.is_first
-        ∙ ap (λ c. nat_le (if c then fewest_either h.first else fewest_as h.first) (length group.entries)) (same ∙ e)) ∙ searched in
-        let l = h.all_count in
-        let m : fewest_either h.first ≤ length group.entries = grind (arith, nat_tests) in
-        omega arith
+    many e = grind (arith, nat_tests)
 
 group_bare : (link : Link) (group : Group) → Kept group → 0 < length group.entries → Bare (group_formula link group) (group_tests group)
 group_bare link group k l = if_case (λ (f : Formula). Bare f (group_tests group)) (is_searched group) _ _ (by k) (λ e. rows_bare link group.entries l)
@@ -319,7 +288,7 @@ group_rows link p n group k =
         let few = sym (by_numbers group empty) ∙ e in
         ap (λ o. reads link (together_formula link group o) p n) empty
         ∙ several_are link p n group.qualifiers (has_addresses group.qualifiers.value_type && not group.is_plain) group.first ms group.all
-        (h.merged (searched_two group few)) h.ascends h.all_within group.qualifiers.value_type
+        (h.merged (searched_two group few)) h.ascends h.all_within (has_addresses group.qualifiers.value_type)
         (λ t. (and_parts (has_addresses group.qualifiers.value_type) (not group.is_plain) t).0)
         (λ t f. addresses_ready link group ms h (omega arith) f) (λ t. ports_ready link group ms h (omega arith) t)
         ∙ sym (h.rows link p n)
@@ -341,42 +310,31 @@ or_stands link f a group k s same = record { counts = sizes group.entries (λ l.
 
     sizes : (es : List Entry) → (0 < length es → Bare o (group_tests group)) → Sized (or_any f o es) (count.truth_size a) (count.truth_words a)
         (count.truth_tests a + group_tests group)
-    sizes [] b = bare_within _ (omega arith) s
-    sizes (e ∷ es) b = bare_else s (b (omega arith))
+    sizes es b = grind (arith, bare_within, bare_else)
 
     reading : (p : List ℕ) (n : ℕ) (es : List Entry) → group.entries ≡ es → reads link (or_any f o es) p n ≡ either (reads link (formula link a) p n)
         (reads link o p n)
-    reading p n [] e = same p n ∙ sym (ap (either (reads link (formula link a) p n))
-        (group_rows link p n group k ∙ ap (λ es. reads link (rows_formula link es) p n) e) ∙ or_no _)
-    reading p n (x ∷ es) e = ap (λ r. either r (reads link o p n)) (same p n)
+    reading p n es e = grind (arith, group_rows, or_no)
 
 -- which members go together
 protocols_are : (a b : Option Protocol) → same_protocol a b ≡ true → b ≡ a
-protocols_are None None e = refl
-protocols_are (Some p) (Some q) e = ap Some (sym (equal_are p q e))
-protocols_are _ _ e = cc
+protocols_are a b e = grind arith
 
 directions_are : (a b : Direction) → same_direction a b ≡ true → (b ≡ a) × Merged a
-directions_are (direction.One Source) (direction.One Source) e = (refl, tt)
-directions_are (direction.One Destination) (direction.One Destination) e = (refl, tt)
-directions_are (direction.Both Or) (direction.Both Or) e = (refl, tt)
-directions_are _ _ e = cc
+directions_are a b e = grind arith
 
--- which types go together
-alike_types : (a b : ValueType) → same_type a b ≡ true → ((o : Option Protocol) (d : Direction) → member_tests b o d ≡ member_tests a o d)
-    × ((link : Link) (p : List ℕ) (n : ℕ) (o : Option Protocol) (d : Direction) (m : Interval) (ms : List Interval) → members_read link p n b o d m
-    ms ≡ members_read link p n a o d m ms)
-alike_types Host Host e = (λ o d. cc, λ link p n o d m ms. cc)
-alike_types _ Host e = (λ o d. cc, λ link p n o d m ms. cc)
-alike_types _ _ e = (λ o d. cc, λ link p n o d m ms. cc)
+alike_types : (a b : ValueType) → same_type a b ≡ true → has_addresses b ≡ has_addresses a
+alike_types a b e = grind arith
 
 -- what is known where a value goes with members
 record Fits_in (q : CompleteQualifiers) (group : Group) : Type 0 where
   none : is_none group.case ≡ true
   merged : Merged q.direction
-  tests_are : member_tests group.qualifiers.value_type group.qualifiers.protocol group.qualifiers.direction ≡ member_tests q.value_type q.protocol q.direction
-  reads_are : (link : Link) (p : List ℕ) (n : ℕ) (m : Interval) (ms : List Interval) → members_read link p n group.qualifiers.value_type
-      group.qualifiers.protocol group.qualifiers.direction m ms ≡ members_read link p n q.value_type q.protocol q.direction m ms
+  tests_are : member_tests (has_addresses group.qualifiers.value_type) group.qualifiers.protocol group.qualifiers.direction ≡ member_tests
+      (has_addresses q.value_type) q.protocol q.direction
+  reads_are : (link : Link) (p : List ℕ) (n : ℕ) (m : Interval) (ms : List Interval) → members_read link p n
+      (has_addresses group.qualifiers.value_type) group.qualifiers.protocol group.qualifiers.direction m ms ≡ members_read link p n
+      (has_addresses q.value_type) q.protocol q.direction m ms
 
 fits_in : (q : CompleteQualifiers) (group : Group) (es : List Entry) → 0 < length es → goes_with q group es ≡ true → Fits_in q group
 fits_in q group [] l g = absurd (omega arith)
@@ -393,23 +351,23 @@ fits_in q group (e ∷ es) l g =
     record {
       none = a.0;
       merged = f.1;
-      tests_are = ap₂ (member_tests o.value_type) e f.0 ∙ k.0 q.protocol q.direction;
-      reads_are = λ link p n m ms. ap₂ (λ x y. members_read link p n o.value_type x y m ms) e f.0 ∙ k.1 link p n q.protocol q.direction m ms;
+      tests_are = ap₂ (member_tests (has_addresses o.value_type)) e f.0 ∙ ap (λ b. member_tests b q.protocol q.direction) k;
+      reads_are = λ link p n m ms. ap₂ (λ x y. members_read link p n (has_addresses o.value_type) x y m ms) e f.0
+          ∙ ap (λ b. members_read link p n b q.protocol q.direction m ms) k;
     }
 
 -- one more row in front of others
 rows_put : (link : Link) (p : List ℕ) (n : ℕ) (e : Entry) (es : List Entry) → reads link (rows_formula link (e ∷ es)) p n ≡ either
     (reads link (entry_formula link e) p n) (reads link (rows_formula link es) p n)
-rows_put link p n e [] = sym (or_no _)
-rows_put link p n e (f ∷ es) = refl
+rows_put link p n e es = grind (arith, or_no)
 
 -- one more number before those, ls, of a group without cases
 held_put : (q : CompleteQualifiers) (v : Value) (m : Interval) (group : Group) (ls : List Interval) → member_of q.value_type v ≡ Some m
     → Ordered 0 group.all → ((y : ℕ) → is_within y group.all ≡ is_within y ls) → length group.all ≡ length group.entries
     → (group.is_plain ≡ true → Points group.all)
-    → length group.entries * member_tests q.value_type q.protocol q.direction ≤ group_tests group → (0 < length group.entries → Merged q.direction)
-    → ((link : Link) (p : List ℕ) (n : ℕ) → either (member_reads link p n q.value_type q.protocol q.direction m)
-    (reads link (rows_formula link group.entries) p n) ≡ members_read link p n q.value_type q.protocol q.direction m ls)
+    → length group.entries * member_tests (has_addresses q.value_type) q.protocol q.direction ≤ group_tests group → (0 < length group.entries → Merged q.direction)
+    → ((link : Link) (p : List ℕ) (n : ℕ) → either (member_reads link p n (has_addresses q.value_type) q.protocol q.direction m)
+    (reads link (rows_formula link group.entries) p n) ≡ members_read link p n (has_addresses q.value_type) q.protocol q.direction m ls)
     → Held (with_member q v m group) ls
 held_put q v m group ls w up within many points few merged rows = record {
   order = order;
@@ -421,7 +379,7 @@ held_put q v m group ls w up within many points few merged rows = record {
       let t = and_parts (m.low == m.high) group.is_plain plain in
       let point : m.low ≡ m.high = (let u = t.0 in grind (arith, nat_tests)) in
       (point, points_inserted m group.all point (points t.1));
-  counted = let one = suc-mul (length group.entries) (member_tests q.value_type q.protocol q.direction) in let more = (its Ether [] 0).1 in omega arith;
+  counted = let one = suc-mul (length group.entries) (member_tests (has_addresses q.value_type) q.protocol q.direction) in let more = (its Ether [] 0).1 in omega arith;
   rows = λ link p n. rows_put link p n (entry q v) group.entries ∙ ap (λ r. either r (reads link (rows_formula link group.entries) p n))
       (value_same link p n q.value_type q.protocol q.direction v ∙ (its link p n).2) ∙ rows link p n;
 }
@@ -440,16 +398,16 @@ kept_with q v m group (nothing none all empty alone) g w =
     let no_all : length group.all ≡ 0 = ap length all in
     numbered (omega arith) alone []
     (held_put q v m group [] w (subst (Ordered 0) (sym all) tt) (λ y. ap (is_within y) all) (omega arith) (λ plain. subst Points (sym all) tt)
-    (subst (λ k. k * member_tests q.value_type q.protocol q.direction ≤ group_tests group) (sym zero) (omega arith)) (λ l. absurd (omega arith))
-    (λ link p n. ap (λ es. either (member_reads link p n q.value_type q.protocol q.direction m) (reads link (rows_formula link es) p n)) none
-    ∙ or_no _ ∙ sym (members_alone link p n q.value_type q.protocol q.direction m)))
+    (subst (λ k. k * member_tests (has_addresses q.value_type) q.protocol q.direction ≤ group_tests group) (sym zero) (omega arith)) (λ l. absurd (omega arith))
+    (λ link p n. ap (λ es. either (member_reads link p n (has_addresses q.value_type) q.protocol q.direction m) (reads link (rows_formula link es) p n)) none
+    ∙ or_no _ ∙ sym (members_alone link p n (has_addresses q.value_type) q.protocol q.direction m)))
 kept_with q v m group (numbered l empty ms h) g w =
     let f = fits_in q group group.entries l g in
     numbered (omega arith) empty (group.first ∷ ms)
     (held_put q v m group (group.first ∷ ms) w h.ascends h.all_within h.all_count (λ plain. (h.points plain).1)
     (subst (λ k. length group.entries * k ≤ group_tests group) f.tests_are h.counted) (λ l. f.merged)
-    (λ link p n. ap (either (member_reads link p n q.value_type q.protocol q.direction m)) (h.rows link p n ∙ f.reads_are link p n group.first ms)
-    ∙ sym (members_more link p n q.value_type q.protocol q.direction m group.first ms f.merged)))
+    (λ link p n. ap (either (member_reads link p n (has_addresses q.value_type) q.protocol q.direction m)) (h.rows link p n ∙ f.reads_are link p n group.first ms)
+    ∙ sym (members_more link p n (has_addresses q.value_type) q.protocol q.direction m group.first ms f.merged)))
 kept_with q v m group (listed l h) g w = absurd (let none = ap is_none (sym h.is_first) ∙ (fits_in q group group.entries l g).none in cc)
 
 -- what has so many tests and this formula is a case
@@ -461,25 +419,11 @@ Cased link d c tests f = (same_words d c c ≡ true) × (length (case_front link
 abbrev IsCase : Link → ValueType → Option Protocol → Direction → Value → Case → Type 0
 IsCase link k o d v c = Cased link d c (count.typed_tests k o d v) (value_formula link k o d v)
 
-self_number : (x : ℕ) → (x == x) ≡ true
-self_number x = grind (arith, nat_tests)
-
 case_is : (link : Link) (k : ValueType) (o : Option Protocol) (d : Direction) (v : Value) → Each (case_of k o d v) (IsCase link k o d v)
-case_is link Host o (direction.One Source) (value.Mac a) = (refl, omega arith, λ p n. refl)
-case_is link Host o (direction.One Destination) (value.Mac a) = (refl, omega arith, λ p n. refl)
-case_is link Host o (direction.Both Or) (value.Mac a) = (self_number (a / 2 ^ 16), omega arith, λ p n. refl)
-case_is link Host o (direction.One Source) (value.Ip6 a m) = (refl, omega arith, λ p n. refl)
-case_is link Host o (direction.One Destination) (value.Ip6 a m) = (refl, omega arith, λ p n. refl)
-case_is link Host o (direction.Both Or) (value.Ip6 a m) = (self_number (a / 2 ^ 32), omega arith, λ p n. refl)
-case_is link Net o (direction.One Source) (value.Ip6 a m) = (refl, omega arith, λ p n. refl)
-case_is link Net o (direction.One Destination) (value.Ip6 a m) = (refl, omega arith, λ p n. refl)
-case_is link Proto (Some Ip) d (value.Number x m) = (refl, omega arith, λ p n. refl)
-case_is link Proto (Some protocol.Ip6) d (value.Number x m) = (refl, omega arith, λ p n. refl)
-case_is link _ o d _ = tt
+case_is link k o d v = grind (arith, nat_tests)
 
 fronts_few : (link : Link) (p : Protocol) → length (accessor_tests link p) + 1 ≤ accessor_test_count p + 1
-fronts_few link Tcp = omega arith
-fronts_few link _ = omega arith
+fronts_few link p = grind arith
 
 -- where a case is put among others
 abbrev place : Case → List Case → ℕ
@@ -524,10 +468,7 @@ listed_put q e c kind group its likes like count few rows_are = record {
 -- what is known where a case goes with members
 case_fits : (c : Case) (d : Direction) (group : Group) (es : List Entry) → 0 < length es → case_goes_with c d group es ≡ true
     → (shares_words d c group.case ≡ true) × (group.qualifiers.direction ≡ d)
-case_fits c d group [] l g = absurd (omega arith)
-case_fits c d group (e ∷ es) l g =
-    let a = and_parts (shares_words d c group.case) _ g in
-    (a.0, (directions_are d group.qualifiers.direction (and_parts (same_direction d group.qualifiers.direction) _ a.1).0).0)
+case_fits c d group es l g = grind (arith, directions_are)
 
 kept_with_case : (q : CompleteQualifiers) (e : Entry) (c : Case) (group : Group) → Kept group → case_goes_with c q.direction group group.entries ≡ true
     → ((link : Link) → Cased link q.direction c (entry_tests e) (entry_formula link e)) → Kept (with_case q e c group)
@@ -541,8 +482,7 @@ kept_with_case q e c group (nothing none all empty alone) g w =
     ap (λ es. either one (reads link (rows_formula link es) p n)) none ∙ or_no one
     ∙ ap (both (all_read link p n (case_front link c)))
     (sym (ap (λ cs. list_read b link q.direction c (insert_case c cs) p n) empty ∙ list_alone b link q.direction c p n))))
-kept_with_case q e c group (numbered l empty ms h) g w =
-    absurd (let none = ap (shares_words q.direction c) (sym empty) ∙ (case_fits c q.direction group group.entries l g).0 in cc)
+kept_with_case q e c group (numbered l empty ms h) g w = grind (arith, case_fits)
 kept_with_case q e c group (listed l h) g w =
     let fit = case_fits c q.direction group group.entries l g in
     let j = subst (λ d. Listed d group) fit.1 h in
@@ -609,8 +549,7 @@ module _ (link : Link) (group more : Group) (k : Kept group) where
       (self_relation r, fronts_few l r.protocol, λ p n. refl))) refl some
 
 sized_sizes : (s : Size) (n : ℕ) → Sized (sized_formula s n) 2 1 1
-sized_sizes Size.Less n = record { nodes_fit = omega arith; words_fit = omega arith; short_fit = omega arith; light_fit = omega arith }
-sized_sizes _ n = record { nodes_fit = omega arith; words_fit = omega arith; short_fit = omega arith; light_fit = omega arith }
+sized_sizes s n = grind arith
 
 -- an entry, or a truth that is none
 leaf_stands : (link : Link) (a : TruthTree) (f : Formula) (group : Group) → Kept group → Sized f (count.truth_size a) (count.truth_words a)
@@ -622,23 +561,15 @@ leaf_stands link a f group k sizes same (Some e) is = by (larger_group e group) 
     by : (o : Option Group) → larger_group e group ≡ o → Stands link (choice o (group_formula link) (or_group link (entry_formula link e) group)) a group
     by None none =
         let b = entry_bare link e in
-        or_stands link (entry_formula link e) a group k
-        (record {
-          nodes_fit = omega (arith, b.nodes_fit);
-          words_fit = omega (arith, b.words_fit);
-          short_fit = omega (arith, b.short_fit, is.few);
-          light_fit = omega (arith, b.light_fit, is.few);
-        }) is.same
+        let few = is.few in
+        or_stands link (entry_formula link e) a group k (omega arith) is.same
     by (Some more) some =
         let t = taken link group more k e some in
         let b = group_bare link more t.kept t.some in
+        let few = is.few in
+        let tests = t.tests_fit in
         record {
-          counts = record {
-            nodes_fit = omega (arith, b.nodes_fit);
-            words_fit = omega (arith, b.words_fit);
-            short_fit = omega (arith, b.short_fit, t.tests_fit, is.few);
-            light_fit = omega (arith, b.light_fit, t.tests_fit, is.few);
-          };
+          counts = omega arith;
           reads_are = λ p n. t.reads_are p n ∙ ap (λ r. either r (reads link (group_formula link group) p n)) (is.same p n);
         }
 
@@ -646,26 +577,17 @@ leaf_stands link a f group k sizes same (Some e) is = by (larger_group e group) 
 module _ (link : Link) (a b : TruthTree) (group : Group) (k : Kept group) (f : Group → Formula) (g : Formula)
     (h : (more : Group) → Kept more → Stands link (f more) a more) (m : Stands link g b group) where
   parted : Stands link (Either (f no_group) g) (joined Or a b) group
-  parted =
-      let s = h no_group kept_none in
-      record {
-        counts = bare_within _ (omega arith) (bare_either s.counts m.counts);
-        reads_are = λ p n. ap₂ either (s.reads_are p n ∙ or_no (reads link (formula link a) p n)) (m.reads_are p n)
-            ∙ sym (either_assoc (reads link (formula link a) p n) (reads link (formula link b) p n) (reads link (group_formula link group) p n));
-      }
+  parted = grind (arith, kept_none, bare_within, bare_either, or_no, either_assoc)
 
   -- both with a group that the second one joins
   joins : (e : Entry) → IsEntry link b e → (old more : Group) → Kept old → larger_group e old ≡ Some more → Stands link (f more) (joined Or a b) old
   joins e is old more kept some =
       let t = taken link old more kept e some in
       let s = h more t.kept in
+      let few = is.few in
+      let tests = t.tests_fit in
       record {
-        counts = record {
-          nodes_fit = omega (arith, s.nodes_fit);
-          words_fit = omega (arith, s.words_fit);
-          short_fit = omega (arith, s.short_fit, t.tests_fit, is.few);
-          light_fit = omega (arith, s.light_fit, t.tests_fit, is.few);
-        };
+        counts = omega (arith, s.counts);
         reads_are = λ p n. s.reads_are p n ∙ ap (either (reads link (formula link a) p n))
             (t.reads_are p n ∙ ap (λ r. either r (reads link (group_formula link old) p n)) (is.same p n))
             ∙ sym (either_assoc (reads link (formula link a) p n) (reads link (formula link b) p n) (reads link (group_formula link old) p n));
@@ -702,7 +624,7 @@ grouped_stands link (compared c l r) group k u =
 grouped_stands link (denied a) group k u =
     let h = grouped_stands link a no_group kept_none u in
     or_stands link (Except (grouped_formula link no_group a)) (denied a) group k
-    (record { nodes_fit = h.nodes_fit; words_fit = h.words_fit; short_fit = omega (arith, h.short_fit); light_fit = omega (arith, h.light_fit) })
+    (omega (arith, h.counts))
     (λ p n. ap negation (h.reads_are p n ∙ or_no _))
 grouped_stands link (joined And a b) group k u =
     let parts = or_parts (any_primitive is_unfilled a) (any_primitive is_unfilled b) u in

@@ -1,23 +1,22 @@
 -- The code of a formula, in front of other code, which still stands at its end: it has no fault and
 -- no jump, and no more instructions and branches than are counted.
 use Rattle.flt_bpf.proofs.Codes.{code_is}
-use Rattle.flt_gen.proofs.Common.{accessor_offset, alu_operation, ◌≡◌, ℕ, ◌+◌, ◌-◌, ◌*◌, ◌<◌, ◌≤◌, List, [], ◌∷◌, length}
-use Rattle.flt_gen.proofs.Common.{Bool, true, false, cond, Option, Some, None, refl, sym, ap, ◌∙◌, arith, ◌≢◌, nat_lt}
-use Rattle.flt_gen.proofs.Common.{◌&&◌, if◌then◌else◌, count_by, nat_tests, sum_by-cons, All-cons, Insn, Operand, Constant, IndexRegister, Operation}
-use Rattle.flt_gen.proofs.Common.{LoadAbsolute, LoadIndirect, Load, LoadHeaderLength, Store, Compute, Negate, Jump, JumpIf, CopyToIndex, Accumulator}
-use Rattle.flt_gen.proofs.Common.{Index, Immediate, Memory, Length, Test, Width, fault_if_known, operation_fault, unless, ends_in_return, IsValidUnlessLong}
-use Rattle.flt_gen.proofs.Common.{code_of, is_branch, JUMP, HasNoJump, Comparison, Equal, NotEqual, Less, AtMost, Greater, AtLeast, Operator, Protocol, Tcp}
-use Rattle.flt_gen.proofs.Common.{Udp, Icmp, number_words, number_size, NumberTree, literal, len, named, load, negated, applied, Link, network_offset}
-use Rattle.flt_gen.proofs.Common.{Elementary, Outcome, Field, Offset, Fixed, AfterHeader, width_of, Formula, Single, Compare, Both, Either, Except, Split}
-use Rattle.flt_gen.proofs.Common.{AtIndex, plain, computation, takes_constant, constant, constant_operand, branch_insn, emit_branch, emit_comparison}
-use Rattle.flt_gen.proofs.Common.{emit_field, emit_mask, emit_accessor, emit_base, emit_number, Block, at_top, emit_test, emit_after, emit_formula, words}
-use Rattle.flt_gen.proofs.Common.{nodes, tests, test_count, place_loads, mask_loads, field_loads, test_loads, loads, is_loaded, nothing}
+use Rattle.flt_gen.proofs.Common.{accessor_offset, ◌≡◌, ℕ, ◌+◌, ◌-◌, ◌*◌, ◌<◌, ◌≤◌, List, [], ◌∷◌, length, Bool, true, false, cond, Option, Some, None, refl}
+use Rattle.flt_gen.proofs.Common.{ap, ◌∙◌, arith, ◌≢◌, nat_lt, ◌&&◌, if◌then◌else◌, count_by, nat_tests, sum_by-cons, All-cons, Insn, Operand, Constant}
+use Rattle.flt_gen.proofs.Common.{IndexRegister, Operation, LoadAbsolute, LoadIndirect, Load, LoadHeaderLength, Store, Compute, Negate, Jump, JumpIf}
+use Rattle.flt_gen.proofs.Common.{CopyToIndex, Accumulator, Index, Immediate, Memory, Length, Test, Width, operation_fault, unless, ends_in_return}
+use Rattle.flt_gen.proofs.Common.{IsValidUnlessLong, code_of, is_branch, JUMP, HasNoJump, Comparison, Equal, NotEqual, Less, AtMost, Greater, AtLeast, Operator}
+use Rattle.flt_gen.proofs.Common.{Protocol, Tcp, Udp, Icmp, number_words, number_size, NumberTree, literal, len, named, load, negated, applied, Link}
+use Rattle.flt_gen.proofs.Common.{network_offset, Elementary, Outcome, Field, Offset, Fixed, AfterHeader, width_of, Formula, Single, Compare, Both, Either}
+use Rattle.flt_gen.proofs.Common.{Except, Split, AtIndex, plain, computation, takes_constant, constant, constant_operand, branch_insn, emit_branch}
+use Rattle.flt_gen.proofs.Common.{emit_comparison, emit_field, emit_mask, emit_accessor, emit_base, emit_number, Block, at_top, emit_test, emit_after}
+use Rattle.flt_gen.proofs.Common.{emit_formula, words, nodes, tests, test_count, place_loads, mask_loads, field_loads, test_loads, loads, is_loaded, left_by}
+use Rattle.flt_gen.proofs.Common.{FieldPlace}
 use Rattle.flt_gen.proofs.{Counted.place_few, Numbers.operand_is}
 use Rattle.flt_gen.proofs.Leads.{Extends, extends_none, extends_put, extends_on, by_operand}
-use Rattle.flt_bpf.specs.{Check.constant_fault, Check.fault_of, Instructions.operation_of}
+use Rattle.flt_bpf.specs.{Check.fault_of, Instructions.operation_of}
 use Rattle.flt_bpf.specs.declared.fault.CheckFault.{CheckFault, TheVariants.JumpOut, TheVariants.NoSuchWord}
 use Rattle.flt_bpf.specs.declared.operation.AluOperation.{AluOperation}
-use Rattle.std.specs.Option.{is_none}
 
 abbrev pub branches : List Insn → ℕ
 branches c = count_by (λ i. is_branch (operation_of i.code)) c
@@ -36,10 +35,7 @@ ends_put i c e = grind arith
 
 no_jump : (o : Operation) (i : Insn) → i.code ≡ code_of o → jumps (Some o) ≡ false → i.code ≢ JUMP
 unfolding operation_of
-no_jump o i e other j =
-    let same : Some o ≡ Some Jump = sym (code_is o) ∙ ap operation_of (sym e ∙ j) in
-    let yes : jumps (Some o) ≡ true = ap jumps same in
-    absurd (let no : true ≡ false = sym yes ∙ other in cc)
+no_jump o i e other j = grind (arith, code_is)
 
 branch_count : (o : Operation) (i : Insn) (c : List Insn) → i.code ≡ code_of o → branches (i ∷ c) ≡ cond (is_branch (Some o)) 1 0 + branches c
 branch_count o i c e =
@@ -48,13 +44,7 @@ branch_count o i c e =
 sound_put : (o : Operation) (i : Insn) (c : List Insn) → i.code ≡ code_of o → jumps (Some o) ≡ false → operation_fault o i (length c) ≡ None → Sound c
     → Sound (i ∷ c)
 unfolding fault_of
-sound_put o i c e other f s = record {
-  valid = record {
-    faultless = (ap (λ x. fault_if_known x i (length c)) (ap operation_of e ∙ code_is o) ∙ f, s.valid.faultless);
-    ends = ends_put i c s.valid.ends;
-  };
-  no_jump = All-cons (λ j. j.code ≢ JUMP) i c (no_jump o i e other) s.no_jump;
-}
+sound_put o i c e other f s = grind (arith, code_is, ends_put, All-cons)
 
 -- what is known if it is asked for
 abbrev pub Asked : Bool → Type 0 → Type 0
@@ -105,11 +95,7 @@ word_fine k l = grind (arith, nat_tests)
 
 constant_fine : (operator : Operator) (k m : ℕ) → takes_constant operator k ≡ true → operation_fault (computation operator Constant)
     (plain (computation operator Constant) k) m ≡ None
-constant_fine operator k m t = none_is (constant_fault (alu_operation operator) k) t
-  where
-    none_is : (o : Option CheckFault) → is_none o ≡ true → o ≡ None
-    none_is None e = refl
-    none_is (Some fault) e = cc
+constant_fine operator k m t = grind arith
 
 module _ (b : Bool) where
   pub none_by : {c : List Insn} → Asked b (Sound c) → GrowsBy b c c 0 0
@@ -130,8 +116,7 @@ module _ (b : Bool) where
       }
 
   inside_on : {c d : List Insn} {m w : ℕ} (place : ℕ) → GrowsBy b c d m w → Asked b (Inside c place) → Asked b (Inside d place)
-  inside_on {c = c} place g =
-      asked b (λ (h : Inside c place). record { low = h.low; upper_bound = omega (arith, g.tail.longer, h.upper_bound) })
+  inside_on {c = c} place g = grind (arith, asked)
 
   pub branch_grows : (t : Test) (operand : Operand) (k hit miss : ℕ) (c : List Insn) → Asked b (Sound c) → Asked b (Inside c hit)
       → Asked b (Inside c miss) → GrowsBy b c (emit_branch t operand k hit miss c) 1 3
@@ -196,8 +181,7 @@ module _ (b : Bool) where
   number_grows link (literal k) slot few g = grows_more _ _ (omega arith) (omega arith) (grows_put (Load Accumulator Immediate) k refl refl refl g)
   number_grows link (named k) slot few g = grows_more _ _ (omega arith) (omega arith) (grows_put (Load Accumulator Immediate) k refl refl refl g)
   number_grows link len slot few g = grows_more _ _ (omega arith) (omega arith) (grows_put (Load Accumulator Length) 0 refl refl refl g)
-  number_grows link (negated a) slot few g =
-      grows_more _ _ (omega arith) (omega arith) (number_grows link a slot few (grows_put Negate 0 refl refl refl g))
+  number_grows link (negated a) slot few g = grind (arith, grows_more, number_grows link a slot few (grows_put Negate 0 refl refl refl g), grows_put)
   number_grows link (load protocol size i) slot {c = c} {d = d} {m = m} {w = w} few g =
       by_operand (λ code. GrowsBy b c code (m + 6 * number_size (load protocol size i)) (w + 6 * number_size (load protocol size i))) (constant i) _ _
       (λ k is. grows_more _ _ (omega arith) (omega arith) (place_grows (accessor_offset link protocol k) (width_of size) g))
@@ -221,17 +205,9 @@ module _ (b : Bool) where
 
   -- one part of the code in front of another
   fits_on : {c d : List Insn} {e : Block} {m w m' w' : ℕ} → GrowsBy b c d m w → FitsBy b d e m' w' → FitsBy b c e (m + m') (w + w')
-  fits_on a f = record {
-    grows = record {
-      sound = f.grows.sound;
-      tail = extends_on a.tail f.grows.tail;
-      shorter = omega (arith, a.shorter, f.grows.shorter);
-      lighter = omega (arith, a.lighter, f.grows.lighter);
-    };
-    entry = f.entry;
-  }
+  fits_on a f = grind (arith, extends_on)
 
-  test_fits : (held t : Elementary) (hit miss : ℕ) (c : List Insn) → Asked b (Sound c) → Asked b (Inside c hit) → Asked b (Inside c miss)
+  test_fits : (held : Option FieldPlace) (t : Elementary) (hit miss : ℕ) (c : List Insn) → Asked b (Sound c) → Asked b (Inside c hit) → Asked b (Inside c miss)
       → FitsBy b c (emit_test held t hit miss c) (test_loads held t + test_count t) (test_loads held t + 3 * test_count t)
   test_fits held (Outcome true) hit miss c s h m = record { grows = none_by s; entry = h }
   test_fits held (Outcome false) hit miss c s h m = record { grows = none_by s; entry = m }
@@ -248,10 +224,10 @@ module _ (b : Bool) where
       by true = fits_top g
       by false = more_by _ _ (omega arith) (omega arith) (fits_top (field_grows t.offset t.width (mask_grows t.mask g)))
 
-  pub emitted_by : (held : Elementary) (link : Link) (f : Formula) (hit miss : ℕ) (c : List Insn) → words f ≤ 16 → Asked b (Sound c)
+  pub emitted_by : (held : Option FieldPlace) (link : Link) (f : Formula) (hit miss : ℕ) (c : List Insn) → words f ≤ 16 → Asked b (Sound c)
       → Asked b (Inside c hit) → Asked b (Inside c miss) → FitsBy b c (emit_after held link f hit miss c) (loads held f + tests f + 6 * nodes f)
       (loads held f + 3 * tests f + 6 * nodes f)
-  emitted_by held link (Single t) hit miss c few s h m = more_by _ _ (omega arith) (omega arith) (test_fits nothing t hit miss c s h m)
+  emitted_by held link (Single t) hit miss c few s h m = more_by _ _ (omega arith) (omega arith) (test_fits None t hit miss c s h m)
   emitted_by held link (Compare comparison l r) hit miss c few s h m =
       more_by _ _ (omega arith) (omega arith)
       (fits_top
@@ -264,19 +240,20 @@ module _ (b : Bool) where
       (operands_grow 0 (omega arith) (comparison_grows comparison IndexRegister 0 hit miss c s h m))))))))
   emitted_by held link (Both x y) hit miss c few s h m =
       let e = emit_formula link y hit miss c in
-      let f = emitted_by nothing link y hit miss c (omega arith) s h m in
+      let f = emitted_by None link y hit miss c (omega arith) s h m in
       more_by _ _ (omega arith) (omega arith)
-      (fits_on f.grows (emitted_by nothing link x e.entry miss e.code (omega arith) f.grows.sound f.entry (inside_on _ f.grows m)))
+      (fits_on f.grows (emitted_by None link x e.entry miss e.code (omega arith) f.grows.sound f.entry (inside_on _ f.grows m)))
   emitted_by held link (Either x y) hit miss c few s h m =
       let e = emit_formula link y hit miss c in
-      let f = emitted_by nothing link y hit miss c (omega arith) s h m in
+      let f = emitted_by None link y hit miss c (omega arith) s h m in
       more_by _ _ (omega arith) (omega arith)
-      (fits_on f.grows (emitted_by nothing link x hit e.entry e.code (omega arith) f.grows.sound (inside_on _ f.grows h) f.entry))
-  emitted_by held link (Except a) hit miss c few s h m = emitted_by nothing link a miss hit c few s m h
+      (fits_on f.grows (emitted_by None link x hit e.entry e.code (omega arith) f.grows.sound (inside_on _ f.grows h) f.entry))
+  emitted_by held link (Except a) hit miss c few s h m = emitted_by None link a miss hit c few s m h
   emitted_by held link (Split t x y) hit miss c few s h m =
-      let no = emit_after t link y hit miss c in
-      let yes = emit_after t link x hit miss no.code in
-      let f = emitted_by t link y hit miss c (omega arith) s h m in
-      let g = emitted_by t link x hit miss no.code (omega arith) f.grows.sound (inside_on _ f.grows h) (inside_on _ f.grows m) in
+      let left = left_by t in
+      let no = emit_after left link y hit miss c in
+      let yes = emit_after left link x hit miss no.code in
+      let f = emitted_by left link y hit miss c (omega arith) s h m in
+      let g = emitted_by left link x hit miss no.code (omega arith) f.grows.sound (inside_on _ f.grows h) (inside_on _ f.grows m) in
       more_by _ _ (omega arith) (omega arith)
       (fits_on (fits_on f.grows g).grows (test_fits held t yes.entry no.entry yes.code g.grows.sound g.entry (inside_on _ g.grows f.entry)))

@@ -16,15 +16,14 @@ held_number : (a : NumberTree) (need : ℕ) (held d : List Node) → hold (suc n
 held_number (load p s a) need held d = held_number a need (Node.Load p s ∷ held) d
 held_number (negated a) need held d = held_number a need (Node.Negate ∷ held) d
 held_number (applied o a b) need held d =
-    held_number b (suc need) (Node.Apply o ∷ held) (number_onto a d) ∙ held_number a need (number_nodes b (Node.Apply o ∷ held)) d
+    grind (arith, held_number b (suc need) (Node.Apply o ∷ held) (number_onto a d), held_number a need (number_nodes b (Node.Apply o ∷ held)) d)
 held_number _ need held d = refl
 
 pub held_truth : (a : TruthTree) (need : ℕ) (held d : List Node) → hold (suc need) held (truth_onto a d) ≡ hold need (truth_nodes a held) d
-held_truth (compared c a b) need held d =
-    held_number b (suc need) (Node.Compare c ∷ held) (number_onto a d) ∙ held_number a need (number_nodes b (Node.Compare c ∷ held)) d
+held_truth (compared c a b) need held d = grind (arith, held_number)
 held_truth (denied a) need held d = held_truth a need (Node.Not ∷ held) d
 held_truth (joined j a b) need held d =
-    held_truth b (suc need) (Node.Join j ∷ held) (truth_onto a d) ∙ held_truth a need (truth_nodes b (Node.Join j ∷ held)) d
+    grind (arith, held_truth b (suc need) (Node.Join j ∷ held) (truth_onto a d), held_truth a need (truth_nodes b (Node.Join j ∷ held)) d)
 held_truth _ need held d = refl
 
 back_number : (a : NumberTree) (held ns : List Node) → put_back (number_nodes a held) ns ≡ put_back held (number_onto a ns)

@@ -1,7 +1,7 @@
 -- Code that grew in front still stands at its end; what its first instruction does; and where it
 -- leads: its answer from a place on.
-use Rattle.flt_gen.proofs.Common.{constant_or, ◌≡◌, ℕ, suc, ◌-◌, ◌≤◌, List, ◌∷◌, length, drop, Option, Some, refl, sym, ap, ◌∙◌, arith, Insn, State}
-use Rattle.flt_gen.proofs.Common.{Operation, plain, answer_of, answer_after, answer_drop, code_of, does, does_if_known}
+use Rattle.flt_gen.proofs.Common.{constant_or, ◌≡◌, ℕ, ◌-◌, ◌≤◌, List, ◌∷◌, length, drop, Option, Some, refl, sym, ap, ◌∙◌, arith, Insn, State, Operation}
+use Rattle.flt_gen.proofs.Common.{plain, answer_of, answer_after, answer_drop, code_of, does, does_if_known}
 use Rattle.flt_bpf.proofs.Codes.{code_is}
 use Rattle.flt_bpf.specs.{Instructions.operation_of, Machine.step}
 
@@ -14,19 +14,10 @@ pub extends_none : (c : List Insn) → Extends c c
 extends_none c = record { longer = omega arith; same = λ place l. refl }
 
 pub extends_put : {c d : List Insn} (i : Insn) → Extends c d → Extends c (i ∷ d)
-extends_put {d = d} i e =
-    record {
-      longer = omega (arith, e.longer);
-      same = λ place l. (let more : length (i ∷ d) - place ≡ suc (length d - place) = omega (arith, e.longer) in ap (λ k. drop k (i ∷ d)) more)
-          ∙ e.same place l;
-    }
+extends_put {d = d} i e = grind arith
 
 pub extends_on : {c d f : List Insn} → Extends c d → Extends d f → Extends c f
-extends_on a b =
-    record {
-      longer = omega (arith, a.longer, b.longer);
-      same = λ place l. b.same place (omega (arith, a.longer)) ∙ a.same place l;
-    }
+extends_on a b = grind arith
 
 -- by a constant operand or index
 pub by_operand : (P : List Insn → Type 0) (o : Option ℕ) (short : ℕ → List Insn) (long : List Insn) → ((k : ℕ) → o ≡ Some k → P (short k)) → P long
@@ -58,10 +49,7 @@ module _ (p : List ℕ) (n : ℕ) where
     pub by : (s : State) → P s → answer_of c p n (length c - place) s ≡ Some v
 
   pub leads_top : {P : State → Type 0} (c : List Insn) (v : ℕ) → Tops P c v → Leads P c (length c) v
-  leads_top c v h = record {
-    inside = omega arith;
-    by = λ s q. (let none : length c - length c ≡ 0 = omega arith in ap (λ k. answer_of c p n k s) none) ∙ h s q;
-  }
+  leads_top c v h = grind arith
 
   -- it does so in more code
   pub leads_on : {P : State → Type 0} {c d : List Insn} {place v : ℕ} → Extends c d → Leads P c place v → Leads P d place v

@@ -1,7 +1,6 @@
 -- A mask of 128 bits, by the four words in which it stands.
-use Rattle.flt_gen.proofs.Ascending.{if_case}
-use Rattle.flt_gen.proofs.Common.{◌≡◌, ℕ, ◌+◌, ◌-◌, ◌*◌, ◌^◌, ◌<◌, ◌≤◌, [], ◌∷◌, map, refl, ap, arith, Option, None, Some, ⊎_elim, cases_lt, pow-add}
-use Rattle.flt_gen.proofs.Common.{first_bits, ip6_mask, word_mask, ◌==◌, unwrap_or, nat_tests, partial_mask, ip6_tests}
+use Rattle.flt_gen.proofs.Common.{◌≡◌, ℕ, ◌+◌, ◌-◌, ◌*◌, ◌^◌, ◌<◌, ◌≤◌, [], ◌∷◌, map, ap, arith, Option, ⊎_elim, cases_lt, pow-add, first_bits, ip6_mask}
+use Rattle.flt_gen.proofs.Common.{word_mask, nat_tests, ip6_tests}
 use Rattle.std.proofs.Math.Pow.{pow_mono}
 use Rattle.std.specs.Int.Digits.{number_from_digits}
 
@@ -38,11 +37,5 @@ masks_join bits = joins _ _ _ _ _ (few 0) (few 1) (few 2) (few 3) (omega (
 pub word_power : (word : ℕ) → 2 ^ (96 - 32 * word) < 2 ^ 128
 word_power word = let low : 2 ^ (96 - 32 * word) ≤ 2 ^ 96 = pow_mono {i = 96 - 32 * word} {j = 96} (omega arith) in omega arith
 
--- a mask of all bits, left out, is still that
-partial_is : (m : ℕ) → unwrap_or (partial_mask m) (2 ^ 32 - 1) ≡ m
-partial_is m =
-    if_case (λ o. unwrap_or o (2 ^ 32 - 1) ≡ m) (m == 2 ^ 32 - 1) None (Some m) (λ e. grind (arith, nat_tests)) (λ e. refl)
-
 pub joined : (prefix : Option ℕ) (address at : ℕ) → number_from_digits (2 ^ 32) (map word_mask (ip6_tests prefix address at)) ≡ ip6_mask prefix
-joined None address at = refl
-joined (Some bits) address at = simp partial_is (masks_join bits)
+joined prefix address at = grind (arith, nat_tests, masks_join)

@@ -1,14 +1,14 @@
 -- The test of a kind of network header reads what the packet's network header is.
-use Rattle.flt_gen.proofs.Common.{◌≡◌, get_or-drop, ℕ, ◌+◌, ◌*◌, ◌/◌, ◌%◌, ◌<◌, List, length, drop, Bool, true, false, nat_lt, nat_le, ◌==◌, not, Option, Some}
-use Rattle.flt_gen.proofs.Common.{None, refl, sym, ap, subst, ◌∙◌, arith, if◌then◌else◌, ◌↔◌, ◌^◌, All, bit_and, slice_index, nat_tests, HalfWord}
-use Rattle.flt_gen.proofs.Common.{big_endian_at, Link, MatchResult, Yes, No, Rejected, reading_of, with, elementary_reads, is_at, kind_test, type_test, link_of}
-use Rattle.flt_gen.proofs.Common.{link_type, type_offset, frame_kind, carries_kind, carries}
+use Rattle.flt_gen.proofs.Common.{◌≡◌, get_or-drop, ℕ, ◌+◌, ◌*◌, ◌/◌, ◌%◌, ◌<◌, List, length, drop, Bool, true, nat_le, ◌==◌, Option, Some, None, refl, sym, ap}
+use Rattle.flt_gen.proofs.Common.{subst, ◌∙◌, arith, if◌then◌else◌, ◌↔◌, ◌^◌, All, bit_and, slice_index, nat_tests, HalfWord, big_endian_at, Link, MatchResult}
+use Rattle.flt_gen.proofs.Common.{Yes, No, Rejected, reading_of, with, elementary_reads, is_at, kind_test, type_test, link_of, link_type, type_offset}
+use Rattle.flt_gen.proofs.Common.{frame_kind, carries_kind, carries}
 use Rattle.std.proofs.lemmas.Grind.{and_high_numeral}
 use Rattle.cap_octet.specs.Assigned.{ETHERTYPE_IPV4, ETHERTYPE_IPV6, ETHERTYPE_ARP, ETHERTYPE_RARP}
 use Rattle.cap_octet.specs.Link.{all_links}
-use Rattle.cap_octet.specs.NetworkHeader.{header_after, network_header, header_by_ethertype, header_by_version}
+use Rattle.cap_octet.specs.NetworkHeader.{header_after, network_header, header_by_version}
 use Rattle.cap_octet.specs.Number.{u16_in, number_in}
-use Rattle.cap_octet.specs.declared.{link.Link.TheVariants.Ether, network.NetworkHeader.NetworkHeader}
+use Rattle.cap_octet.specs.declared.{network.NetworkHeader.NetworkHeader}
 use Rattle.cap_octet.specs.declared.network.NetworkHeader.TheVariants.{Known, Short}
 use Rattle.cap_octet.specs.declared.network.NetworkKind.{NetworkKind}
 use Rattle.cap_octet.specs.declared.network.NetworkKind.TheVariants.{Ipv4, Ipv6, Arp, Rarp}
@@ -31,24 +31,12 @@ pub record Agrees (reading : MatchResult) (header : NetworkHeader) (kind : Netwo
 kind_agrees : (header : NetworkHeader) (kind : NetworkKind) (carried : Bool) → Agrees (reads_kind header kind carried) header kind carried
 kind_agrees header kind carried = grind arith
 
--- the first bytes are captured, or they aren't
-captured : (kind : NetworkKind) (long short : Bool) (v : ℕ) (test : ℕ → Bool) (header : NetworkHeader) → short ≡ not long
-    → (long ≡ true → reading_of (Some (test v)) ≡ reads_kind header kind true)
-    → reading_of (with (if long then Some v else None) (λ x. Some (test x))) ≡ reads_kind (if short then Short else header) kind true
-captured kind true false v test header e there = there refl
-captured kind false true v test header e there = refl
-captured kind _ _ v test header e there = cc
-
 -- the type of a header tells its kind
 abbrev type_of : NetworkKind → ℕ
 type_of Ipv4 = ETHERTYPE_IPV4
 type_of Ipv6 = ETHERTYPE_IPV6
 type_of Arp = ETHERTYPE_ARP
 type_of Rarp = ETHERTYPE_RARP
-
-number_reads : (v : ℕ) (kind : NetworkKind) → reading_of (Some (v == type_of kind)) ≡ reads_kind (header_by_ethertype v) kind true
-number_reads v Ipv4 = grind (arith, nat_tests)
-number_reads v _ = grind (arith, nat_tests)
 
 -- raw IP tells it by the version, which the first four bits are
 version_test : (v n m : ℕ) → m ≡ 16 * n → v < 2 ^ 8 → (bit_and v 0xf0 == m) ≡ (v / 16 == n)
@@ -66,22 +54,14 @@ same_number p at =
 
 type_reads : (at : ℕ) (kind : NetworkKind) (p : List ℕ) → elementary_reads (is_at at HalfWord (type_of kind)) p ≡ reads_kind
     (header_after (Some at) p) kind true
-type_reads at kind p =
-    let v = big_endian_at p at HalfWord in
-    let other : nat_lt (length p) (at + 2) ≡ not (nat_le (at + 2) (length p)) = grind (arith, nat_tests) in
-    rw (same_number p at) (captured kind (nat_le (at + 2) (length p)) (nat_lt (length p) (at + 2)) v (λ x. x == type_of kind) (header_by_ethertype v)
-    other (λ long. number_reads v kind))
+type_reads at kind p = grind (arith, nat_tests, same_number)
 
 -- by the version n, which the mask leaves as m
 version_reads : (kind : NetworkKind) (n m : ℕ) → m ≡ 16 * n → ((w : ℕ) → reading_of (Some (w == n)) ≡ reads_kind (header_by_version w) kind true)
     → (p : List ℕ) → All (λ b. b < 2 ^ 8) p
     → reading_of (with (if nat_le (0 + 1) (length p) then Some (slice_index p 0) else None) (λ (x : ℕ). Some (bit_and x 0xf0 == m))) ≡ reads_kind
     (header_after None p) kind true
-version_reads kind n m times is p bytes =
-    let v = slice_index p 0 in
-    let other : (length p == 0) ≡ not (nat_le (0 + 1) (length p)) = grind (arith, nat_tests) in
-    captured kind (nat_le (0 + 1) (length p)) (length p == 0) v (λ x. bit_and x 0xf0 == m) (header_by_version (v / 16)) other
-    (λ long. ap (λ b. reading_of (Some b)) (version_test v n m times (bytes 0 0 (grind (arith, nat_tests)))) ∙ is (v / 16))
+version_reads kind n m times is p bytes = grind (arith, nat_tests, version_test)
 
 by_place : (place : Option ℕ) (kind : NetworkKind) (p : List ℕ) → All (λ b. b < 2 ^ 8) p
     → elementary_reads (type_test place (frame_kind kind)) p ≡ reads_kind (header_after place p) kind (carries_kind place kind)
@@ -95,8 +75,7 @@ by_place None Rarp p bytes = grind (arith, nat_tests)
 -- a link type tells its link
 its_link : (link : Link) → link_of (link_type link) ≡ Some link
 unfolding all_links
-its_link Ether = refl
-its_link _ = refl
+its_link link = grind arith
 
 pub agrees : (link : Link) (kind : NetworkKind) (p : List ℕ) → All (λ b. b < 2 ^ 8) p
     → Agrees (elementary_reads (kind_test link (frame_kind kind)) p) (network_header (link_type link) p) kind (carries link kind)

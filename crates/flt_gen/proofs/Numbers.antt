@@ -1,11 +1,10 @@
 -- What the code of arithmetic does.
-use Rattle.flt_gen.proofs.Common.{LoadAbsolute, accessor_offset, emit_field, ◌≡◌, ℕ, ◌+◌, ◌-◌, ◌%◌, ◌^◌, ◌<◌, ◌≤◌, List, ◌∷◌, length, Bool, true, false, Option}
-use Rattle.flt_gen.proofs.Common.{Some, None, refl, sym, ap, ap₂, ◌∙◌, subst, arith, slice_get, slice_set, nat_lt, if◌then◌else◌, option_map, nat_tests}
-use Rattle.flt_gen.proofs.Common.{get_or-set_same, get_or-set_other, Insn, State, Accumulator, Index, Width, Byte, Operand, Constant, IndexRegister, Goes, Lost}
-use Rattle.flt_gen.proofs.Common.{field, compute, operand_value, into, word_into, header_length, Operator, Protocol, Ether, Tcp, Udp, Icmp, NumberTree, literal}
-use Rattle.flt_gen.proofs.Common.{len, named, load, negated, applied, Link, Offset, Fixed, AfterHeader, AtIndex, with, field_at, network_offset, width_of}
-use Rattle.flt_gen.proofs.Common.{base, result_of, number, number_words, plain, alu_operation, computation, takes_constant, constant, constant_operand}
-use Rattle.flt_gen.proofs.Common.{emit_base}
+use Rattle.flt_gen.proofs.Common.{LoadAbsolute, accessor_offset, emit_field, ◌≡◌, ℕ, ◌+◌, ◌-◌, ◌%◌, ◌^◌, ◌<◌, ◌≤◌, List, ◌∷◌, length, true, Option, Some, None}
+use Rattle.flt_gen.proofs.Common.{refl, sym, ap, ap₂, ◌∙◌, arith, slice_get, slice_set, nat_lt, if◌then◌else◌, option_map, nat_tests, get_or-set_same}
+use Rattle.flt_gen.proofs.Common.{get_or-set_other, Insn, State, Accumulator, Index, Width, Byte, Operand, Constant, IndexRegister, Goes, Lost, field, compute}
+use Rattle.flt_gen.proofs.Common.{operand_value, into, word_into, header_length, Operator, Protocol, Ether, Tcp, Udp, Icmp, NumberTree, literal, len, named}
+use Rattle.flt_gen.proofs.Common.{load, negated, applied, Link, Offset, Fixed, AfterHeader, AtIndex, with, field_at, network_offset, width_of, base, result_of}
+use Rattle.flt_gen.proofs.Common.{number, number_words, plain, alu_operation, computation, takes_constant, constant, constant_operand, emit_base}
 use Rattle.flt_gen.proofs.Common.{emit_transport, emit_accessor, emit_operands, emit_number, answer_of, answer_after, LoadIndirect, Load, LoadHeaderLength}
 use Rattle.flt_gen.proofs.Common.{Store, Negate, CopyToIndex, Immediate, Memory, Length}
 use Rattle.flt_gen.proofs.Leads.{by_operand, run_plain}
@@ -25,8 +24,7 @@ get_set_below xs i j v less l =
 
 -- the machine's arithmetic is that of expressions
 pub computed : (o : Operator) (a b : ℕ) → compute (alu_operation o) a b ≡ result_of o a b
-computed Add a b = refl
-computed _ a b = refl
+computed o a b = grind arith
 
 -- a right operand that is in an instruction is a constant that this may have
 pub record IsConstant (operator : Operator) (r : NumberTree) (k : ℕ) : Type 0 where
@@ -34,15 +32,7 @@ pub record IsConstant (operator : Operator) (r : NumberTree) (k : ℕ) : Type 0 
   pub taken : takes_constant operator k ≡ true
 
 pub operand_is : (operator : Operator) (r : NumberTree) (k : ℕ) → constant_operand operator r ≡ Some k → IsConstant operator r k
-operand_is operator r k e = by_constant (constant r) refl e
-  where
-    by_taken : (j : ℕ) (t : Bool) → constant r ≡ Some j → takes_constant operator j ≡ t → (if t then Some j else None) ≡ Some k → IsConstant operator r k
-    by_taken j true c t f = let same : j ≡ k = cc in record { is = c ∙ f; taken = subst (λ m. takes_constant operator m ≡ true) same t }
-    by_taken j false c t f = cc
-
-    by_constant : (o : Option ℕ) → constant r ≡ o → with o (λ j. if takes_constant operator j then Some j else None) ≡ Some k → IsConstant operator r k
-    by_constant None c f = cc
-    by_constant (Some j) c f = by_taken j (takes_constant operator j) c refl f
+operand_is operator r k e = grind arith
 
 -- the answer for a number; without one the run ends with 0
 abbrev pub answer_for : Option ℕ → (ℕ → ℕ) → ℕ
@@ -50,13 +40,11 @@ answer_for None f = 0
 answer_for (Some v) f = f v
 
 for_with : (o : Option ℕ) (g : ℕ → Option ℕ) (f : ℕ → ℕ) → answer_for o (λ v. answer_for (g v) f) ≡ answer_for (with o g) f
-for_with None g f = refl
-for_with (Some v) g f = refl
+for_with o g f = grind arith
 
 module _ (p : List ℕ) (n : ℕ) where
   pub constant_is : (link : Link) (r : NumberTree) (k : ℕ) → constant r ≡ Some k → number link r p n ≡ Some k
-  constant_is link (literal j) k e = e
-  constant_is link _ k e = cc
+  constant_is link r k e = grind arith
 
   run_operator : (operator : Operator) (operand : Operand) (k : ℕ) (c : List Insn) (s : State)
       → answer_of (plain (computation operator operand) k ∷ c) p n 0 s ≡ answer_after (answer_of c p n)
@@ -89,8 +77,7 @@ module _ (p : List ℕ) (n : ℕ) where
   into_any : (o : Option ℕ) (c : List Insn) (u : State) (f : ℕ → ℕ)
       → ((v : ℕ) → o ≡ Some v → answer_of c p n 0 (record u { accumulator = v }) ≡ Some (f v)) → answer_after (answer_of c p n) (into Accumulator o u)
       ≡ Some (answer_for o f)
-  into_any None c u f h = refl
-  into_any (Some v) c u f h = h v refl
+  into_any o c u f h = grind arith
 
   into_runs : (o : Option ℕ) (c : List Insn) (slot : ℕ) (s u : State) (f : ℕ → ℕ) → Keeps slot s u → GoesOn c slot s f
       → answer_after (answer_of c p n) (into Accumulator o u) ≡ Some (answer_for o f)
@@ -163,21 +150,9 @@ module _ (p : List ℕ) (n : ℕ) where
   accessor_runs link Icmp w c slot v s t f k e h = transport_runs link w c slot v s t f k e h _ refl
   accessor_runs link _ w c slot v s t f k e h = base_runs (network_offset link) w c slot v s t f k e h
 
-  -- the field of an accessor with a constant index
-  header_same : (o : Option ℕ) (l v : ℕ) (w : Width) → with (with o (λ b. Some (header_length b)))
-      (λ x. field p ((x + (l + v) % 2 ^ 32) % 2 ^ 32) w) ≡ with (with (with o (λ b. Some (header_length b))) (λ x. Some (x + l)))
-      (λ at. field p ((at + v) % 2 ^ 32) w)
-  header_same None l v w = refl
-  header_same (Some b) l v w =
-      let x = header_length b in
-      let place : (x + (l + v) % 2 ^ 32) % 2 ^ 32 ≡ (x + l + v) % 2 ^ 32 = omega arith in ap (λ at. field p at w) place
-
   pub indexed_same : (link : Link) (protocol : Protocol) (w : Width) (v : ℕ) → field_at (accessor_offset link protocol v) w p ≡ with
       (base link protocol p) (λ at. field p ((at + v) % 2 ^ 32) w)
-  indexed_same link Tcp w v = header_same _ (network_offset link) v w
-  indexed_same link Udp w v = header_same _ (network_offset link) v w
-  indexed_same link Icmp w v = header_same _ (network_offset link) v w
-  indexed_same link _ w v = refl
+  indexed_same link protocol w v = grind arith
 
   indexed_runs : (link : Link) (protocol : Protocol) (w : Width) (c : List Insn) (slot v : ℕ) (s : State) (f : ℕ → ℕ) → Keeps slot s s
       → GoesOn c slot s f → answer_of (emit_field (accessor_offset link protocol v) w c) p n 0 s ≡ Some

@@ -1,22 +1,15 @@
 -- The tests of a protocol's accessors stand once: the formula reads the same, and has no more
 -- tests.
-use Rattle.flt_gen.proofs.Ascending.{if_case}
-use Rattle.flt_gen.proofs.Common.{◌≡◌, ℕ, ◌+◌, ◌≤◌, List, [], ◌∷◌, true, refl, sym, ap, ◌∙◌, arith, Comparison, Protocol, NumberTree, load, negated}
-use Rattle.flt_gen.proofs.Common.{applied, compared, accessor_test_count, number_tests, truth_tests, Link, Elementary, MatchResult, Yes, elementary_reads}
-use Rattle.flt_gen.proofs.Common.{accessors, accessor_tests, Formula, Compare, both, reads, guarded_formula, checked_formula, nodes, words, equals, length}
-use Rattle.flt_gen.proofs.Common.{without_protocol, protocols_of, relation_formula, formula}
+use Rattle.flt_gen.proofs.Common.{◌≡◌, ℕ, ◌+◌, ◌≤◌, List, [], ◌∷◌, refl, sym, ap, ◌∙◌, arith, Comparison, Protocol, NumberTree, load, negated, applied}
+use Rattle.flt_gen.proofs.Common.{compared, accessor_test_count, number_tests, truth_tests, Link, Elementary, MatchResult, Yes, elementary_reads, accessors}
+use Rattle.flt_gen.proofs.Common.{accessor_tests, Formula, Compare, both, reads, guarded_formula, checked_formula, nodes, words, length, without_protocol}
+use Rattle.flt_gen.proofs.Common.{protocols_of, relation_formula, formula}
 use Rattle.flt_gen.proofs.Counted.{Sized, bare_within, bare_after}
-
-pub equal_are : (p q : Protocol) → equals p q ≡ true → p ≡ q
-equal_are p q e = grind arith
 
 -- tests in front of a formula add neither nodes nor words
 pub guarded_sizes : {f : Formula} {s w n : ℕ} (ts : List Elementary) → Sized f s w n → Sized (guarded_formula ts f) s w (length ts + n)
 guarded_sizes [] h = bare_within _ (omega arith) h
 guarded_sizes (t ∷ ts) h = bare_within _ (omega arith) (bare_after (guarded_sizes ts h))
-
-pub accessor_tests_are : (link : Link) (p : Protocol) → length (accessor_tests link p) ≡ accessor_test_count p
-accessor_tests_are link p = grind arith
 
 -- how many tests the accessors of some protocols have
 abbrev checks : List Protocol → ℕ
@@ -25,8 +18,7 @@ checks (p ∷ ps) = accessor_test_count p + checks ps
 
 checked_sizes : {f : Formula} {s w n : ℕ} (link : Link) (ps : List Protocol) → Sized f s w n → Sized (checked_formula link ps f) s w (checks ps + n)
 checked_sizes link [] h = bare_within _ (omega arith) h
-checked_sizes link (p ∷ ps) h =
-    let t = accessor_tests_are link p in bare_within _ (omega arith) (guarded_sizes (accessor_tests link p) (checked_sizes link ps h))
+checked_sizes link (p ∷ ps) h = grind (arith, bare_within, guarded_sizes, checked_sizes link ps h)
 
 -- no more tests
 without_tests : (p : Protocol) (qs : List Protocol) → checks (without_protocol p qs) ≤ checks qs
@@ -51,10 +43,6 @@ relation_sizes link c l r =
 -- the same reading
 pub both_again : (a b r : MatchResult) → both a (both b r) ≡ both (both a b) r
 both_again a b r = grind arith
-
--- after a test that holds
-if_yes : (a r s : MatchResult) → (a ≡ Yes → r ≡ s) → both a r ≡ both a s
-if_yes a r s h = grind arith
 
 module _ (link : Link) (p : List ℕ) (n : ℕ) where
   abbrev pub all_read : List Elementary → MatchResult
@@ -81,18 +69,11 @@ module _ (link : Link) (p : List ℕ) (n : ℕ) where
 
   without_read : (q : Protocol) (qs : List Protocol) (f : Formula) → told q ≡ Yes → following (without_protocol q qs) f ≡ following qs f
   without_read q [] f sure = refl
-  without_read q (r ∷ qs) f sure =
-      let h = without_read q qs f sure in
-      if_case (λ xs. following xs f ≡ following (r ∷ qs) f) (equals q r) (without_protocol q qs) (r ∷ without_protocol q qs)
-      (λ e. h ∙ sym (one_read r qs f ∙ ap (λ a. both a (following qs f)) (ap told (sym (equal_are q r e)) ∙ sure)))
-      (λ e. one_read r (without_protocol q qs) f ∙ ap (λ a. both (told r) a) h ∙ sym (one_read r qs f))
+  without_read q (r ∷ qs) f sure = grind (arith, without_read q qs f sure, one_read)
 
   protocols_read : (a : NumberTree) (ps qs : List Protocol) (f : Formula) → following ps f ≡ following qs f → following (protocols_of a ps) f ≡
       following (accessors a qs) f
-  protocols_read (load q s a) ps qs f h =
-      one_read q (without_protocol q (protocols_of a ps)) f
-      ∙ if_yes (told q) _ _ (λ sure. without_read q (protocols_of a ps) f sure ∙ protocols_read a ps qs f h)
-      ∙ sym (one_read q (accessors a qs) f)
+  protocols_read (load q s a) ps qs f h = grind (arith, one_read, without_read, protocols_read a ps qs f h)
   protocols_read (negated a) ps qs f h = protocols_read a ps qs f h
   protocols_read (applied o a b) ps qs f h = protocols_read a (protocols_of b ps) (accessors b qs) f (protocols_read b ps qs f h)
   protocols_read _ ps qs f h = h

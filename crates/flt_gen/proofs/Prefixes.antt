@@ -1,9 +1,9 @@
 -- Last bits that don't decide which numbers are in intervals, and networks as intervals.
 use Rattle.flt_gen.proofs.Ascending.{if_case, Apart, apart_less, is_in, is_within}
 use Rattle.flt_gen.proofs.Common.{◌≡◌, ℕ, zero, suc, ◌+◌, ◌-◌, ◌*◌, ◌/◌, ◌%◌, ◌^◌, ◌<◌, ◌≤◌, List, [], ◌∷◌, map, Bool, true, false, Some, None, refl, sym, ap}
-use Rattle.flt_gen.proofs.Common.{ap₂, ◌∙◌, subst, arith, ◌==◌, ◌&&◌, ◌||◌, nat_le, bit_and, if◌then◌else◌, div-mul-le_self, lt-div-mul-add, le-div_iff_mul-le}
-use Rattle.flt_gen.proofs.Common.{mul-le-mul_right, pow-succ', suc-mul, nat_tests, and_parts, and_le_r, pow_pos, first_bits, under_mask, Interval}
-use Rattle.flt_gen.proofs.Common.{partial_mask, is_aligned, idle_bits, left_out, high_mask, cut, interval}
+use Rattle.flt_gen.proofs.Common.{ap₂, ◌∙◌, arith, ◌==◌, ◌&&◌, ◌||◌, nat_le, bit_and, if◌then◌else◌, div-mul-le_self, lt-div-mul-add, le-div_iff_mul-le}
+use Rattle.flt_gen.proofs.Common.{mul-le-mul_right, pow-succ', suc-mul, nat_tests, and_parts, and_le_r, pow_pos, first_bits, under_mask, Interval, partial_mask}
+use Rattle.flt_gen.proofs.Common.{is_aligned, idle_bits, left_out, high_mask, cut, interval}
 use Rattle.flt_gen.proofs.Runs.{one_number}
 use Rattle.std.specs.{Int.Bits.and_zero_r, List.list_all}
 use Rattle.std.proofs.{Common.pow_mono, Math.Nat.div-lt_iff_lt-mul, Math.Nat.div-add-mod, lemmas.Nat.and_mask, lemmas.Nat.Bits.and_high_mask}
@@ -27,21 +27,10 @@ whole : (n J r : ℕ) → n % J ≡ r → n ≡ n / J * J + r
 whole n J r e = let all : J * (n / J) + n % J ≡ n = div-add-mod n J in let turned : J * (n / J) ≡ n / J * J = omega arith in omega arith
 
 blocks_of : (k : ℕ) (i : Interval) → is_aligned (2 ^ k - 1) i ≡ true → Blocks k i
-blocks_of k i e =
-    let t = and_parts (bit_and i.low (2 ^ k - 1) == 0) (bit_and i.high (2 ^ k - 1) == 2 ^ k - 1) e in
-    let low : bit_and i.low (2 ^ k - 1) ≡ 0 = (let u = t.0 in grind (arith, nat_tests)) in
-    let high : bit_and i.high (2 ^ k - 1) ≡ 2 ^ k - 1 = (let u = t.1 in grind (arith, nat_tests)) in
-    let first = whole i.low (2 ^ k) 0 (sym (and_mask i.low k) ∙ low) in
-    record { low_is = omega arith; high_is = whole i.high (2 ^ k) (2 ^ k - 1) (sym (and_mask i.high k) ∙ high) }
+blocks_of k i e = grind (arith, nat_tests, whole, and_mask)
 
 block_order : (k : ℕ) (i : Interval) → Blocks k i → i.low ≤ i.high → i.low ≤ i.high - (2 ^ k - 1)
-block_order k i h l =
-    let low = h.low_is in
-    let high = h.high_is in
-    let some = pow_pos k in
-    let few : i.low / 2 ^ k ≤ i.high / 2 ^ k = (le-div_iff_mul-le some).1 (omega arith) in
-    let less : i.low / 2 ^ k * 2 ^ k ≤ i.high / 2 ^ k * 2 ^ k = mul-le-mul_right (2 ^ k) few in
-    omega arith
+block_order k i h l = grind (arith, pow_pos, le-div_iff_mul-le, mul-le-mul_right)
 
 -- last bits that don't decide
 pub record Idle (last : ℕ) (first : Interval) (is : List Interval) : Type 0 where
@@ -63,11 +52,7 @@ idle_none first is = record { bits = 0; few = omega arith; last_is = refl; first
 
 idle_by : (k : ℕ) (first : Interval) (is : List Interval) → k ≤ 31 → Idle (idle_bits k first is) first is
 idle_by zero first is l = idle_none first is
-idle_by (suc k) first is l =
-    if_case (λ last. Idle last first is) (is_aligned (2 ^ suc k - 1) first && list_all (is_aligned (2 ^ suc k - 1)) is) _ _
-    (λ e. let t = and_parts (is_aligned (2 ^ suc k - 1) first) (list_all (is_aligned (2 ^ suc k - 1)) is) e in
-    record { bits = suc k; few = l; last_is = refl; first_aligned = t.0; all_aligned = t.1 })
-    (λ e. idle_by k first is (omega arith))
+idle_by (suc k) first is l = grind (arith, idle_by k first is (omega arith))
 
 pub idle_sought : (b : Bool) (first : Interval) (is : List Interval) → Idle (left_out b first is) first is
 idle_sought false first is = idle_none first is
@@ -103,9 +88,7 @@ cut_at k x i l e s =
 
 pub cut_in : (last x : ℕ) (first i : Interval) (is : List Interval) → Idle last first is → is_aligned last i ≡ true → Small last x
     → is_in (under_mask (high_mask last) x) (cut last i) ≡ is_in x i
-cut_in last x first i is h e s =
-    subst (λ n. is_aligned n i ≡ true → Small n x → is_in (under_mask (high_mask n) x) (cut n i) ≡ is_in x i) (sym h.last_is)
-    (λ a b. cut_at h.bits x i h.few a b) e s
+cut_in last x first i is h e s = grind (arith, cut_at)
 
 pub cut_within : (last x : ℕ) (first : Interval) (is : List Interval) → Idle last first is → Small last x → is_within (under_mask (high_mask last) x)
     (map (cut last) is) ≡ is_within x is
@@ -119,8 +102,7 @@ cut_within last x first is h s = go is h.all_aligned
 
 pub cut_order : (last : ℕ) (first i : Interval) (is : List Interval) → Idle last first is → is_aligned last i ≡ true → i.low ≤ i.high
     → i.low ≤ (cut last i).high
-cut_order last first i is h e l =
-    subst (λ n. is_aligned n i ≡ true → i.low ≤ i.high - n) (sym h.last_is) (λ a. block_order h.bits i (blocks_of h.bits i a) l) e
+cut_order last first i is h e l = grind (arith, block_order, blocks_of)
 
 pub cut_apart : (last a : ℕ) (first : Interval) (is : List Interval) → Idle last first is → Apart a is → Apart a (map (cut last) is)
 cut_apart last a first is h up = go a is h.all_aligned up
@@ -137,12 +119,7 @@ cut_apart last a first is h up = go a is h.all_aligned up
 
 -- the test of a network's address: its mask leaves the first number of a block
 net_mask : (b : ℕ) → partial_mask (first_bits 32 b) ≡ high_mask (2 ^ (32 - b) - 1)
-net_mask b =
-    let some = pow_pos (32 - b) in
-    let few : 2 ^ (32 - b) ≤ 2 ^ 32 = pow_mono {i = 32 - b} {j = 32} (omega arith) in
-    let all : (first_bits 32 b == 2 ^ 32 - 1) ≡ (2 ^ (32 - b) - 1 == 0) = grind (arith, nat_tests) in
-    let rest : first_bits 32 b ≡ 2 ^ 32 - 1 - (2 ^ (32 - b) - 1) = omega arith in
-    ap₂ (λ t m. if t then None else Some m) all rest
+net_mask b = grind (arith, pow_pos, pow_mono, nat_tests)
 
 pub net_hit : (b a x : ℕ) → x < 2 ^ 32 → bit_and a (first_bits 32 b) ≡ a → (under_mask (partial_mask (first_bits 32 b)) x == a) ≡ is_in x
     (interval a (a + (2 ^ 32 - 1 - first_bits 32 b)))

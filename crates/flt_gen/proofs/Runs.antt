@@ -1,14 +1,13 @@
 -- The code of a formula goes on where the formula's reading says.
 use Rattle.flt_gen.specs.Formula.{choose, Formula, Single, Compare, Both, Either, Except, Split, relation_reads, both, either, negation as exchanged, reads}
 use Rattle.flt_gen.proofs.Ascending.{if_case}
-use Rattle.flt_gen.proofs.Common.{◌≡◌, ℕ, ◌+◌, ◌-◌, ◌≤◌, List, length, Bool, true, false, Option, Some, None, refl, sym, ap, ap₂, ◌∙◌}
-use Rattle.flt_gen.proofs.Common.{arith, nat_le, nat_lt, ◌==◌, not, ◌&&◌, if◌then◌else◌, bit_and, nat_tests, and_parts}
-use Rattle.flt_gen.proofs.Common.{Insn, State, Width, Test, Operand, Constant, IndexRegister, Compute, JumpIf, answer_of}
-use Rattle.flt_gen.proofs.Common.{test_holds, operand_value, Comparison, Equal, NotEqual, Less, AtMost, Greater, AtLeast, number_words, NumberTree, Link}
-use Rattle.flt_gen.proofs.Common.{Offset, Elementary, Outcome, Field, FieldTest, MatchResult, Yes, No, Rejected, reading_of}
-use Rattle.flt_gen.proofs.Common.{with, compares, field_at, under_mask, field_reads, elementary_reads, number, constant, branch_insn, emit_test}
-use Rattle.flt_gen.proofs.Common.{emit_branch, emit_comparison, emit_field, emit_mask, emit_relation, emit_after, emit_formula, words, is_loaded}
-use Rattle.flt_gen.proofs.Common.{nothing, same_offset, same_width, same_mask}
+use Rattle.flt_gen.proofs.Common.{◌≡◌, ℕ, ◌+◌, ◌-◌, ◌≤◌, List, length, Bool, true, false, Option, Some, None, refl, sym, ap, ap₂, ◌∙◌, arith, nat_le, nat_lt}
+use Rattle.flt_gen.proofs.Common.{◌==◌, not, ◌&&◌, if◌then◌else◌, bit_and, nat_tests, and_parts, Insn, State, Width, Test, Operand, Constant, IndexRegister}
+use Rattle.flt_gen.proofs.Common.{Compute, JumpIf, answer_of, test_holds, operand_value, Comparison, Equal, NotEqual, Less, AtMost, Greater, AtLeast}
+use Rattle.flt_gen.proofs.Common.{number_words, NumberTree, Link, Offset, Elementary, Outcome, Field, FieldTest, MatchResult, Yes, No, Rejected, reading_of}
+use Rattle.flt_gen.proofs.Common.{with, compares, field_at, under_mask, field_reads, elementary_reads, number, constant, branch_insn, emit_test, emit_branch}
+use Rattle.flt_gen.proofs.Common.{emit_comparison, emit_field, emit_mask, emit_relation, emit_after, emit_formula, words, is_loaded, left_by, FieldPlace}
+use Rattle.flt_gen.proofs.Common.{same_offset, same_width, same_mask}
 use Rattle.flt_gen.proofs.Grows.{emitted_by}
 use Rattle.flt_gen.proofs.Leads.{by_operand, run, run_plain, HasWords, Tops, Leads, leads_top, leads_on, leads_in, leads_to}
 use Rattle.flt_gen.proofs.Numbers.{answer_for, field_runs, constant_is, operands_run, number_runs}
@@ -57,10 +56,6 @@ Has a s = HasWords s × (s.accumulator ≡ a)
 abbrev HasBoth : ℕ → ℕ → State → Type 0
 HasBoth a b s = HasWords s × (s.accumulator ≡ a) × (s.index ≡ b)
 
--- fields that are the same
-equal : (a b : ℕ) → (a == b) ≡ true → a ≡ b
-equal a b e = grind (arith, nat_tests)
-
 same_offset_is : (a b : Offset) → same_offset a b ≡ true → a ≡ b
 same_offset_is a b e = grind (arith, nat_tests)
 
@@ -101,18 +96,18 @@ module _ (p : List ℕ) (n : ℕ) where
   comparison_tops Greater operand k a b hit miss v w c e f h m = branch_tops Test.Greater operand k a b hit miss v w c e f h m
   comparison_tops AtLeast operand k a b hit miss v w c e f h m = branch_tops Test.AtLeast operand k a b hit miss v w c e f h m
 
-  -- A holds the field of a test, if that is one of a field
-  abbrev Holds : Elementary → State → Type 0
-  Holds (Outcome b) s = Unit {0}
-  Holds (Field t) s = (x : ℕ) × ((field_at t.offset t.width p ≡ Some x) × (s.accumulator ≡ under_mask t.mask x))
+  -- A holds a field, or none
+  abbrev Holds : Option FieldPlace → State → Type 0
+  Holds None s = Unit {0}
+  Holds (Some f) s = (x : ℕ) × ((field_at f.offset f.width p ≡ Some x) × (s.accumulator ≡ under_mask f.mask x))
 
-  abbrev pub After : Elementary → State → Type 0
+  abbrev pub After : Option FieldPlace → State → Type 0
   After held s = HasWords s × Holds held s
 
   -- a test of a field that is the same as one before
-  still_held : (held : Elementary) (t : FieldTest) (s : State) → is_loaded held t ≡ true → Holds held s → Holds (Field t) s
-  still_held (Outcome b) t s e h = cc
-  still_held (Field u) t s e h =
+  still_held : (held : Option FieldPlace) (t : FieldTest) (s : State) → is_loaded held t ≡ true → Holds held s → Holds (left_by (Field t)) s
+  still_held None t s e h = cc
+  still_held (Some u) t s e h =
       let parts = and_parts (same_offset u.offset t.offset) (same_width u.width t.width && same_mask u.mask t.mask) e in
       let more = and_parts (same_width u.width t.width) (same_mask u.mask t.mask) parts.1 in (
         h.0,
@@ -126,8 +121,8 @@ module _ (p : List ℕ) (n : ℕ) where
   abbrev passes : FieldTest → ℕ → Bool
   passes t x = compares t.comparison (under_mask t.mask x) t.value
 
-  compared_tops : (t : FieldTest) (x hit miss v w : ℕ) (c : List Insn) → field_at t.offset t.width p ≡ Some x → Leads p n (After (Field t)) c hit v
-      → Leads p n (After (Field t)) c miss w → Tops p n (Has (under_mask t.mask x)) (emit_comparison t.comparison Constant t.value hit miss c)
+  compared_tops : (t : FieldTest) (x hit miss v w : ℕ) (c : List Insn) → field_at t.offset t.width p ≡ Some x → Leads p n (After (left_by (Field t))) c hit v
+      → Leads p n (After (left_by (Field t))) c miss w → Tops p n (Has (under_mask t.mask x)) (emit_comparison t.comparison Constant t.value hit miss c)
       (if passes t x then v else w)
   compared_tops t x hit miss v w c e h m =
       comparison_tops {P = Has (under_mask t.mask x)} t.comparison Constant t.value (under_mask t.mask x) t.value hit miss v w c (λ s q. q.1) (λ s q. refl)
@@ -140,7 +135,8 @@ module _ (p : List ℕ) (n : ℕ) where
       (q.0, ap (λ y. bit_and y m) q.1)
 
   -- a field is loaded and asked for; where there is none the run ends with 0
-  test_leads : (held t : Elementary) (hit miss v w : ℕ) (c : List Insn) → Leads p n (After t) c hit v → Leads p n (After t) c miss w
+  test_leads : (held : Option FieldPlace) (t : Elementary) (hit miss v w : ℕ) (c : List Insn) → Leads p n (After (left_by t)) c hit v
+      → Leads p n (After (left_by t)) c miss w
       → let e = emit_test held t hit miss c in Leads p n (After held) e.code e.entry (pick (elementary_reads t p) v w)
   test_leads held (Outcome true) hit miss v w c h m = leads_in p n (λ s q. (q.0, tt)) h
   test_leads held (Outcome false) hit miss v w c h m = leads_in p n (λ s q. (q.0, tt)) m
@@ -183,43 +179,44 @@ module _ (p : List ℕ) (n : ℕ) where
       ∙ ap Some (relation_picks (number link l p n) (compares comparison) (number link r p n) v w)
 
   -- code that is entered anyhow, or with nothing in A
-  anyhow : {c : List Insn} {place v : ℕ} (held : Elementary) → Leads p n HasWords c place v → Leads p n (After held) c place v
+  anyhow : {c : List Insn} {place v : ℕ} (held : Option FieldPlace) → Leads p n HasWords c place v → Leads p n (After held) c place v
   anyhow held h = leads_in p n (λ s q. q.0) h
 
-  by_itself : {c : List Insn} {place v : ℕ} → Leads p n (After nothing) c place v → Leads p n HasWords c place v
+  by_itself : {c : List Insn} {place v : ℕ} → Leads p n (After None) c place v → Leads p n HasWords c place v
   by_itself h = leads_in p n (λ s q. (q, tt)) h
 
-  emitted_after : (held : Elementary) (link : Link) (f : Formula) (hit miss v w : ℕ) (c : List Insn) → words f ≤ 16 → Leads p n HasWords c hit v
+  emitted_after : (held : Option FieldPlace) (link : Link) (f : Formula) (hit miss v w : ℕ) (c : List Insn) → words f ≤ 16 → Leads p n HasWords c hit v
       → Leads p n HasWords c miss w → let e = emit_after held link f hit miss c in Leads p n (After held) e.code e.entry (pick (reads link f p n) v w)
   emitted_after held link (Single t) hit miss v w c few h m =
-      anyhow held (by_itself (test_leads nothing t hit miss v w c (anyhow t h) (anyhow t m)))
+      anyhow held (by_itself (test_leads None t hit miss v w c (anyhow (left_by t) h) (anyhow (left_by t) m)))
   emitted_after held link (Compare comparison l r) hit miss v w c few h m =
       anyhow held (leads_top p n (emit_relation link comparison l r hit miss c) _
       (relation_tops link comparison l r hit miss v w c h m (omega arith) (omega arith)))
   emitted_after held link (Both a b) hit miss v w c few h m =
       let e = emit_formula link b hit miss c in
       anyhow held (leads_to p n (pick_both (reads link a p n) (reads link b p n) v w)
-      (by_itself (emitted_after nothing link a e.entry miss (pick (reads link b p n) v w) w e.code (omega arith)
-      (by_itself (emitted_after nothing link b hit miss v w c (omega arith) h m))
-      (leads_on p n (emitted_by false nothing link b hit miss c (omega arith) tt tt tt).grows.tail m))))
+      (by_itself (emitted_after None link a e.entry miss (pick (reads link b p n) v w) w e.code (omega arith)
+      (by_itself (emitted_after None link b hit miss v w c (omega arith) h m))
+      (leads_on p n (emitted_by false None link b hit miss c (omega arith) tt tt tt).grows.tail m))))
   emitted_after held link (Either a b) hit miss v w c few h m =
       let e = emit_formula link b hit miss c in
       anyhow held (leads_to p n (pick_either (reads link a p n) (reads link b p n) v w)
-      (by_itself (emitted_after nothing link a hit e.entry v (pick (reads link b p n) v w) e.code (omega arith)
-      (leads_on p n (emitted_by false nothing link b hit miss c (omega arith) tt tt tt).grows.tail h)
-      (by_itself (emitted_after nothing link b hit miss v w c (omega arith) h m)))))
+      (by_itself (emitted_after None link a hit e.entry v (pick (reads link b p n) v w) e.code (omega arith)
+      (leads_on p n (emitted_by false None link b hit miss c (omega arith) tt tt tt).grows.tail h)
+      (by_itself (emitted_after None link b hit miss v w c (omega arith) h m)))))
   emitted_after held link (Except a) hit miss v w c few h m =
-      anyhow held (leads_to p n (pick_negated (reads link a p n) v w) (by_itself (emitted_after nothing link a miss hit w v c few m h)))
+      grind (arith, anyhow, leads_to, pick_negated, by_itself, emitted_after None link a miss hit w v c few m h)
   emitted_after held link (Split t a b) hit miss v w c few h m =
-      let no = emit_after t link b hit miss c in
-      let yes = emit_after t link a hit miss no.code in
-      let grown = (emitted_by false t link b hit miss c (omega arith) tt tt tt).grows.tail in
+      let left = left_by t in
+      let no = emit_after left link b hit miss c in
+      let yes = emit_after left link a hit miss no.code in
+      let grown = (emitted_by false left link b hit miss c (omega arith) tt tt tt).grows.tail in
       leads_to p n (pick_chosen (elementary_reads t p) (reads link a p n) (reads link b p n) v w)
       (test_leads held t yes.entry no.entry (pick (reads link a p n) v w) (pick (reads link b p n) v w) yes.code
-      (emitted_after t link a hit miss v w no.code (omega arith) (leads_on p n grown h) (leads_on p n grown m))
-      (leads_on p n (emitted_by false t link a hit miss no.code (omega arith) tt tt tt).grows.tail
-      (emitted_after t link b hit miss v w c (omega arith) h m)))
+      (emitted_after left link a hit miss v w no.code (omega arith) (leads_on p n grown h) (leads_on p n grown m))
+      (leads_on p n (emitted_by false left link a hit miss no.code (omega arith) tt tt tt).grows.tail
+      (emitted_after left link b hit miss v w c (omega arith) h m)))
 
   pub emitted_leads : (link : Link) (f : Formula) (hit miss v w : ℕ) (c : List Insn) → words f ≤ 16 → Leads p n HasWords c hit v
       → Leads p n HasWords c miss w → let e = emit_formula link f hit miss c in Leads p n HasWords e.code e.entry (pick (reads link f p n) v w)
-  emitted_leads link f hit miss v w c few h m = by_itself (emitted_after nothing link f hit miss v w c few h m)
+  emitted_leads link f hit miss v w c few h m = by_itself (emitted_after None link f hit miss v w c few h m)

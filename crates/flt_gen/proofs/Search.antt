@@ -3,20 +3,16 @@
 use Rattle.flt_gen.proofs.Ascending.{if_case, is_in, is_within, Apart, Searchable, Reached, Ready, searchable_apart, apart_take, apart_drop, apart_without}
 use Rattle.flt_gen.proofs.Ascending.{length_without, within_without, lower_half, upper_half, first_taken, ends_few, none_below}
 use Rattle.flt_gen.proofs.Common.{◌≡◌, ℕ, zero, suc, ◌+◌, ◌-◌, ◌*◌, ◌/◌, ◌%◌, ◌^◌, ◌<◌, ◌≤◌, List, [], ◌∷◌, length, take, drop, Bool, true, false, Option, Some}
-use Rattle.flt_gen.proofs.Common.{None, refl, ap, ap₂, sym, ◌∙◌, subst, arith, max, nat_le, nat_lt, ◌==◌, not, ◌&&◌, ◌||◌, if◌then◌else◌, take_rest}
-use Rattle.flt_gen.proofs.Common.{length-drop}
-use Rattle.flt_gen.proofs.Common.{length-take, nat_tests, and_parts, or-false, field, Width, Word, HalfWord, Byte, Insn, Interval, Sides, Offset, Fixed}
-use Rattle.flt_gen.proofs.Common.{AfterHeader, AtIndex, FieldPlace, Elementary, MatchResult, Yes, Rejected, reading_of, with, compares, field_at}
-use Rattle.flt_gen.proofs.Common.{under_mask, elementary_reads, Formula, Split, both, either, reads, Link, Direction, Source, Destination, And, Or, Comparison}
-use Rattle.flt_gen.proofs.Common.{Equal, Less, AtMost, AtLeast, Block, emit_after, emit_test, nothing, same_offset, same_width, same_mask, Numbers}
-use Rattle.flt_gen.proofs.Common.{field_test, are_few, low_of, within_formula, sought_formula, first_ends, sought_tests, tests, loads, test_loads}
-use Rattle.flt_gen.proofs.Common.{place_loads, mask_loads, nodes, words, Single, Outcome}
+use Rattle.flt_gen.proofs.Common.{None, refl, ap, ap₂, sym, ◌∙◌, subst, arith, max, nat_le, nat_lt, ◌==◌, not, ◌||◌, if◌then◌else◌, take_rest, length-drop}
+use Rattle.flt_gen.proofs.Common.{length-take, nat_tests, or-false, Width, Insn, Interval, Sides, Offset, FieldPlace, MatchResult, Yes, Rejected, reading_of}
+use Rattle.flt_gen.proofs.Common.{with, compares, field_at, under_mask, elementary_reads, Formula, Split, both, either, reads, Link, Direction, Source}
+use Rattle.flt_gen.proofs.Common.{Destination, And, Or, Comparison, Equal, Less, AtMost, AtLeast, Block, emit_after, emit_test, emit_comparison, emit_field}
+use Rattle.flt_gen.proofs.Common.{emit_mask, at_top, Constant, Numbers, field_test, are_few, low_of, within_formula, sought_formula, first_ends, sought_tests}
+use Rattle.flt_gen.proofs.Common.{tests, loads, test_loads, place_loads, mask_loads, nodes, words, Single, Outcome}
 use Rattle.flt_gen.proofs.Counted.{Bare, bare_within, bare_some, place_few, mask_few}
 use Rattle.flt_gen.proofs.Firsts.{exact, or_yes, by_first}
 use Rattle.flt_gen.proofs.{Exclusive.or_no, Runs.one_number}
-use Rattle.flt_gen.specs.Formula.{choose}
-use Rattle.flt_gen.specs.inside.Search.{chain_of, search, MOST_HALVINGS, few_formula, many_formula, sides_at_index, at_index, index_of, are_alone, are_at_index}
-use Rattle.flt_gen.specs.inside.Search.{fewest_at_index, never, always}
+use Rattle.flt_gen.specs.inside.Search.{held_if, chain_of, search, MOST_HALVINGS, few_formula, many_formula, sides_at_index, at_index, index_of, never, always}
 use Rattle.std.proofs.Math.Nat.{mod-eq_of_lt}
 
 -- ---- the code
@@ -24,30 +20,27 @@ use Rattle.std.proofs.Math.Nat.{mod-eq_of_lt}
 if_is : {A : Type 0} (b c : Bool) (x y : A) → b ≡ c → (if b then x else y) ≡ (if c then x else y)
 if_is b c x y e = ap (λ d. if d then x else y) e
 
-pub search_none : (held : Elementary) (link : Link) (f : FieldPlace) (k : ℕ) (from : Bool) (is : List Interval) (hit miss : ℕ) (c : List Insn) → k ≡ 0
+pub search_none : (held : Option FieldPlace) (link : Link) (f : FieldPlace) (k : ℕ) (from : Bool) (is : List Interval) (hit miss : ℕ) (c : List Insn) → k ≡ 0
     → emit_after held link (search f k from is) hit miss c ≡ emit_after held link (chain_of f from is) hit miss c
 unfolding search
-search_none held link f zero from is hit miss c e = refl
-search_none held link f (suc k) from is hit miss c e = absurd (omega arith)
+search_none held link f k from is hit miss c e = grind arith
 
 few_is : (f : FieldPlace) (k : ℕ) (from : Bool) (is : List Interval) → are_few is ≡ true → search f k from is ≡ chain_of f from is
 unfolding search
-few_is f zero from is e = refl
-few_is f (suc k) from is e = if_is _ true _ _ e
+few_is f k from is e = grind (arith, if_is)
 
-pub search_few : (held : Elementary) (link : Link) (f : FieldPlace) (k : ℕ) (from : Bool) (is : List Interval) (hit miss : ℕ) (c : List Insn)
+pub search_few : (held : Option FieldPlace) (link : Link) (f : FieldPlace) (k : ℕ) (from : Bool) (is : List Interval) (hit miss : ℕ) (c : List Insn)
     → are_few is ≡ true → emit_after held link (search f k from is) hit miss c ≡ emit_after held link (chain_of f from is) hit miss c
 search_few held link f k from is hit miss c e = ap (λ (x : Formula). emit_after held link x hit miss c) (few_is f k from is e)
 
 -- by both parts
-abbrev pub halved : Elementary → Link → FieldPlace → ℕ → Bool → List Interval → List Interval → ℕ → ℕ → List Insn → Block
+abbrev pub halved : Option FieldPlace → Link → FieldPlace → ℕ → Bool → List Interval → List Interval → ℕ → ℕ → List Insn → Block
 halved held link f k from low high hit miss c =
-    let t = field_test f Less (low_of high) in
-    let no = emit_after t link (search f k true high) hit miss c in
-    let yes = emit_after t link (search f k from low) hit miss no.code in
-    emit_test held t yes.entry no.entry yes.code
+    let no = emit_after (held_if true f) link (search f k true high) hit miss c in
+    let yes = emit_after (held_if true f) link (search f k from low) hit miss no.code in
+    emit_test held (field_test f Less (low_of high)) yes.entry no.entry yes.code
 
-pub search_put : (held : Elementary) (link : Link) (f : FieldPlace) (halvings : ℕ) (from : Bool) (is : List Interval) (hit miss : ℕ) (c : List Insn)
+pub search_put : (held : Option FieldPlace) (link : Link) (f : FieldPlace) (halvings : ℕ) (from : Bool) (is : List Interval) (hit miss : ℕ) (c : List Insn)
     → 0 < halvings → are_few is ≡ false → emit_after held link (search f halvings from is) hit miss c ≡ halved held link f (halvings - 1) from
     (take (length is / 2) is) (take (length is - length is / 2) (drop (length is / 2) is)) hit miss c
 unfolding search
@@ -61,6 +54,12 @@ search_put held link f (suc k) from is hit miss c some many =
 -- of a search that isn't halved, and of one that is
 pub ruleset search_steps = (search_none, search_few, search_put)
 
+-- a field that A holds isn't loaded
+pub loaded_if : (b : Bool) (f : FieldPlace) (comparison : Comparison) (v hit miss : ℕ) (c : List Insn)
+    → emit_test (held_if b f) (field_test f comparison v) hit miss c
+    ≡ (let d = emit_comparison comparison Constant v hit miss c in at_top (if b then d else emit_field f.offset f.width (emit_mask f.mask d)))
+loaded_if b f comparison v hit miss c = grind (arith, nat_tests)
+
 -- ---- the reading
 
 -- what is read of a field that is there
@@ -68,16 +67,10 @@ abbrev pub read_by : Option ℕ → (ℕ → Bool) → MatchResult
 read_by o f = reading_of (with o (λ x. Some (f x)))
 
 are_many : (is : List Interval) → are_few is ≡ false → 2 ≤ length is
-are_many (i ∷ j ∷ is) e = omega arith
-are_many _ e = cc
+are_many is e = grind arith
 
 less_is : (a b : ℕ) → nat_lt a b ≡ not (nat_le b a)
 less_is a b = grind (arith, nat_tests)
-
--- by a test, and by what is known where it is yes and where it is no
-by_test : (b inside : Bool) (x y : MatchResult) → (b ≡ true → x ≡ exact inside) → (b ≡ false → y ≡ exact inside) → choose (exact b) x y ≡ exact inside
-by_test true inside x y hit miss = hit refl
-by_test false inside x y hit miss = miss refl
 
 above_first : (x : ℕ) (i : Interval) (is : List Interval) → i.low ≤ x → (is_in x i || is_within x is) ≡ (nat_le x i.high || is_within x is)
 above_first x i is l = grind (arith, nat_tests)
@@ -94,8 +87,7 @@ module _ (link : Link) (p : List ℕ) (n : ℕ) (f : FieldPlace) where
     split_told : (comparison : Comparison) (v : ℕ) (a b : Formula) (inside : Bool)
         → (compares comparison u v ≡ true → reads link a p n ≡ exact inside) → (compares comparison u v ≡ false → reads link b p n ≡ exact inside)
         → reads link (Split (field_test f comparison v) a b) p n ≡ exact inside
-    split_told comparison v a b inside hit miss =
-        ap (λ r. choose r (reads link a p n) (reads link b p n)) (told comparison v) ∙ by_test (compares comparison u v) inside _ _ hit miss
+    split_told comparison v a b inside hit miss = grind arith
 
     chain_told : (from : Bool) (a : ℕ) (is : List Interval) → Apart a is → (from ≡ true → low_of is ≤ u)
         → reads link (chain_of f from is) p n ≡ exact (is_within u is)
@@ -137,32 +129,13 @@ module _ (link : Link) (p : List ℕ) (n : ℕ) (f : FieldPlace) where
 
   -- where it isn't captured
   module _ (is_none : field_at f.offset f.width p ≡ None) where
-    split_lost : (comparison : Comparison) (v : ℕ) (a b : Formula) → reads link (Split (field_test f comparison v) a b) p n ≡ Rejected
-    split_lost comparison v a b =
-        ap (λ o. choose (reading_of (with o (λ y. Some (compares comparison (under_mask f.mask y) v)))) (reads link a p n) (reads link b p n)) is_none
-
-    chain_lost : (is : List Interval) → Searchable is → reads link (chain_of f false is) p n ≡ Rejected
-    chain_lost [] some = absurd some
-    chain_lost (i ∷ is) some =
-        if_case (λ (g : Formula). reads link g p n ≡ Rejected) (i.low == i.high) _ _ (λ e. split_lost Equal i.low always (chain_of f false is))
-        (λ e. split_lost AtLeast i.low (Split (field_test f AtMost i.high) always (chain_of f false is)) never)
-
     search_lost : (k : ℕ) (is : List Interval) → Searchable is → reads link (search f k false is) p n ≡ Rejected
     unfolding search
-    search_lost zero is some = chain_lost is some
-    search_lost (suc k) is some =
-        let half = length is / 2 in
-        if_case (λ (g : Formula). reads link g p n ≡ Rejected) (are_few is) _ _ (λ e. chain_lost is some)
-        (λ e. split_lost Less (low_of (drop half is)) (search f k false (take half is)) (search f k true (drop half is)))
+    search_lost k is some = grind arith
 
   search_reads : (is : List Interval) → Searchable is → reads link (search f MOST_HALVINGS false is) p n ≡ read_by (field_at f.offset f.width p)
       (λ x. is_within (under_mask f.mask x) is)
-  search_reads is some = by (field_at f.offset f.width p) refl
-    where
-      by : (o : Option ℕ) → field_at f.offset f.width p ≡ o → reads link (search f MOST_HALVINGS false is) p n ≡ read_by o
-          (λ x. is_within (under_mask f.mask x) is)
-      by None e = search_lost e MOST_HALVINGS is some
-      by (Some x) e = search_told x e MOST_HALVINGS false 0 is (searchable_apart is some) (λ g. cc)
+  search_reads is some = grind (arith, search_lost, search_told, searchable_apart)
 
 -- those that are looked for together: not both sides at once
 abbrev pub Merged : Direction → Type 0
@@ -182,26 +155,15 @@ counted index k l m = (let e : index + (k - index) ≡ k = omega arith in ap (λ
 
 at_index_same : (p : List ℕ) (index : ℕ) (mask : Option ℕ) (a b : Offset) (w : Width) → Reached index mask a b
     → (field_at (at_index index a) w p ≡ field_at a w p) × (field_at (at_index index b) w p ≡ field_at b w p)
-at_index_same p index mask (Fixed a) (Fixed b) w l = (ap (λ k. field p k w) (counted index a l.0 l.2), ap (λ k. field p k w) (counted index b l.1 l.3))
-at_index_same p index mask (AfterHeader g a) (AfterHeader h b) w l = (refl, refl)
-at_index_same p index mask _ _ w l = absurd l
-
-zero_low : (x : ℕ) → nat_le 0 x ≡ true
-zero_low x = grind (arith, nat_tests)
+at_index_same p index mask a b w l = grind (arith, counted)
 
 captured_is : (o : Option ℕ) (f : ℕ → Bool) → read_by o (λ x. nat_le 0 x) ≡ either (read_by o f) Yes
-captured_is None f = refl
-captured_is (Some x) f = ap exact (zero_low x) ∙ sym (or_yes (f x))
+captured_is o f = grind (arith, nat_tests, or_yes)
 
 -- the source, if it is captured, is of the first member, of all, and of the others
 few_told : (b c o : Bool) (d : Option ℕ) (f a : ℕ → Bool) → (b ≡ true → c ≡ true) → (b ≡ false → o ≡ c)
     → either (exact b) (either (read_by d a) (exact o)) ≡ by_first (exact c) (exact b) (read_by d f) (read_by d a)
-few_told true true o d f a all rest = refl
-few_told true false o d f a all rest = absurd (let e = all refl in cc)
-few_told false true o None f a all rest = refl
-few_told false true o (Some y) f a all rest =
-    ap (λ z. either (exact (a y)) (exact z)) (rest refl) ∙ or_yes (a y) ∙ sym (ap (λ r. either r (exact (a y))) (or_yes (f y)))
-few_told false false o d f a all rest = ap (λ z. either (read_by d a) (exact z)) (rest refl) ∙ or_no (read_by d a)
+few_told b c o d f a all rest = grind (arith, or_yes, or_no)
 
 module _ (link : Link) (p : List ℕ) (n : ℕ) (at : Sides) (numbers : Numbers) (r : Ready link at numbers) where
   abbrev place : Offset → FieldPlace
@@ -248,48 +210,15 @@ module _ (link : Link) (p : List ℕ) (n : ℕ) (at : Sides) (numbers : Numbers)
           (λ t. ap (is_within y) r.others_are ∙ within_without y numbers.first numbers.all (sym (or-false (is_in y numbers.first)) ∙ t))
 
   many_read : reads link (many_formula (sides_at_index link at) numbers) p n ≡ either_side
-  many_read =
-      let same = at_index_same p (index_of link at) numbers.mask at.source at.destination at.width r.reached in
-      let a = at_index (index_of link at) at.source in
-      let b = at_index (index_of link at) at.destination in
-      ap₂ (λ x y. either (both x (either (reads link (within_formula numbers.mask (numbers.first ∷ []) a at.width) p n)
-      (read_by (field_at b at.width p) (λ z. nat_le 0 z)))) y) (all_read a) (all_read b)
-      ∙ ap₂ (λ x y. either (both (read_by (field_at a at.width p) of_all) (either x y)) (read_by (field_at b at.width p) of_all)) (first_read a)
-      (captured_is (field_at b at.width p) of_first)
-      ∙ ap₂ (λ s d. by_first (read_by s of_all) (read_by s of_first) (read_by d of_first) (read_by d of_all)) same.0 same.1
+  many_read = grind (arith, at_index_same, all_read, first_read, captured_is)
 
   pub sought_read : (d : Direction) → Merged d → reads link (sought_formula link d at numbers) p n ≡ sides_read d source destination of_first of_all
-  sought_read (Direction.One Source) m = all_read at.source
-  sought_read (Direction.One Destination) m = all_read at.destination
-  sought_read (Direction.Both And) m = absurd m
-  sought_read (Direction.Both Or) m =
-      if_case (λ (g : Formula). reads link g p n ≡ sides_read (Direction.Both Or) source destination of_first of_all) (are_at_index link at numbers) _ _
-      (λ e. many_read) (λ e. few_read)
+  sought_read d m = grind (arith, all_read, many_read, few_read)
 
 -- ---- the counts
 
-equal_self : (a : ℕ) → (a == a) ≡ true
-equal_self a = grind (arith, nat_tests)
-
-same_self : (f : FieldPlace) → (same_offset f.offset f.offset && (same_width f.width f.width && same_mask f.mask f.mask)) ≡ true
-same_self f = ap₂ (λ a b. a && b) (offset f.offset) (ap₂ (λ a b. a && b) (width f.width) (mask f.mask))
-  where
-    offset : (a : Offset) → same_offset a a ≡ true
-    offset (Fixed k) = equal_self k
-    offset (AfterHeader h k) = ap₂ (λ a b. a && b) (equal_self h) (equal_self k)
-    offset (AtIndex h k) = ap₂ (λ a b. a && b) (equal_self h) (equal_self k)
-
-    width : (w : Width) → same_width w w ≡ true
-    width Word = refl
-    width HalfWord = refl
-    width Byte = refl
-
-    mask : (o : Option ℕ) → same_mask o o ≡ true
-    mask None = refl
-    mask (Some m) = equal_self m
-
--- a formula without comparisons, after a test, with at most so many loads and tests
-record Cheap (held : Elementary) (g : Formula) (l t : ℕ) : Type 0 where
+-- a formula without comparisons, with at most so many loads, if A holds this field or none, and tests
+record Cheap (held : Option FieldPlace) (g : Formula) (l t : ℕ) : Type 0 where
   nodes_fit : nodes g ≤ 0
   words_fit : words g ≤ 0
   loads_fit : loads held g ≤ l
@@ -302,70 +231,38 @@ first_more true is = 0
 first_more false is = first_ends is
 
 first_of_half : (from : Bool) (h : ℕ) (is : List Interval) → 0 < h → first_more from (take h is) ≡ first_more from is
-first_of_half false zero is l = absurd (omega arith)
-first_of_half false (suc h) [] l = refl
-first_of_half _ _ _ l = refl
+first_of_half from h is l = grind arith
 
 rest_few : (is : List Interval) → 2 * length is - 1 + first_more false is ≤ 2 * length is
-rest_few [] = omega arith
-rest_few (i ∷ is) = let few = ends_few (i ∷ is) in omega arith
+rest_few is = grind (arith, ends_few)
 
-cheap_as : {held : Elementary} {g : Formula} {l t : ℕ} (u : ℕ) → t ≤ u → Cheap held g l t → Cheap held g l u
-cheap_as u m h = record { nodes_fit = h.nodes_fit; words_fit = h.words_fit; loads_fit = h.loads_fit; tests_fit = omega (arith, h.tests_fit) }
+cheap_as : {held : Option FieldPlace} {g : Formula} {l t : ℕ} (u : ℕ) → t ≤ u → Cheap held g l t → Cheap held g l u
+cheap_as u m h = omega arith
 
 module _ (f : FieldPlace) where
-  -- a test of the field takes so many loads at most after another test; none after one of the field
-  abbrev Takes : Elementary → ℕ → Type 0
+  -- a test of the field takes so many loads at most, by the field that A holds; none if it holds this one
+  abbrev Takes : Option FieldPlace → ℕ → Type 0
   Takes held l = (comparison : Comparison) (v : ℕ) → test_loads held (field_test f comparison v) ≤ l
 
-  none_taken : (comparison : Comparison) (v : ℕ) → Takes (field_test f comparison v) 0
-  none_taken comparison v other w = ap_le (same_self f)
-    where
-      ap_le : {b : Bool} → b ≡ true → (if b then 0 else place_loads f.offset + mask_loads f.mask) ≤ 0
-      ap_le {b = true} e = omega arith
-      ap_le {b = false} e = cc
+  none_taken : Takes (Some f) 0
+  none_taken comparison v = grind (arith, nat_tests)
 
-  all_taken : Takes nothing (place_loads f.offset + mask_loads f.mask)
+  all_taken : Takes None (place_loads f.offset + mask_loads f.mask)
   all_taken comparison v = omega arith
 
-  cheap_none : {held : Elementary} {l t : ℕ} (b : Bool) → Cheap held (Single (Outcome b)) l t
-  cheap_none b = record { nodes_fit = omega arith; words_fit = omega arith; loads_fit = omega arith; tests_fit = omega arith }
+  cheap_none : {held : Option FieldPlace} {l t : ℕ} (b : Bool) → Cheap held (Single (Outcome b)) l t
+  cheap_none b = omega arith
 
-  cheap_split : {held : Elementary} {l s t : ℕ} {a b : Formula} (comparison : Comparison) (v : ℕ) → Takes held l
-      → Cheap (field_test f comparison v) a 0 s → Cheap (field_test f comparison v) b 0 t
-      → Cheap held (Split (field_test f comparison v) a b) l (1 + (s + t))
-  cheap_split comparison v few h k =
-      let one = few comparison v in
-      record {
-        nodes_fit = omega (arith, h.nodes_fit, k.nodes_fit);
-        words_fit = omega (arith, h.words_fit, k.words_fit);
-        loads_fit = omega (arith, one, h.loads_fit, k.loads_fit);
-        tests_fit = omega (arith, h.tests_fit, k.tests_fit);
-      }
+  cheap_split : {held : Option FieldPlace} {l s t : ℕ} {a b : Formula} (comparison : Comparison) (v : ℕ) → Takes held l → Cheap (Some f) a 0 s
+      → Cheap (Some f) b 0 t → Cheap held (Split (field_test f comparison v) a b) l (1 + (s + t))
+  cheap_split comparison v few h k = let one = few comparison v in omega arith
 
-  chain_cheap : (held : Elementary) (l : ℕ) → Takes held l → (from : Bool) (is : List Interval)
+  chain_cheap : (held : Option FieldPlace) (l : ℕ) → Takes held l → (from : Bool) (is : List Interval)
       → Cheap held (chain_of f from is) l (2 * length is - 1 + first_more from is)
   chain_cheap held l few from [] = cheap_none false
-  chain_cheap held l few from (i ∷ is) =
-      let m = rest_few is in
-      let rest : (c : Comparison) (v : ℕ) → Cheap (field_test f c v) (chain_of f false is) 0 (2 * length is) =
-      λ c v. cheap_as _ m (chain_cheap (field_test f c v) 0 (none_taken c v) false is) in
-      let upper : (held : Elementary) (l : ℕ) → Takes held l → Cheap held (Split (field_test f AtMost i.high) always (chain_of f false is)) l
-      (1 + (0 + 2 * length is)) = λ held l few. cheap_split {s = 0} AtMost i.high few (cheap_none true) (rest AtMost i.high) in
-      if_case (λ (g : Formula). Cheap held g l (2 * length (i ∷ is) - 1 + first_more from (i ∷ is))) (i.low == i.high) _ _
-      (λ e. cheap_as _ (omega arith) (cheap_split {s = 0} Equal i.low few (cheap_none true) (rest Equal i.low)))
-      (λ e. by from e upper)
-    where
-      by : (from : Bool) → (i.low == i.high) ≡ false → ((held : Elementary) (l : ℕ) → Takes held l
-          → Cheap held (Split (field_test f AtMost i.high) always (chain_of f false is)) l (1 + (0 + 2 * length is)))
-          → Cheap held (if from then Split (field_test f AtMost i.high) always (chain_of f false is) else Split (field_test f AtLeast i.low)
-          (Split (field_test f AtMost i.high) always (chain_of f false is)) never) l (2 * length (i ∷ is) - 1 + first_more from (i ∷ is))
-      by true e upper = cheap_as _ (omega arith) (upper held l few)
-      by false e upper =
-          let two : first_more false (i ∷ is) ≡ 1 = ap (λ b. if b then 0 else 1) e in
-          cheap_as _ (omega arith) (cheap_split {t = 0} AtLeast i.low few (upper (field_test f AtLeast i.low) 0 (none_taken AtLeast i.low)) (cheap_none false))
+  chain_cheap held l few from (i ∷ is) = grind (arith, rest_few, cheap_as, chain_cheap (Some f) 0 none_taken false is, none_taken, cheap_split, cheap_none)
 
-  search_cheap : (k : ℕ) (held : Elementary) (l : ℕ) → Takes held l → (from : Bool) (is : List Interval)
+  search_cheap : (k : ℕ) (held : Option FieldPlace) (l : ℕ) → Takes held l → (from : Bool) (is : List Interval)
       → Cheap held (search f k from is) l (2 * length is - 1 + first_more from is)
   unfolding search
   search_cheap zero held l few from is = chain_cheap held l few from is
@@ -373,36 +270,26 @@ module _ (f : FieldPlace) where
       let half = length is / 2 in
       let a = length-drop half is in
       let t = length-take half is in
-      let pivot = low_of (drop half is) in
-      let by = none_taken Less pivot in
       if_case (λ (g : Formula). Cheap held g l (2 * length is - 1 + first_more from is)) (are_few is) _ _ (λ e. chain_cheap held l few from is)
       (λ e. let two = are_many is e in
       let first = first_of_half from half is (omega arith) in
-      cheap_as _ (omega arith) (cheap_split Less pivot few (search_cheap k (field_test f Less pivot) 0 by from (take half is))
-      (search_cheap k (field_test f Less pivot) 0 by true (drop half is))))
+      cheap_as _ (omega arith) (cheap_split Less (low_of (drop half is)) few (search_cheap k (Some f) 0 none_taken from (take half is))
+      (search_cheap k (Some f) 0 none_taken true (drop half is))))
 
 -- the loads of a side: of a mask and the length of a header there is only one
 lean : (index : ℕ) (mask : Option ℕ) (a b : Offset) → Reached index mask a b → (place_loads a + mask_loads mask ≤ 2)
     × (place_loads b + mask_loads mask ≤ 2) × (place_loads (at_index index a) + mask_loads mask ≤ 3) × (place_loads (at_index index b) + mask_loads mask ≤ 3)
-lean index mask (Fixed a) (Fixed b) h = let few = mask_few mask in (omega arith, omega arith, omega arith, omega arith)
-lean index mask (AfterHeader k a) (AfterHeader g b) h = let none = ap mask_loads h.0 in (omega arith, omega arith, omega arith, omega arith)
-lean index mask _ _ h = absurd h
+lean index mask a b h = grind (arith, mask_few)
 
 some_searched : (is : List Interval) → Searchable is → 1 ≤ length is
-some_searched [] h = absurd h
-some_searched (i ∷ is) h = omega arith
-
-at_index_many : (w : Width) (b : Bool) (n : ℕ) → nat_le (fewest_at_index w b) n ≡ true → nat_le 5 n ≡ true
-at_index_many w false n e = e
-at_index_many Word true n e = grind (arith, nat_tests)
-at_index_many _ true n e = grind (arith, nat_tests)
+some_searched is h = grind arith
 
 module _ (link : Link) (at : Sides) (numbers : Numbers) (r : Ready link at numbers) where
   within_cheap : (is : List Interval) (offset : Offset) → let x = within_formula numbers.mask is offset at.width in
-      Cheap nothing x (place_loads offset + mask_loads numbers.mask) (2 * length is - 1 + first_ends is)
+      Cheap None x (place_loads offset + mask_loads numbers.mask) (2 * length is - 1 + first_ends is)
   within_cheap is offset =
       let f : FieldPlace = record { offset = offset; width = at.width; mask = numbers.mask } in
-      search_cheap f MOST_HALVINGS nothing _ (all_taken f) false is
+      search_cheap f MOST_HALVINGS None _ (all_taken f) false is
 
   abbrev twice : ℕ
   twice = 2 * max 1 (length numbers.all) + max (first_ends numbers.all) (first_ends (numbers.first ∷ []))
@@ -424,12 +311,7 @@ module _ (link : Link) (at : Sides) (numbers : Numbers) (r : Ready link at numbe
       let g = ends_few numbers.all in
       let rest = rest_few numbers.others in
       let m = some in
-      record {
-        nodes_fit = omega (arith, one.nodes_fit, all.nodes_fit, others.nodes_fit);
-        words_fit = omega (arith, one.words_fit, all.words_fit, others.words_fit);
-        short_fit = omega (arith, one.loads_fit, one.tests_fit, all.loads_fit, all.tests_fit, others.loads_fit, others.tests_fit);
-        light_fit = omega (arith, one.loads_fit, one.tests_fit, all.loads_fit, all.tests_fit, others.loads_fit, others.tests_fit);
-      }
+      omega arith
 
   many_bare : Bare (many_formula (sides_at_index link at) numbers) (twice + 3)
   many_bare =
@@ -443,37 +325,17 @@ module _ (link : Link) (at : Sides) (numbers : Numbers) (r : Ready link at numbe
       let e = ends_few (numbers.first ∷ []) in
       let g = ends_few numbers.all in
       let m = some in
-      record {
-        nodes_fit = omega (arith, one.nodes_fit, all.nodes_fit, second.nodes_fit);
-        words_fit = omega (arith, one.words_fit, all.words_fit, second.words_fit);
-        short_fit = omega (arith, one.loads_fit, one.tests_fit, all.loads_fit, all.tests_fit, second.loads_fit, second.tests_fit);
-        light_fit = omega (arith, one.loads_fit, one.tests_fit, all.loads_fit, all.tests_fit, second.loads_fit, second.tests_fit);
-      }
+      omega arith
 
   side_bare : (offset : Offset) → place_loads offset + mask_loads numbers.mask ≤ 2
       → Bare (within_formula numbers.mask numbers.all offset at.width) (max 1 (length numbers.all) + first_ends numbers.all)
   side_bare offset few =
       let all = within_cheap numbers.all offset in
       let m = some in
-      record {
-        nodes_fit = all.nodes_fit;
-        words_fit = all.words_fit;
-        short_fit = omega (arith, all.loads_fit, all.tests_fit);
-        light_fit = omega (arith, all.loads_fit, all.tests_fit);
-      }
+      omega arith
 
   pub bare_sought : (d : Direction) → Bare (sought_formula link d at numbers) (sought_tests d numbers)
   bare_sought (Direction.One Source) = side_bare at.source (lean (index_of link at) numbers.mask at.source at.destination r.reached).0
   bare_sought (Direction.One Destination) = side_bare at.destination (lean (index_of link at) numbers.mask at.source at.destination r.reached).1
   bare_sought (Direction.Both And) = bare_some 1 (omega arith)
-  bare_sought (Direction.Both Or) = by (are_at_index link at numbers) refl
-    where
-      by : (many : Bool) → are_at_index link at numbers ≡ many → Bare (if many then many_formula (sides_at_index link at) numbers else few_formula at numbers)
-          (twice + (if nat_le 5 (length numbers.all) then 3 else 1))
-      by true e = subst (λ five. Bare (many_formula (sides_at_index link at) numbers) (twice + (if five then 3 else 1)))
-          (sym (at_index_many at.width (numbers.first.low == numbers.first.high) (length numbers.all) (and_parts (not (are_alone link at.width)) _ e).1))
-          many_bare
-      by false e =
-          let one : 1 ≤ (if nat_le 5 (length numbers.all) then 3 else 1) = if_case (λ k. 1 ≤ k) (nat_le 5 (length numbers.all)) 3 1
-          (λ f. omega arith) (λ f. omega arith) in
-          bare_within _ (omega arith) few_bare
+  bare_sought (Direction.Both Or) = grind (arith, nat_tests, many_bare, bare_within, few_bare)

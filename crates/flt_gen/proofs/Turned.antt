@@ -1,7 +1,7 @@
 -- The last of the nodes that are left are emitted, one or several at once: what is left to do then
 -- leads to the same walk.
 use Rattle.flt_gen.proofs.Common.{◌++◌, drop, length-drop, zero, ◌<◌, Check, length-take, ◌≡◌, ℕ, ◌-◌, List, [], ◌∷◌, length, take, get_or, suc, ◌≤◌, Some}
-use Rattle.flt_gen.proofs.Common.{None, Entry, Equal, Ether, refl, sym, ap, ◌∙◌, arith, reverse, take-suc, reverse-append, Node, Link, Walk, emit_node}
+use Rattle.flt_gen.proofs.Common.{None, Entry, Equal, Ether, sym, ap, ◌∙◌, arith, reverse, take-suc, reverse-append, Node, Link, Walk, emit_node}
 use Rattle.flt_gen.proofs.Common.{emit_both_nodes, or_walk, emit_nodes}
 use Rattle.flt_gen.specs.inside.{Relations.relation, Relations.relation_in, Walk.emit_member}
 use Rattle.std.proofs.Math.Seq.{drop-append_seam}
@@ -28,25 +28,14 @@ relation_walked link w _ _ _ _ ns e is = never e is
 both_walked : (link : Link) (w v : Walk) (n m : Node) (ns : List Node) → relation_in (n ∷ m ∷ ns) ≡ None → emit_both_nodes link w n m ≡ Some v
     → emit_nodes link w (n ∷ m ∷ ns) ≡ emit_nodes link v ns
 both_walked link w v (Node.Compare Equal) (Node.Literal k) (Node.Load p s ∷ Node.Literal i ∷ ns) none e = never _ (sym none)
-both_walked link w v (Node.Apply o) (Node.Literal k) ns none e =
-    ap (λ x. emit_nodes link (or_walk x (emit_node link (emit_node link w (Node.Apply o)) (Node.Literal k))) ns) e
+both_walked link w v (Node.Apply o) (Node.Literal k) ns none e = grind arith
 both_walked link w v (Node.Compare c) (Node.Literal k) ns none e = ap (λ x. emit_nodes link (or_walk x w) ns) e
 both_walked link w v (Node.Load p s) (Node.Literal k) ns none e = ap (λ x. emit_nodes link (or_walk x w) ns) e
 both_walked link w v _ _ ns none e = never v e
 
 one_walked : (link : Link) (w : Walk) (n m : Node) (ns : List Node) → emit_both_nodes link w n m ≡ None → emit_nodes link w (n ∷ m ∷ ns) ≡ emit_nodes
     link (emit_node link w n) (m ∷ ns)
-one_walked link w (Node.Apply o) (Node.Literal k) ns e =
-    ap (λ x. emit_nodes link (or_walk x (emit_node link (emit_node link w (Node.Apply o)) (Node.Literal k))) ns) e
-one_walked link w (Node.Compare c) (Node.Literal k) ns e = never _ (sym e)
-one_walked link w (Node.Load p s) (Node.Literal k) ns e = never _ (sym e)
-one_walked link w (Node.Compare Equal) _ ns e = refl
-one_walked link w _ _ ns e = refl
-
-last_walked : (link : Link) (w : Walk) (n : Node) → emit_nodes link w (n ∷ []) ≡ emit_node link w n
-last_walked link w (Node.Apply o) = refl
-last_walked link w (Node.Compare Equal) = refl
-last_walked link w _ = refl
+one_walked link w n m ns e = grind arith
 
 -- the last of the nodes that are left, and the last two or four
 abbrev node : List Node → ℕ → Node
@@ -61,9 +50,7 @@ two_put ns j i h e f within = one_put ns j i e within ∙ ap (λ xs. node ns i �
 
 four_put : (ns : List Node) (j : ℕ) → 4 ≤ j → j ≤ length ns → reverse (take j ns) ≡ node ns (j - 1) ∷ node ns (j - 2) ∷ node ns (j - 3) ∷
     node ns (j - 4) ∷ reverse (take (j - 4) ns)
-four_put ns j some within =
-    two_put ns j (j - 1) (j - 2) (omega arith) (omega arith) within
-    ∙ ap (λ xs. node ns (j - 1) ∷ node ns (j - 2) ∷ xs) (two_put ns (j - 2) (j - 3) (j - 4) (omega arith) (omega arith) (omega arith))
+four_put ns j some within = grind (arith, two_put)
 
 pub last_four : (ns : List Node) → 4 ≤ length ns → reverse ns ≡ get_or ns (length ns - 1) (Check Ether) ∷ get_or ns (length ns - 2) (Check Ether) ∷
     get_or ns (length ns - 3) (Check Ether) ∷ get_or ns (length ns - 4) (Check Ether) ∷ reverse (take (length ns - 4) ns)
@@ -71,10 +58,7 @@ last_four ns l = ap reverse (sym (take_all (length ns) ns (omega arith))) ∙ fo
 
 pub relation_put : (link : Link) (ns : List Node) (j : ℕ) (w : Walk) (e : Entry) → 4 ≤ length (take j ns) → j ≤ length ns
     → relation_in (reverse (take j ns)) ≡ Some e → emit_nodes link (emit_member link e w) (reverse (take (j - 4) ns)) ≡ emit_nodes link w (reverse (take j ns))
-relation_put link ns j w e some within is =
-    let long = length-take j ns in
-    let four = four_put ns j (omega arith) within in
-    sym (ap (emit_nodes link w) four ∙ relation_walked link w _ _ _ _ (reverse (take (j - 4) ns)) e (ap relation_in (sym four) ∙ is))
+relation_put link ns j w e some within is = grind (arith, length-take, four_put, relation_walked)
 
 -- what is left to do after so many nodes
 abbrev left_walk : Link → List Node → ℕ → Walk → Walk
@@ -82,8 +66,7 @@ left_walk link ns k w = emit_nodes link w (reverse (take k ns))
 
 pub first_put : (link : Link) (ns : List Node) (left : ℕ) (w : Walk) → 0 < left → left ≤ length ns → left - 1 ≡ 0 → left_walk link ns (left - 1)
     (emit_node link w (get_or ns (left - 1) (Check Ether))) ≡ left_walk link ns left w
-first_put link ns (suc zero) w some within first =
-    sym (ap (emit_nodes link w) (one_put ns (suc zero) zero refl within) ∙ last_walked link w (node ns zero))
+first_put link ns (suc zero) w some within first = grind (arith, one_put)
 first_put link ns _ w some within first = absurd (omega arith)
 
 pub node_put : (link : Link) (ns : List Node) (left : ℕ) (w : Walk) → 0 < left - 1 → left ≤ length ns → emit_both_nodes link w
@@ -97,9 +80,7 @@ node_put link ns left w some within none =
 pub both_put : (link : Link) (ns : List Node) (left : ℕ) (w v : Walk) → 0 < left - 1 → left ≤ length ns → relation_in (reverse (take left ns)) ≡ None
     → emit_both_nodes link w (get_or ns (left - 1) (Check Ether)) (get_or ns (left - 1 - 1) (Check Ether)) ≡ Some v → left_walk link ns (left - 1 - 1)
     v ≡ left_walk link ns left w
-both_put link ns left w v some within none both =
-    let two = two_put ns left (left - 1) (left - 1 - 1) (omega arith) (omega arith) within in
-    sym (ap (emit_nodes link w) two ∙ both_walked link w v _ _ _ (ap relation_in (sym two) ∙ none) both)
+both_put link ns left w v some within none both = grind (arith, two_put, both_walked)
 
 -- of what is left after each way to emit the last nodes
 pub ruleset node_steps = (first_put, node_put, both_put, relation_put)

@@ -1,12 +1,12 @@
 -- The walk over the nodes of a tree, the last first, puts the code of the tree's formula in front.
-use Rattle.flt_gen.proofs.Common.{Formula, Both, Either, Except, Compare, checked_formula, ◌+◌, if◌then◌else◌, ◌≡◌, ℕ, List, [], ◌∷◌, Bool, true, false, Option}
-use Rattle.flt_gen.proofs.Common.{Some, None, with, Equal, refl, sym, ap, ◌∙◌, Insn, And, Or, Comparison, Node, Apply, Literal, Not, Constant, IndexRegister}
+use Rattle.flt_gen.proofs.Common.{arith, Formula, Both, Either, Except, Compare, checked_formula, ◌+◌, if◌then◌else◌, ◌≡◌, ℕ, List, [], ◌∷◌, Bool, Option, Some}
+use Rattle.flt_gen.proofs.Common.{None, with, Equal, refl, sym, ap, ◌∙◌, Insn, And, Or, Comparison, Node, Apply, Literal, Not, Constant, IndexRegister}
 use Rattle.flt_gen.proofs.Common.{Operator, formula, Group, no_group, larger_group, entry, choice, or_any, or_group, group_formula, grouped_formula, NumberTree}
 use Rattle.flt_gen.proofs.Common.{literal, len, named, load, negated, applied, TruthTree, qualified, compared, denied, joined, Expression, empty, truth}
-use Rattle.flt_gen.proofs.Common.{number_onto, truth_onto, expr_onto, Link, Entry, protocols_of, relation_formula, accessor_tests, Protocol, plain, computation}
-use Rattle.flt_gen.proofs.Common.{takes_constant, emit_comparison, emit_operands, constant_or, Store, Accumulator, emit_number, Block, emit_formula, emit_all}
-use Rattle.flt_gen.proofs.Common.{emit_accessor_tests, program_code, Walk, targets, finish_truth, finish_number, with_insns, finish_formula, flush_members}
-use Rattle.flt_gen.proofs.Common.{flush_group, emit_truth_node, emit_node, or_walk, start_walk, insns_of, emit_nodes}
+use Rattle.flt_gen.proofs.Common.{number_onto, truth_onto, expr_onto, Link, Entry, protocols_of, relation_formula, Protocol, plain, computation, takes_constant}
+use Rattle.flt_gen.proofs.Common.{emit_comparison, emit_operands, constant_or, Store, Accumulator, emit_number, Block, emit_formula, emit_accessor_tests}
+use Rattle.flt_gen.proofs.Common.{program_code, Walk, targets, finish_truth, finish_number, with_insns, finish_formula, flush_members, flush_group}
+use Rattle.flt_gen.proofs.Common.{emit_truth_node, emit_node, or_walk, start_walk, insns_of, emit_nodes}
 use Rattle.flt_gen.proofs.Decision.{guarded_emitted}
 use Rattle.flt_gen.specs.inside.Group.{is_empty, entry_formula, entry_of, leaf_formula}
 use Rattle.flt_gen.specs.inside.Relations.{relation_of}
@@ -17,9 +17,7 @@ use Rattle.flt_gen.specs.declared.{code.Targets.Targets, waiting.LeftTruth.LeftT
 checked_emitted : (link : Link) (ps : List Protocol) (f : Formula) (hit miss : ℕ) (c : List Insn) → emit_formula link (checked_formula link ps f) hit
     miss c ≡ (let e = emit_formula link f hit miss c in emit_accessor_tests link ps e.entry miss e.code)
 checked_emitted link [] f hit miss c = refl
-checked_emitted link (p ∷ ps) f hit miss c =
-    guarded_emitted link (accessor_tests link p) (checked_formula link ps f) hit miss c
-    ∙ ap (λ (e : Block). emit_all (accessor_tests link p) e.entry miss e.code) (checked_emitted link ps f hit miss c)
+checked_emitted link (p ∷ ps) f hit miss c = grind (arith, guarded_emitted, checked_emitted link ps f hit miss c)
 
 -- a number's code and accessors are put
 abbrev with_number : Link → NumberTree → Walk → Walk
@@ -36,8 +34,7 @@ constant_walked : (link : Link) (o : Operator) (k : ℕ) (a : NumberTree) (w : W
           (emit_operands w.slot (plain (computation o IndexRegister) 0 ∷ w.code))));
       accessors = protocols_of a w.accessors;
     })) d
-constant_walked link o k a w d left true = left _
-constant_walked link o k a w d left false = left _
+constant_walked link o k a w d left t = grind arith
 
 number_walked : (link : Link) (a : NumberTree) (w : Walk) (d : List Node) → emit_nodes link w (number_onto a d) ≡ emit_nodes link
     (finish_number link w.numbers (with_number link a w)) d
@@ -74,21 +71,17 @@ settled : (link : Link) (group : Group) (p : Pending) (ts : List LeftTruth) (f :
     → ((c : List Insn) (to : Targets) → go (state p c to ts no_group) ≡ emit_nodes link (emit_of link f c to ts) d) → (c : List Insn) (to : Targets)
     (bs : List Entry) → go (flush_members link (state p c to ts group) (is_empty bs)) ≡ emit_nodes link
     (emit_of link (or_any f (group_formula link group) bs) c to ts) d
-settled link group p ts f d go h c to [] = h c to
-settled link group p ts f d go h c to (b ∷ bs) =
-    let e = emit_formula link (group_formula link group) to.yes to.no c in h e.code (targets to.yes e.entry)
+settled link group p ts f d go h c to bs = grind arith
 
 leaf_walked : (link : Link) (f : Formula) (group : Group) (c : List Insn) (to : Targets) (ts : List LeftTruth) (d : List Node)
     → emit_nodes link (finish_formula link f (flush_members link (waiting c to ts group) (is_empty group.entries))) d ≡ emit_nodes link
     (emit_of link (or_group link f group) c to ts) d
-leaf_walked link f group c to ts d = settled link group Pending.Nothing ts f d (λ w. emit_nodes link (finish_formula link f w) d) (λ c to. refl) c to
-    group.entries
+leaf_walked link f group c to ts d = grind (arith, settled)
 
 entry_walked : (link : Link) (e : Entry) (group : Group) (o : Option Group) (c : List Insn) (to : Targets) (ts : List LeftTruth) (d : List Node)
     → emit_nodes link (emit_entry link e (waiting c to ts group) o) d ≡ emit_nodes link
     (emit_of link (choice o (group_formula link) (or_group link (entry_formula link e) group)) c to ts) d
-entry_walked link e group None c to ts d = leaf_walked link (entry_formula link e) group c to ts d
-entry_walked link e group (Some more) c to ts d = refl
+entry_walked link e group o c to ts d = grind (arith, leaf_walked)
 
 -- a comparison after the group that waits: a constant that is its right operand is in the test
 abbrev comparison_walked : Link → Comparison → NumberTree → Walk → List Node → Walk
@@ -157,14 +150,11 @@ Walks link a group =
 both_walked : (link : Link) (a b : TruthTree) → Walks link a no_group → Walks link b no_group → (c : List Insn) (to : Targets) (ts : List LeftTruth)
     (d : List Node) → emit_nodes link (between c to (record { join = And; to = to } ∷ ts)) (truth_onto b (truth_onto a d)) ≡ emit_nodes link
     (emit_of link (Both (grouped_formula link no_group a) (grouped_formula link no_group b)) c to ts) d
-both_walked link a b ha hb c to ts d =
-    let e = emit_formula link (grouped_formula link no_group b) to.yes to.no c in
-    hb c to (record { join = And; to = to } ∷ ts) (truth_onto a d) ∙ ha e.code (targets e.entry to.no) ts d
+both_walked link a b ha hb c to ts d = grind arith
 
 -- the group that waited is empty once its code is emitted
 flushed_group : (link : Link) (w : Walk) (none : Bool) → (flush_members link w none).group ≡ no_group
-flushed_group link w true = refl
-flushed_group link w false = refl
+flushed_group link w none = grind arith
 
 -- either of two truths, of which the second one may join the group after it, or begin another one
 module _ (link : Link) (a b : TruthTree) (ha : (more : Group) → Walks link a more) (hb : (more : Group) → Walks link b more) (ts : List LeftTruth)
@@ -183,26 +173,17 @@ module _ (link : Link) (a b : TruthTree) (ha : (more : Group) → Walks link a m
       → (let v = flush_members link (waiting c to (left_after_or to ∷ ts) group) (is_empty bs) in
       emit_nodes link (record v { truths = others v.truths; group = new }) (truth_onto a d)) ≡ emit_nodes link
       (emit_of link (or_any (grouped_formula link new a) (group_formula link group) bs) c to ts) d
-  new_begins new group c to [] = ha new c to ts d
-  new_begins new group c to (x ∷ xs) =
-      let e = emit_formula link (group_formula link group) to.yes to.no c in ha new e.code (targets to.yes e.entry) ts d
+  new_begins new group c to bs = grind arith
 
   apart : (e : Entry) (group : Group) (c : List Insn) (to : Targets) (p : Option Group) → larger_group e no_group ≡ p
       → emit_nodes link (emit_entry link e (after_or c to ts group) None) (truth_onto a d) ≡ emit_nodes link
       (emit_apart link e (flush_members link (waiting c to (left_after_or to ∷ ts) group) (is_empty group.entries)) Pending.Or p) (truth_onto a d)
-  apart e group c to p is =
-      let flushed = flush_members link (waiting c to (left_after_or to ∷ ts) group) (is_empty group.entries) in
-      ap (λ o. emit_nodes link (emit_apart link e flushed Pending.Or o) (truth_onto a d))
-      (ap (larger_group e) (flushed_group link (waiting c to (left_after_or to ∷ ts) group) (is_empty group.entries)) ∙ is)
+  apart e group c to p is = grind (arith, flushed_group)
 
   or_member : (e : Entry) (group : Group) (c : List Insn) (to : Targets) → entry_of b ≡ Some e → (o p : Option Group) → larger_group e group ≡ o
       → larger_group e no_group ≡ p → emit_nodes link (emit_entry link e (after_or c to ts group) o) (truth_onto a d) ≡ emit_nodes link
       (emit_of link (either group o p) c to ts) d
-  or_member e group c to is None None none alone =
-      apart e group c to None alone
-      ∙ sym (entry_nodes link b e (waiting c to (left_after_or to ∷ ts) group) (truth_onto a d) is
-      ∙ ap (λ o. emit_nodes link (emit_entry link e (waiting c to (left_after_or to ∷ ts) group) o) (truth_onto a d)) none)
-      ∙ begins group c to
+  or_member e group c to is None None none alone = grind (arith, apart, entry_nodes, begins)
   or_member e group c to is None (Some new) none begun = apart e group c to (Some new) begun ∙ new_begins new group c to group.entries
   or_member e group c to is (Some more) p some q = ha more c to ts d
 
@@ -220,10 +201,7 @@ truth_walked link (denied a) group =
     λ c to ts d. settled link group Pending.Nothing ts (Except (grouped_formula link no_group a)) d
     (λ w. emit_nodes link (emit_truth_node link w Not) (truth_onto a d)) (λ c to. truth_walked link a no_group c (targets to.no to.yes) ts d) c to
     group.entries
-truth_walked link (joined And a b) group =
-    λ c to ts d. settled link group Pending.Nothing ts (Both (grouped_formula link no_group a) (grouped_formula link no_group b)) d
-    (λ v. emit_nodes link (record v { truths = record { join = And; to = v.to } ∷ v.truths }) (truth_onto b (truth_onto a d)))
-    (λ c to. both_walked link a b (truth_walked link a no_group) (truth_walked link b no_group) c to ts d) c to group.entries
+truth_walked link (joined And a b) group = grind (arith, settled, both_walked, truth_walked link a no_group, truth_walked link b no_group)
 truth_walked link (joined Or a b) group =
     λ c to ts d. either_walked link a b (λ more. truth_walked link a more) (λ more. truth_walked link b more) ts d group c to (entry_of b) refl
 truth_walked link a group = leaf_walked link (formula link a) group

@@ -1,10 +1,10 @@
 -- The wide code of an expression decides it, within its bounds; and so does what replaces it.
-use Rattle.flt_gen.proofs.Common.{◌≡◌, ℕ, ◌+◌, ◌-◌, ◌*◌, ◌≤◌, List, [], ◌∷◌, length, drop, take, true, false, cond, Some, refl, sym, ap, ◌∙◌, subst, arith}
-use Rattle.flt_gen.proofs.Common.{fold, length-drop, ◌≢◌, ◌↔◌, reverse, All-cons, All-drop, All-nil, sum_by-take-drop, Insn, ReturnConstant, answer_of}
-use Rattle.flt_gen.proofs.Common.{IsValidUnlessLong, is_branch, JUMP, HasNoJump, IsShort, start, valid_if_short, faultless_drop, ends_drop, answer_drop}
-use Rattle.flt_gen.proofs.Common.{machine_answers, Node, tests_of, nodes_of, words_of, bound_of, expr_nodes, is_unfilled, some_primitive, Expression, empty}
-use Rattle.flt_gen.proofs.Common.{truth, Link, MatchResult, Yes, plain, IsProgramOf, short_bound_of, holds, with_folded, folded_expression, no_group}
-use Rattle.flt_gen.proofs.Common.{nothing, grouped_formula, returns_code, expression_code, program_code, emit_nodes, start_walk, insns_of}
+use Rattle.flt_gen.proofs.Common.{◌≡◌, ℕ, ◌+◌, ◌-◌, ◌*◌, ◌≤◌, List, [], length, drop, take, true, false, cond, Some, None, refl, sym, ap, ◌∙◌, subst, arith}
+use Rattle.flt_gen.proofs.Common.{fold, length-drop, ◌≢◌, ◌↔◌, reverse, All-cons, All-drop, sum_by-take-drop, Insn, answer_of, IsValidUnlessLong, is_branch}
+use Rattle.flt_gen.proofs.Common.{JUMP, HasNoJump, IsShort, start, valid_if_short, faultless_drop, ends_drop, answer_drop, machine_answers, Node, tests_of}
+use Rattle.flt_gen.proofs.Common.{nodes_of, words_of, bound_of, expr_nodes, is_unfilled, some_primitive, Expression, empty, truth, Link, MatchResult, Yes}
+use Rattle.flt_gen.proofs.Common.{IsProgramOf, short_bound_of, holds, with_folded, folded_expression, no_group, grouped_formula, returns_code, expression_code}
+use Rattle.flt_gen.proofs.Common.{program_code, emit_nodes, start_walk, insns_of}
 use Rattle.flt_gen.proofs.Folded.{expression_folded, nodes_folded}
 use Rattle.flt_gen.proofs.Grouping.{kept_none, grouped_stands}
 use Rattle.flt_gen.proofs.Exclusive.{or_no}
@@ -37,11 +37,7 @@ pub record IsMadeOf (code : List Insn) (e : Expression) (link : Link) : Type 0 w
 
 returns_sound : Sound returns_code
 unfolding fault_of operation_of
-returns_sound = record {
-  valid = record { faultless = (refl, (refl, tt)); ends = refl };
-  no_jump = All-cons (λ i. i.code ≢ JUMP) (plain ReturnConstant 262144) (plain ReturnConstant 0 ∷ []) (λ e. absurd (omega arith))
-      (All-cons (λ i. i.code ≢ JUMP) (plain ReturnConstant 0) [] (λ e. absurd (omega arith)) (All-nil (λ i. i.code ≢ JUMP)));
-}
+returns_sound = grind (arith, All-cons)
 
 no_branches : branches returns_code ≡ 0
 unfolding operation_of
@@ -57,12 +53,11 @@ pick_right r = grind arith
 -- how the code of an expression stands on the two returns, and where it leads
 fits : (link : Link) (e : Expression) → some_primitive is_unfilled e ≡ false → words_of e ≤ 16 → FitsBy true returns_code (expression_code link e)
     (4 * tests_of e + 6 * nodes_of e) (6 * (tests_of e + nodes_of e))
-fits link empty filled few = more_by true _ _ (omega arith) (omega arith)
-    (record { grows = none_by true returns_sound; entry = omega arith })
+fits link empty filled few = grind (arith, more_by, none_by, returns_sound)
 fits link (truth a) filled few =
     let s = grouped_stands link a no_group kept_none filled in
     more_by true _ _ (omega (arith, s.short_fit, s.nodes_fit)) (omega (arith, s.light_fit, s.nodes_fit))
-    (emitted_by true nothing link (grouped_formula link no_group a) 2 1 returns_code (omega (arith, s.words_fit)) returns_sound
+    (emitted_by true None link (grouped_formula link no_group a) 2 1 returns_code (omega (arith, s.words_fit)) returns_sound
     (omega arith) (omega arith))
 
 leads : (link : Link) (e : Expression) → some_primitive is_unfilled e ≡ false → words_of e ≤ 16 → (p : List ℕ) (n : ℕ)
@@ -134,8 +129,7 @@ made link e walked folded tree wide filled few w f n c =
     record { is = folded_code wide e link m.is; valid = m.valid }
   where
     same : wide ≡ program_code link (folded_expression e)
-    same = c ∙ ap (λ ns. insns_of (emit_nodes link start_walk ns)) (ap reverse w ∙ f ∙ ap (fold with_folded []) n ∙ nodes_folded e)
-        ∙ expression_walked link (folded_expression e)
+    same = grind (arith, nodes_folded, expression_walked)
 
 -- after a round of the optimiser
 once_more : (link : Link) (e : Expression) (code short : List Insn) → bound_of e ≤ 32768 → IsRound short code → IsMadeOf code e link → IsMadeOf short e link
@@ -178,6 +172,4 @@ laid_valid new code e link within at_most valid m = valid m.valid (omega (arith,
 
 pub laid_short : (new code : List Insn) (e : Expression) (link : Link) → short_bound_of e ≤ 256
     → (HasNoJump code → length code ≤ 256 → IsShort new (length code)) → IsMadeOf code e link → IsShort new (short_bound_of e)
-laid_short new code e link few short m =
-    let s = short m.is.no_jump (omega (arith, m.is.short)) in
-    record { no_jump = s.no_jump; short = omega (arith, m.is.short, s.short) }
+laid_short new code e link few short m = grind arith

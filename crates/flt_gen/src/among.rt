@@ -2,17 +2,14 @@
 
 ghost use Rattle.std.specs.Prelude.{◌≡◌};
 ghost use Rattle.flt_gen.specs.inside.{Emits.Emits, Emits.EmitsFormula, Code.emit_after};
-ghost use Rattle.flt_gen.specs.inside.Search.{are_few, low_of, chain_of, search, within_formula};
+ghost use Rattle.flt_gen.specs.inside.Search.{are_few, low_of, held_if, chain_of, search, within_formula};
 ghost use Rattle.flt_gen.specs.inside.Search.{few_formula, many_formula, sought_formula};
 ghost use Rattle.flt_gen.specs.inside.Search.{fewest_at_index, are_alone, are_at_index};
 ghost use Rattle.flt_gen.specs.inside.Search.{index_of, at_index, sides_at_index};
 ghost use Rattle.cap_octet.specs.declared.link.Link.{Link};
 
 use crate::code::{Code, Targets};
-use crate::elementary::{
-    Elementary, FieldPlace, Interval, Offset, Sides, compares_at, network_offset,
-};
-use crate::emit::NOTHING;
+use crate::elementary::{FieldPlace, Interval, Offset, Sides, compares_at, network_offset};
 use crate::intervals::Numbers;
 use cap_octet::Link;
 use flt_ast::Direction;
@@ -117,39 +114,36 @@ fn at_index(index: u32, offset: Offset) -> Offset
 }
 
 impl<A: Allocator> Code<A> {
-    /// Emits whether a field is in some intervals, which ascend, by one after the other, right after
-    /// the test `held`. Returns the place where the code begins; for no interval that is `to.no`. It
-    /// calls itself for each: they are few, once `emit_search` has halved them. `is_above`: the
-    /// field is known to be no less than the first one.
+    /// Emits whether a field is in some intervals, which ascend, by one after the other. Returns the
+    /// place where the code begins; for no interval that is `to.no`. It calls itself for each: they
+    /// are few, once `emit_search` has halved them. `is_held`: A holds the field. `is_above`: it is
+    /// known to be no less than the first one.
     fn emit_chain(
         &mut self,
         field: FieldPlace,
-        held: Elementary,
+        is_held: bool,
         is_above: bool,
         items: &[Interval],
         to: Targets,
     ) -> Result<usize, AllocError>
         ensures { (link : Link) → Emits result
-            (emit_after held link (chain_of field is_above items.now) to.yes to.no self.old)
-            self.new }
+            (emit_after (held_if is_held field) link (chain_of field is_above items.now) to.yes to.no
+            self.old) self.new }
     {
         let [first, others @ ..] = items else {
             return Ok(to.no);
         };
-        if first.low == first.high {
-            let one = field.test(Comparison::Equal, first.low);
-            let no = self.emit_chain(field, one, false, others, to)?;
-            return self.emit_test(held, one, Targets { yes: to.yes, no });
-        }
-        let top = field.test(Comparison::AtMost, first.high);
-        let no = self.emit_chain(field, top, false, others, to)?;
+        let no = self.emit_chain(field, true, false, others, to)?;
         let upper = Targets { yes: to.yes, no };
-        if is_above {
-            return self.emit_test(held, top, upper);
+        if first.low == first.high {
+            return self.emit_compared(field, is_held, Comparison::Equal, first.low, upper);
         }
-        let bottom = field.test(Comparison::AtLeast, first.low);
-        let yes = self.emit_test(bottom, top, upper)?;
-        self.emit_test(held, bottom, Targets { yes, no: to.no })
+        if is_above {
+            return self.emit_compared(field, is_held, Comparison::AtMost, first.high, upper);
+        }
+        let yes = self.emit_compared(field, true, Comparison::AtMost, first.high, upper)?;
+        let to = Targets { yes, no: to.no };
+        self.emit_compared(field, is_held, Comparison::AtLeast, first.low, to)
     }
 
     /// As `emit_chain`, by a binary search: the intervals are halved at most `halvings` times. A
@@ -158,25 +152,25 @@ impl<A: Allocator> Code<A> {
     fn emit_search(
         &mut self,
         field: FieldPlace,
-        held: Elementary,
+        is_held: bool,
         halvings: usize,
         is_above: bool,
         items: &[Interval],
         to: Targets,
     ) -> Result<usize, AllocError>
         ensures { (link : Link) → Emits result
-            (emit_after held link (search field halvings is_above items.now) to.yes to.no self.old)
-            self.new }
+            (emit_after (held_if is_held field) link (search field halvings is_above items.now)
+            to.yes to.no self.old) self.new }
     {
         if halvings == 0 || are_few(items) {
-            return self.emit_chain(field, held, is_above, items, to);
+            return self.emit_chain(field, is_held, is_above, items, to);
         }
         let half = items.len() / 2;
         let (lower, upper) = (&items[..half], &items[half..]);
-        let test = field.test(Comparison::Less, low_of(upper));
-        let no = self.emit_search(field, test, halvings - 1, true, upper, to)?;
-        let yes = self.emit_search(field, test, halvings - 1, is_above, lower, to)?;
-        self.emit_test(held, test, Targets { yes, no })
+        let no = self.emit_search(field, true, halvings - 1, true, upper, to)?;
+        let yes = self.emit_search(field, true, halvings - 1, is_above, lower, to)?;
+        let to = Targets { yes, no };
+        self.emit_compared(field, is_held, Comparison::Less, low_of(upper), to)
     }
 
     /// Emits whether a field, under a mask if there is one, is in some intervals, which ascend.
@@ -197,7 +191,7 @@ impl<A: Allocator> Code<A> {
             width,
             mask,
         };
-        self.emit_search(field, NOTHING, MOST_HALVINGS, false, items, to)
+        self.emit_search(field, false, MOST_HALVINGS, false, items, to)
     }
 
     /// Emits whether either side is one of few numbers: the source is compared with the first

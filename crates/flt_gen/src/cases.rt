@@ -9,7 +9,7 @@ ghost use Rattle.flt_gen.specs.inside.Cases.{case_tests, lowest, reach, word_tes
 ghost use Rattle.flt_gen.specs.inside.Cases.{test_at, from_test, middle, is_parted, chain};
 ghost use Rattle.flt_gen.specs.inside.{Emits.Emits, Code.emit_all, Code.emit_formula, Code.emit_after};
 ghost use Rattle.flt_gen.specs.inside.Emitted.{needed_tests};
-ghost use Rattle.flt_gen.specs.inside.Cases.{decision, either_formula, cases_formula, few_of};
+ghost use Rattle.flt_gen.specs.inside.Cases.{decision, either_formula, list_formula, cases_formula, few_of};
 ghost use Rattle.flt_gen.specs.inside.Cases.{shares, are_either, mac_place, ip6_place};
 ghost use Rattle.cap_octet.specs.Link.{longest_header, network_offset};
 ghost use Rattle.flt_gen.specs.inside.Emits.{EmitsFormula};
@@ -17,9 +17,9 @@ ghost use Rattle.flt_gen.specs.inside.Emits.{EmitsFormula};
 use crate::address::{ip6_test, ip6_tests};
 use crate::code::{Code, Targets};
 use crate::elementary::{
-    Elementary, FieldTest, FrameKind, has_ip_proto, has_ip6_proto, kind_test, network_offset,
+    Elementary, FieldPlace, FieldTest, FrameKind, has_ip_proto, has_ip6_proto, kind_test,
+    network_offset,
 };
-use crate::emit::NOTHING;
 use crate::number::emit_protocol_tests;
 use crate::protocol::mac_tests;
 use crate::relation::{Relation, relation_test};
@@ -392,11 +392,11 @@ impl<A: Allocator> Code<A> {
         }
     }
 
-    /// Emits cases by halves of one word after the other, down to `few`, or `most` times. The code
-    /// comes right after the test `held`, whose word A holds.
+    /// Emits cases by halves of one word after the other, down to `few`, or `most` times. `held` is
+    /// the word that A holds, if it holds one.
     fn emit_decision(
         &mut self,
-        held: Elementary,
+        held: Option<FieldPlace>,
         most: usize,
         few: usize,
         link: Link,
@@ -421,7 +421,7 @@ impl<A: Allocator> Code<A> {
                 return self.emit_elementary(test, to);
             }
             let yes = self.emit_decision(
-                NOTHING,
+                None,
                 most - 1,
                 few,
                 link,
@@ -438,8 +438,9 @@ impl<A: Allocator> Code<A> {
         }
         let number = lowest(test_at(link, direction, word, cases, at));
         let half = from_test(test, number);
-        let no = self.emit_decision(half, most - 1, few, link, direction, word, &cases[..at], to)?;
-        let yes = self.emit_decision(half, most - 1, few, link, direction, word, &cases[at..], to)?;
+        let left = half.left();
+        let no = self.emit_decision(left, most - 1, few, link, direction, word, &cases[..at], to)?;
+        let yes = self.emit_decision(left, most - 1, few, link, direction, word, &cases[at..], to)?;
         self.emit_test(held, half, Targets { yes, no })
     }
 
@@ -476,25 +477,36 @@ impl<A: Allocator> Code<A> {
     {
         let source = Direction::One(Side::Source);
         let destination = Direction::One(Side::Destination);
-        let no = self.emit_decision(
-            NOTHING,
-            MOST_DECISIONS,
-            few,
-            link,
-            destination,
-            0,
-            cases,
-            to,
-        )?;
+        let no = self.emit_decision(None, MOST_DECISIONS, few, link, destination, 0, cases, to)?;
         let yes = to.yes;
         let asked = self.emit_case_from(link, destination, 0, first, Targets { yes, no: yes })?;
         let later = self.emit_case_from(link, source, 0, first, Targets { yes, no: asked })?;
         let to = Targets { yes: later, no };
-        self.emit_decision(NOTHING, MOST_DECISIONS, few, link, source, 0, cases, to)
+        self.emit_decision(None, MOST_DECISIONS, few, link, source, 0, cases, to)
+    }
+
+    /// Emits cases, of which `first` stands first in the expression.
+    fn emit_list(
+        &mut self,
+        link: Link,
+        direction: Direction,
+        first: Case,
+        cases: &[Case],
+        to: Targets,
+    ) -> Result<usize, AllocError>
+        ensures { EmitsFormula link (list_formula (are_either direction first) link direction first
+            cases.now) to self.old result self.new }
+    {
+        let few = few_of(first, cases.len());
+        if are_either(direction, first) {
+            return self.emit_either(link, few, first, cases, to);
+        }
+        self.emit_decision(None, MOST_DECISIONS, few, link, direction, 0, cases, to)
     }
 
     /// Emits cases, of which `first` stands first in the expression, after the tests in front of
     /// them. Returns the place where the code begins.
+    #[tactic(auto, using(crate::proofs::Decision::guarded_emitted))]
     pub fn emit_cases(
         &mut self,
         link: Link,
@@ -506,12 +518,7 @@ impl<A: Allocator> Code<A> {
         ensures { EmitsFormula link (cases_formula link direction first cases.now) to self.old
             result self.new }
     {
-        let few = few_of(first, cases.len());
-        let yes = if are_either(direction, first) {
-            self.emit_either(link, few, first, cases, to)?
-        } else {
-            self.emit_decision(NOTHING, MOST_DECISIONS, few, link, direction, 0, cases, to)?
-        };
+        let yes = self.emit_list(link, direction, first, cases, to)?;
         self.emit_front(link, first, Targets { yes, no: to.no })
     }
 }

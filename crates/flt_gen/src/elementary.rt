@@ -7,8 +7,7 @@ ghost use Rattle.cap_octet.specs.Link.{longest_header, network_offset};
 ghost use Rattle.flt_gen.specs.Elementary.{is_at, is_masked, compares_at, compares_under};
 ghost use Rattle.flt_gen.specs.Elementary.{kind_test, type_test, has_type, has_type_at};
 ghost use Rattle.flt_gen.specs.Elementary.{first_fragment, has_ip_proto, has_ip6_proto};
-ghost use Rattle.flt_gen.specs.inside.Code.{same_offset, same_width, same_mask, is_loaded};
-ghost use Rattle.flt_gen.specs.inside.Search.{field_test};
+ghost use Rattle.flt_gen.specs.inside.Code.{same_offset, same_width, same_mask, is_loaded, left_by};
 
 use cap_octet::Link;
 use cap_octet::assigned::{ETHERTYPE_ARP, ETHERTYPE_IPV4, ETHERTYPE_IPV6, ETHERTYPE_RARP};
@@ -79,12 +78,19 @@ pub struct Sides {
     pub destination: Offset,
 }
 
-impl FieldPlace {
-    /// The test that compares the field with a number.
-    pub fn test(self, comparison: Comparison, value: u32) -> Elementary
-        ensures { result ≡ field_test self comparison value }
+impl Elementary {
+    /// The field that A holds after the test, if that is one of a field.
+    pub fn left(self) -> Option<FieldPlace>
+        ensures { result ≡ left_by self }
     {
-        compares_under(self.mask, self.offset, self.width, comparison, value)
+        match self {
+            Elementary::Outcome(_) => None,
+            Elementary::Field(field) => Some(FieldPlace {
+                offset: field.offset,
+                width: field.width,
+                mask: field.mask,
+            }),
+        }
     }
 }
 
@@ -123,13 +129,13 @@ fn same_mask(one: Option<u32>, other: Option<u32>) -> bool
     }
 }
 
-/// Whether A holds the field of `test` after the test `held`: both look at the same bits.
-pub fn is_loaded(held: Elementary, test: FieldTest) -> bool
+/// Whether a test looks at the bits of `held`, the field that A holds, if it holds one.
+pub fn is_loaded(held: Option<FieldPlace>, test: FieldTest) -> bool
     ensures { result ≡ is_loaded held test }
 {
     match held {
-        Elementary::Outcome(_) => false,
-        Elementary::Field(held) => {
+        None => false,
+        Some(held) => {
             same_offset(held.offset, test.offset)
                 && (same_width(held.width, test.width) && same_mask(held.mask, test.mask))
         }

@@ -3,21 +3,18 @@
 ghost use Rattle.std.specs.Prelude.{◌≡◌, length, OnOk, if◌then◌else◌};
 ghost use Rattle.flt_gen.specs.inside.{Emits.Emits, Emits.EmitsFormula, Code.emit_field};
 ghost use Rattle.flt_gen.specs.inside.Code.{emit_mask, emit_comparison, emit_elementary, emit_all};
-ghost use Rattle.flt_gen.specs.inside.Code.{emit_test};
+ghost use Rattle.flt_gen.specs.inside.{Code.emit_test, Search.held_if, Search.field_test};
 ghost use Rattle.flt_gen.specs.{Formula.sides, Primitives.sized_formula};
 ghost use Rattle.flt_gen.specs.inside.Emitted.{needed_tests};
 ghost use Rattle.cap_octet.specs.declared.link.Link.{Link};
 
 use crate::address::{is_idle, last_test};
 use crate::code::{Code, Targets};
-use crate::elementary::{Elementary, FieldTest, Offset, is_loaded};
+use crate::elementary::{Elementary, FieldPlace, Offset, is_loaded};
 use flt_ast::Direction;
 use flt_bpf::operation::{AluOperation, Operand, Operation, Register, Source, Test, Width};
 use flt_words::{Comparison, Join, Side, Size};
 use std::alloc::{AllocError, Allocator};
-
-/// In place of the test before, if A holds no field.
-pub const NOTHING: Elementary = Elementary::Outcome(false);
 
 impl<A: Allocator> Code<A> {
     /// Emits the load of a field into A. Before a load after a header or at X, X is set.
@@ -73,21 +70,35 @@ impl<A: Allocator> Code<A> {
         }
     }
 
-    /// Emits the load of a field and the mask of it, if there is one.
-    fn emit_load(&mut self, test: FieldTest) -> Result<(), AllocError>
-        ensures { OnOk result
-            (self.new ≡ emit_field test.offset test.width (emit_mask test.mask self.old)) }
+    /// Emits the comparison of a field with a number. The field is loaded, unless A holds it. Returns
+    /// the place where the code begins.
+    #[tactic(auto, using(crate::proofs::Search::loaded_if))]
+    pub fn emit_compared(
+        &mut self,
+        field: FieldPlace,
+        is_held: bool,
+        comparison: Comparison,
+        number: u32,
+        to: Targets,
+    ) -> Result<usize, AllocError>
+        ensures { Emits result
+            (emit_test (held_if is_held field) (field_test field comparison number) to.yes to.no
+            self.old) self.new }
     {
-        self.emit_mask(test.mask)?;
-        self.emit_field(test.offset, test.width)
+        self.emit_comparison(comparison, Operand::Constant, number, to)?;
+        if !is_held {
+            self.emit_mask(field.mask)?;
+            self.emit_field(field.offset, field.width)?;
+        }
+        Ok(self.top())
     }
 
-    /// Emits one test, right after the test `held`: the field isn't loaded again if that one left it
-    /// in A. Returns the place where it begins: for one that the link type itself decides, which
-    /// takes no code, that is one of the targets.
+    /// Emits one test. A field isn't loaded again if it is `held`, the one that A holds, if it holds
+    /// one. Returns the place where the code begins: for a test that the link type itself decides,
+    /// which takes no code, that is one of the targets.
     pub fn emit_test(
         &mut self,
-        held: Elementary,
+        held: Option<FieldPlace>,
         test: Elementary,
         to: Targets,
     ) -> Result<usize, AllocError>
@@ -99,7 +110,8 @@ impl<A: Allocator> Code<A> {
             Elementary::Field(field) => {
                 self.emit_comparison(field.comparison, Operand::Constant, field.value, to)?;
                 if !is_loaded(held, field) {
-                    self.emit_load(field)?;
+                    self.emit_mask(field.mask)?;
+                    self.emit_field(field.offset, field.width)?;
                 }
                 Ok(self.top())
             }
@@ -110,7 +122,7 @@ impl<A: Allocator> Code<A> {
     pub fn emit_elementary(&mut self, test: Elementary, to: Targets) -> Result<usize, AllocError>
         ensures { Emits result (emit_elementary test to.yes to.no self.old) self.new }
     {
-        self.emit_test(NOTHING, test, to)
+        self.emit_test(None, test, to)
     }
 
     /// Emits some tests that all have to hold, each after the one before. Returns the place where
@@ -118,6 +130,7 @@ impl<A: Allocator> Code<A> {
     ///
     /// If they are tests of an address's words (`are_words`), one of a word of which no bit counts
     /// is left out in front of another: if its word isn't captured, no later one is.
+    #[tactic(auto, using(std::proofs::lemmas::Grind::common_steps))]
     pub fn emit_tests(
         &mut self,
         are_words: bool,

@@ -94,7 +94,7 @@ fn and_operands(node: Node, need: usize) -> Option<usize>
 
 /// Moves the latest tree out of the nodes; what was held before goes. An error is a failed
 /// allocation, or that too many operands are looked for.
-#[tactic(auto, using(crate::proofs::Held::none_held))]
+#[tactic(auto, using(crate::proofs::Held::none_held, std::proofs::lemmas::Grind::common_steps))]
 fn hold_latest<A: Allocator>(
     nodes: &mut Stack<Node, A>,
     held: &mut Stack<Node, A>,
@@ -208,6 +208,7 @@ fn push_folded<A: Allocator>(
 /// The nodes of a tree, in which arithmetic of only numbers becomes one number, and `not a and not
 /// b` becomes `not (a or b)`. An error is a failed allocation, or an allocator that cannot be
 /// cloned.
+#[tactic(auto, using(std::proofs::lemmas::Grind::common_steps))]
 pub fn folded_nodes<A: Allocator + Clone>(
     alloc: A,
     nodes: &[Node],

@@ -10,7 +10,7 @@ ghost use Rattle.flt_gen.specs.inside.Group.{larger_group, is_searched, group_fo
 ghost use Rattle.flt_gen.specs.inside.Group.{rows_formula, several_formula};
 ghost use Rattle.flt_gen.specs.inside.{Cases.case_of, Emits.EmitsFormula};
 ghost use Rattle.flt_gen.specs.inside.Intervals.{insert_ascending};
-ghost use Rattle.flt_gen.specs.inside.Group.{has_networks, case_goes_with, with_case};
+ghost use Rattle.flt_gen.specs.inside.Group.{has_addresses, has_networks, case_goes_with, with_case};
 ghost use Rattle.flt_gen.specs.inside.Group.{larger_by, entry_formula, fewest_either};
 
 use crate::cases::{Case, are_either, case_of, put_case, same_words};
@@ -93,15 +93,18 @@ impl<A: Allocator> Model for Group<A> {
     } };
 }
 
-/// Whether both are addresses of IPv4 or both ports: others aren't looked for together.
+/// Whether members of this type are addresses or networks of IPv4: else they are ports or ranges.
+fn has_addresses(value_type: ValueType) -> bool
+    ensures { result ≡ has_addresses value_type }
+{
+    matches!(value_type, ValueType::Host | ValueType::Net)
+}
+
+/// Whether members of both types are addresses, or of both ports.
 fn same_type(one: ValueType, other: ValueType) -> bool
     ensures { result ≡ same_type one other }
 {
-    match (one, other) {
-        (ValueType::Host | ValueType::Net, ValueType::Host | ValueType::Net) => true,
-        (ValueType::Port | ValueType::PortRange, ValueType::Port | ValueType::PortRange) => true,
-        _ => false,
-    }
+    has_addresses(one) == has_addresses(other)
 }
 
 /// Whether both have no protocol, or the same.
@@ -240,6 +243,7 @@ impl<A: Allocator> Group<A> {
     }
 
     /// Adds a case, if it goes with the members. Returns `false` if it isn't added.
+    #[tactic(auto, using(std::proofs::lemmas::Grind::common_steps))]
     fn add_case(
         &mut self,
         qualifiers: CompleteQualifiers,
@@ -308,7 +312,7 @@ impl<A: Allocator> Group<A> {
     fn has_networks(&self) -> bool
         ensures { result ≡ has_networks self.now }
     {
-        matches!(self.qualifiers.value_type, ValueType::Host | ValueType::Net) && !self.is_plain
+        has_addresses(self.qualifiers.value_type) && !self.is_plain
     }
 
     /// Emits the code that looks for the members. Returns the place where it begins.
@@ -337,21 +341,15 @@ impl<A: Allocator> Code<A> {
         to: Targets,
     ) -> Result<usize, AllocError>
         ensures { EmitsFormula link
-            (several_formula link qualifiers qualifiers.value_type numbers.now) to self.old result
-            self.new }
+            (several_formula link qualifiers (has_addresses qualifiers.value_type) numbers.now) to
+            self.old result self.new }
     {
         let protocol = qualifiers.protocol;
         let wanted = Wanted::Several(qualifiers.direction);
-        match qualifiers.value_type {
-            ValueType::Host | ValueType::Net => {
-                self.emit_hosts(link, protocol, wanted, numbers, to)
-            }
-            ValueType::Port | ValueType::PortRange => {
-                self.emit_ports(link, protocol, wanted, numbers, to)
-            }
-            // No other type has members.
-            _ => Ok(to.no),
+        if has_addresses(qualifiers.value_type) {
+            return self.emit_hosts(link, protocol, wanted, numbers, to);
         }
+        self.emit_ports(link, protocol, wanted, numbers, to)
     }
 
     /// Emits members one after the other, the last of the expression first.
@@ -391,6 +389,7 @@ const NO_QUALIFIERS: CompleteQualifiers = CompleteQualifiers {
 impl<A: Allocator + Clone> Group<A> {
     /// A group without members, which any value may join that can be a member at all. An error is
     /// an allocator that cannot be cloned.
+    #[tactic(auto, using(std::proofs::lemmas::Grind::common_steps))]
     pub fn new(alloc: A) -> Result<Self, AllocError>
         ensures { IfOk result (λ group. group ≡ no_group) }
     {

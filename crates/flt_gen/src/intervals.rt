@@ -53,6 +53,7 @@ impl<'a> Numbers<'a> {
 
 /// Puts intervals, which ascend by their beginnings, into a list, in which none touches the next
 /// one. What was in the list goes.
+#[tactic(auto, using(std::proofs::lemmas::Grind::common_steps))]
 fn join_touching<A: Allocator>(
     numbers: &[Interval],
     joined: &mut Vec<Interval, A>,
@@ -166,6 +167,7 @@ fn cut(last: u32, item: Interval) -> Interval
 
 /// Puts intervals, each cut to the numbers of its blocks, into a list, and those of them that
 /// aren't the first member's into another one. What was in the lists goes.
+#[tactic(auto, using(std::proofs::lemmas::Grind::common_steps))]
 fn put_cut<A: Allocator>(
     last: u32,
     first: Interval,

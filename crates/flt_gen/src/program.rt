@@ -27,6 +27,7 @@ const TOO_MANY: usize = 0x4000_0000;
 /// The plain code of the tree with these nodes, before it is threaded, shortened and laid out: its
 /// tests may skip any number of instructions. An error is a failed allocation, or an allocator that
 /// cannot be cloned.
+#[tactic(auto, using(std::proofs::lemmas::Grind::common_steps))]
 fn wide_code<A: Allocator + Clone>(
     alloc: A,
     nodes: &[Node],

@@ -22,6 +22,7 @@ pub struct Relation {
 }
 
 /// The relation of which the last four nodes are, if there is one.
+#[tactic(auto, using(crate::proofs::Turned::last_four))]
 pub fn last_relation(nodes: &[Node]) -> Option<Entry>
     ensures is { result ≡ relation_in (reverse nodes.now) }
     ensures four { IfSome result (λ r. 4 ≤ length nodes.now) }

@@ -92,6 +92,7 @@ impl<A: Allocator> Model for Walk<A> {
 impl<A: Allocator + Clone> Walk<A> {
     /// A walk before its first node: the code is the two returns, one that keeps a packet and one
     /// that doesn't. An error is a failed allocation, or an allocator that cannot be cloned.
+    #[tactic(auto, using(std::proofs::lemmas::Grind::common_steps))]
     pub fn new(alloc: A) -> Result<Self, AllocError>
         ensures { IfOk result (λ walk. walk ≡ start_walk) }
     {

@@ -230,10 +230,13 @@ either_formula link few c cs =
     (Either (on_side link Source c) (Either (on_side link Destination c) (Single (Outcome true)))))
     (all_on_side link few Destination cs)
 
--- cases with the words of one, which stands first in the expression, after the tests in front of
--- them
+-- cases with the words of one, which stands first in the expression, on either side or not
+abbrev pub list_formula : Bool → Link → Direction → Case → List Case → Formula
+list_formula either link d c cs =
+    if either then either_formula link (few_of c (length cs)) c cs
+    else decision (few_of c (length cs)) MOST_DECISIONS (case_tests link d) 0 cs
+
+-- the same after the tests in front of them
 abbrev pub cases_formula : Link → Direction → Case → List Case → Formula
 cases_formula link d c cs =
-    guarded_formula (case_front link c)
-    (if are_either d c then either_formula link (few_of c (length cs)) c cs
-    else decision (few_of c (length cs)) MOST_DECISIONS (case_tests link d) 0 cs)
+    guarded_formula (case_front link c) (list_formula (are_either d c) link d c cs)

@@ -21,7 +21,7 @@ use Rattle.flt_gen.specs.Elementary.{with}
 use Rattle.flt_gen.specs.Formula.{Formula, Single, Compare, Both, Either, Except, Split}
 use Rattle.flt_gen.specs.Numbers.{width_of}
 use Rattle.flt_gen.specs.declared.elementary.Elementary.{Elementary, TheVariants.Outcome, TheVariants.Field}
-use Rattle.flt_gen.specs.declared.elementary.{FieldTest.FieldTest, Offset.Offset}
+use Rattle.flt_gen.specs.declared.elementary.{FieldPlace.FieldPlace, FieldTest.FieldTest, Offset.Offset}
 use Rattle.flt_gen.specs.declared.elementary.Offset.TheVariants.{Fixed, AfterHeader, AtIndex}
 
 -- an instruction that isn't a test
@@ -191,48 +191,49 @@ same_mask None None = true
 same_mask (Some j) (Some k) = j == k
 same_mask _ _ = false
 
--- after a test A holds the field of another one: both look at the same bits
-abbrev pub is_loaded : Elementary → FieldTest → Bool
-is_loaded (Outcome b) t = false
-is_loaded (Field u) t =
-    same_offset u.offset t.offset && (same_width u.width t.width && same_mask u.mask t.mask)
+-- a test looks at the bits of the field that A holds, if it holds one
+abbrev pub is_loaded : Option FieldPlace → FieldTest → Bool
+is_loaded None t = false
+is_loaded (Some f) t =
+    same_offset f.offset t.offset && (same_width f.width t.width && same_mask f.mask t.mask)
 
--- an elementary test right after another one: a field is loaded and masked, unless A holds it, and
--- compared; what the link type decides takes no code
-abbrev pub emit_test : Elementary → Elementary → ℕ → ℕ → List Insn → Block
+-- the field that A holds after a test, if that is one of a field
+abbrev pub left_by : Elementary → Option FieldPlace
+left_by (Outcome b) = None
+left_by (Field t) = Some (record { offset = t.offset; width = t.width; mask = t.mask })
+
+-- an elementary test: a field is loaded and masked, unless A holds it, and compared; what the link
+-- type decides takes no code
+abbrev pub emit_test : Option FieldPlace → Elementary → ℕ → ℕ → List Insn → Block
 emit_test held (Outcome true) hit miss c = block c hit
 emit_test held (Outcome false) hit miss c = block c miss
 emit_test held (Field t) hit miss c =
     let d = emit_comparison t.comparison Constant t.value hit miss c in
     at_top (if is_loaded held t then d else emit_field t.offset t.width (emit_mask t.mask d))
 
--- a test after which A holds no field
-abbrev pub nothing : Elementary
-nothing = Outcome false
-
 -- an elementary test of a field that A doesn't hold
 abbrev pub emit_elementary : Elementary → ℕ → ℕ → List Insn → Block
-emit_elementary t hit miss c = emit_test nothing t hit miss c
+emit_elementary t hit miss c = emit_test None t hit miss c
 
--- the code of a formula that goes on at one of two places, right after a test. If A still holds the
--- field of that test, a test by which one of two formulas is chosen doesn't load it again
-abbrev pub emit_after : Elementary → Link → Formula → ℕ → ℕ → List Insn → Block
+-- the code of a formula that goes on at one of two places. A test by which one of two formulas is
+-- chosen doesn't load the field that A holds, if it holds one
+abbrev pub emit_after : Option FieldPlace → Link → Formula → ℕ → ℕ → List Insn → Block
 emit_after held link (Single t) hit miss c = emit_elementary t hit miss c
 emit_after held link (Compare comparison l r) hit miss c =
     at_top (emit_relation link comparison l r hit miss c)
 emit_after held link (Both a b) hit miss c =
-    let e = emit_after nothing link b hit miss c in emit_after nothing link a e.entry miss e.code
+    let e = emit_after None link b hit miss c in emit_after None link a e.entry miss e.code
 emit_after held link (Either a b) hit miss c =
-    let e = emit_after nothing link b hit miss c in emit_after nothing link a hit e.entry e.code
-emit_after held link (Except a) hit miss c = emit_after nothing link a miss hit c
+    let e = emit_after None link b hit miss c in emit_after None link a hit e.entry e.code
+emit_after held link (Except a) hit miss c = emit_after None link a miss hit c
 emit_after held link (Split t a b) hit miss c =
-    let no = emit_after t link b hit miss c in
-    let yes = emit_after t link a hit miss no.code in
+    let no = emit_after (left_by t) link b hit miss c in
+    let yes = emit_after (left_by t) link a hit miss no.code in
     emit_test held t yes.entry no.entry yes.code
 
 -- the code of a formula by itself
 abbrev pub emit_formula : Link → Formula → ℕ → ℕ → List Insn → Block
-emit_formula link f hit miss c = emit_after nothing link f hit miss c
+emit_formula link f hit miss c = emit_after None link f hit miss c
 
 -- the code of some tests that all have to hold, from the last to the first
 abbrev pub emit_all : List Elementary → ℕ → ℕ → List Insn → Block

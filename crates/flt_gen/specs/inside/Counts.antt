@@ -5,8 +5,9 @@ use Rattle.flt_ast.specs.declared.qualifiers.Direction.{Direction}
 use Rattle.flt_words.specs.declared.token.Join.TheVariants.{And, Or}
 use Rattle.flt_gen.specs.Formula.{Formula, Single, Compare, Both, Either, Except, Split}
 use Rattle.flt_gen.specs.declared.elementary.Elementary.{Elementary, TheVariants.Outcome, TheVariants.Field}
-use Rattle.flt_gen.specs.declared.elementary.{FieldTest.FieldTest, Interval.Interval, Offset.Offset, Offset.TheVariants.Fixed}
-use Rattle.flt_gen.specs.inside.{Code.is_loaded, Code.nothing, Search.Numbers}
+use Rattle.flt_gen.specs.declared.elementary.{FieldPlace.FieldPlace, FieldTest.FieldTest, Interval.Interval}
+use Rattle.flt_gen.specs.declared.elementary.{Offset.Offset, Offset.TheVariants.Fixed}
+use Rattle.flt_gen.specs.inside.{Code.is_loaded, Code.left_by, Search.Numbers}
 
 -- how many words of memory the code of a formula needs at most
 abbrev pub words : Formula → ℕ
@@ -67,17 +68,17 @@ mask_loads (Some mask) = 1
 abbrev pub field_loads : FieldTest → ℕ
 field_loads t = place_loads t.offset + mask_loads t.mask
 
--- how many do it for a test right after another one
-abbrev pub test_loads : Elementary → Elementary → ℕ
+-- how many do it for a test, if A holds this field, or none
+abbrev pub test_loads : Option FieldPlace → Elementary → ℕ
 test_loads held (Outcome b) = 0
 test_loads held (Field t) = if is_loaded held t then 0 else field_loads t
 
--- how many other instructions the code of a formula has at most, right after a test, if those of
--- arithmetic's nodes are counted by themselves
-abbrev pub loads : Elementary → Formula → ℕ
-loads held (Single t) = test_loads nothing t
+-- how many other instructions the code of a formula has at most, if A holds this field, or none, and
+-- those of arithmetic's nodes are counted by themselves
+abbrev pub loads : Option FieldPlace → Formula → ℕ
+loads held (Single t) = test_loads None t
 loads held (Compare c l r) = 3
-loads held (Both a b) = loads nothing a + loads nothing b
-loads held (Either a b) = loads nothing a + loads nothing b
-loads held (Except a) = loads nothing a
-loads held (Split t a b) = test_loads held t + (loads t a + loads t b)
+loads held (Both a b) = loads None a + loads None b
+loads held (Either a b) = loads None a + loads None b
+loads held (Except a) = loads None a
+loads held (Split t a b) = test_loads held t + (loads (left_by t) a + loads (left_by t) b)

@@ -81,17 +81,15 @@ with_case q e c group = record group {
   entries = e ∷ group.entries;
 }
 
--- both are addresses or networks of IPv4, or both are ports or ranges of them
+-- members of this type are addresses or networks of IPv4, and not ports or ranges of them
+abbrev pub has_addresses : ValueType → Bool
+has_addresses Host = true
+has_addresses Net = true
+has_addresses _ = false
+
+-- members of both types are addresses, or of both ports
 abbrev pub same_type : ValueType → ValueType → Bool
-same_type Host Host = true
-same_type Host Net = true
-same_type Net Host = true
-same_type Net Net = true
-same_type Port Port = true
-same_type Port PortRange = true
-same_type PortRange Port = true
-same_type PortRange PortRange = true
-same_type _ _ = false
+same_type a b = if has_addresses a then has_addresses b else not (has_addresses b)
 
 -- both have no protocol, or the same
 abbrev pub same_protocol : Option Protocol → Option Protocol → Bool
@@ -214,12 +212,6 @@ abbrev pub is_searched : Group → Bool
 is_searched group =
     nat_le (fewest group.case group.qualifiers.direction group.is_plain) (length group.entries)
 
--- addresses of IPv4 are looked for
-abbrev pub has_addresses : ValueType → Bool
-has_addresses Host = true
-has_addresses Net = true
-has_addresses _ = false
-
 -- networks are looked for, not only hosts or ports
 abbrev pub has_networks : Group → Bool
 has_networks group = has_addresses group.qualifiers.value_type && not group.is_plain
@@ -228,17 +220,12 @@ has_networks group = has_addresses group.qualifiers.value_type && not group.is_p
 abbrev pub numbers_of : Group → Numbers
 numbers_of group = sought (has_networks group) group.first group.all
 
--- one of several members with these numbers
-abbrev pub several_formula : Link → CompleteQualifiers → ValueType → Numbers → Formula
-several_formula link q Host numbers =
+-- one of several members with these numbers, which are addresses or ports
+abbrev pub several_formula : Link → CompleteQualifiers → Bool → Numbers → Formula
+several_formula link q true numbers =
     hosts_formula link q.protocol (λ at. sought_formula link q.direction at numbers)
-several_formula link q Net numbers =
-    hosts_formula link q.protocol (λ at. sought_formula link q.direction at numbers)
-several_formula link q Port numbers =
+several_formula link q false numbers =
     port_formula link q.protocol (λ at. sought_formula link q.direction at numbers)
-several_formula link q PortRange numbers =
-    port_formula link q.protocol (λ at. sought_formula link q.direction at numbers)
-several_formula link q _ numbers = Single (Outcome false)
 
 -- a member by itself
 abbrev pub entry_formula : Link → Entry → Formula
@@ -255,7 +242,7 @@ rows_formula link (e ∷ f ∷ es) = Either (entry_formula link e) (rows_formula
 -- one of the members, by their numbers or as cases
 abbrev pub together_formula : Link → Group → Option Case → Formula
 together_formula link group None =
-    several_formula link group.qualifiers group.qualifiers.value_type (numbers_of group)
+    several_formula link group.qualifiers (has_addresses group.qualifiers.value_type) (numbers_of group)
 together_formula link group (Some c) =
     cases_formula link group.qualifiers.direction c group.cases
 

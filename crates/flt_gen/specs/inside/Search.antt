@@ -1,5 +1,5 @@
 -- Formulas that look for several numbers in a field, or in one of two: trees of tests.
-use Rattle.std.specs.Prelude.{ℕ, zero, suc, ◌+◌, ◌-◌, ◌/◌, ◌==◌, ◌&&◌, not, nat_le, Bool, true, false, if◌then◌else◌, List, [], ◌∷◌, length, take, drop, Option, is_none}
+use Rattle.std.specs.Prelude.{ℕ, zero, suc, ◌+◌, ◌-◌, ◌/◌, ◌==◌, ◌&&◌, not, nat_le, Bool, true, false, if◌then◌else◌, List, [], ◌∷◌, length, take, drop, Option, None, is_none}
 use Rattle.flt_bpf.specs.declared.operation.Width.{Width, TheVariants.Word}
 use Rattle.flt_words.specs.declared.token.Comparison.{Comparison}
 use Rattle.flt_words.specs.declared.token.Comparison.TheVariants.{Equal, Less, AtMost, AtLeast}
@@ -9,6 +9,7 @@ use Rattle.flt_ast.specs.declared.qualifiers.Direction.{Direction}
 use Rattle.cap_octet.specs.{Link.network_offset, Link.type_offset, declared.link.Link.Link}
 use Rattle.flt_gen.specs.Elementary.{compares_at, compares_under}
 use Rattle.flt_gen.specs.Formula.{Formula, Single, Both, Either, Split}
+use Rattle.flt_gen.specs.inside.Code.{left_by}
 use Rattle.flt_gen.specs.declared.elementary.Elementary.{Elementary, TheVariants.Outcome}
 use Rattle.flt_gen.specs.declared.elementary.{FieldPlace.FieldPlace, Interval.Interval, Offset.Offset}
 use Rattle.flt_gen.specs.declared.elementary.{Offset.TheVariants.Fixed, Offset.TheVariants.AtIndex, Sides.Sides}
@@ -24,6 +25,11 @@ pub record Numbers : Type 0 where
 -- a field compares so with a number
 abbrev pub field_test : FieldPlace → Comparison → ℕ → Elementary
 field_test f comparison value = compares_under f.mask f.offset f.width comparison value
+
+-- A holds a field, as after each test of it, or none
+abbrev pub held_if : Bool → FieldPlace → Option FieldPlace
+held_if true f = left_by (field_test f Equal 0)
+held_if false f = None
 
 -- no packet matches
 abbrev pub never : Formula

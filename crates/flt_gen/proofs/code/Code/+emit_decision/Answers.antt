@@ -72,8 +72,9 @@ returns g t c =
       ← c.test_at-2.ensures,
       ← c.lowest-number.ensures,
       ← c.from_test-half.ensures,
+      ← c.left-left.ensures,
       c.in_ok-no.ensures,
-      ap (λ cs. emit_after c.from_test-half.result a.link (decision a.few (a.most - 1) by a.word cs) a.to.yes a.to.no c.emit_decision-2.new.self)
+      ap (λ cs. emit_after c.left-left.result a.link (decision a.few (a.most - 1) by a.word cs) a.to.yes a.to.no c.emit_decision-2.new.self)
           (sym (take_rest a.cases.now at))
           ∙ c.in_ok-yes-2.ensures,
     ) c.emit_test.ensures
