@@ -2,9 +2,9 @@
 use Rattle.flt_words.proofs.Common.{◌≡◌, ℕ, ◌^◌, ◌<◌, ◌≤◌, List, [], ◌∷◌, ◌++◌, length, refl, sym, ap, ◌∙◌, arith, false, ◌==◌, Result, Ok, Err, lit<, lit≤}
 use Rattle.flt_words.proofs.Common.{MatchOption, pow-le-pow_right, nat_tests, digits_value-lt, AllByRecursion, join_with_byte, slice_split, AllDigits}
 use Rattle.flt_words.proofs.Common.{IsNumeral, digits_value, Group, WordFault, AreGroups, IsGroup, group_value, separator_of, base_of, WritesNumber}
-use Rattle.flt_words.proofs.Common.{is_word_sized, FindsMeaning, has, suc, zero, ◌+◌, ◌*◌, get_or, subst, add-one, map, pow-add, pow-suc, add_assoc}
-use Rattle.flt_words.proofs.Common.{mul-le-mul_right, mul-lt-mul_of_pos_right, mul_assoc, pow-zero, number_push, Bor, number_from_digits, group_values, ◌-◌}
-use Rattle.flt_words.proofs.Common.{◌%◌, length-append, replicate, Some, number_after_append, number_lt, length-map, AllBelowBase, number_from_digits_after}
+use Rattle.flt_words.proofs.Common.{is_word_sized, FindsMeaning, has, suc, zero, ◌+◌, ◌*◌, get_or, add-one, pow-add, pow-suc, add_assoc}
+use Rattle.flt_words.proofs.Common.{mul-le-mul_right, mul-lt-mul_of_pos_right, mul_assoc, pow-zero, number_push, number_from_digits, group_values, ◌-◌}
+use Rattle.flt_words.proofs.Common.{◌%◌, length-append, replicate, Some, number_after_append, number_lt, length-map, map-append, AllBelowBase, number_from_digits_after}
 use Rattle.flt_words.proofs.Common.{AreIp6Ends, IsDotted, IsWholeAddress, ReadsGroups, or_parts, mul-mod_left}
 use Rattle.flt_words.proofs.Numbers.{digits_lack, same}
 use Rattle.std.specs.Result.{result_ok}
@@ -17,10 +17,7 @@ not_small : (n : ℕ) → n < 2 ^ 32 → is_word_sized n ≡ false → ⊥
 not_small n small large = grind (arith, nat_tests)
 
 pub small_hexadecimal : (digits : List ℕ) (most : ℕ) → AllDigits 16 digits → length digits ≤ most → digits_value 16 digits < 16 ^ most
-small_hexadecimal digits most all upper_bound =
-    let below = digits_value-lt 16 digits all in
-    let more : 16 ^ length digits ≤ 16 ^ most = pow-le-pow_right (lit< tt) upper_bound in
-    omega arith
+small_hexadecimal digits most all upper_bound = search (arith, digits_value-lt, pow-le-pow_right)
 
 pub group_lacks : (form : Group) (digits : List ℕ) → IsGroup form digits → has (separator_of form) digits ≡ false
 group_lacks group.Octet digits g = digits_lack 46 10 digits (lit≤ tt) g.1.writes.numeral.1
@@ -50,14 +47,12 @@ split_at c (b ∷ front) back lacks =
 pub split_joined : (form : Group) (first : List ℕ) (groups : List (List ℕ)) → AllByRecursion (IsGroup form) (first ∷ groups)
     → slice_split (λ b. b == separator_of form) (join_with_byte (separator_of form) (first ∷ groups)) ≡ first ∷ groups
 split_joined form first [] each = split_none (separator_of form) first (group_lacks form first each.0)
-split_joined form first (second ∷ groups) each =
-    split_at (separator_of form) first (join_with_byte (separator_of form) (second ∷ groups)) (group_lacks form first each.0)
-    ∙ ap (λ parts. first ∷ parts) (split_joined form second groups each.1)
+split_joined form first (second ∷ groups) each = search (arith, split_at, join_with_byte, group_lacks, (split_joined form second groups each.1))
 
 parts_are : (form : Group) (text : List ℕ) (groups : List (List ℕ)) → text ≡ join_with_byte (separator_of form) groups → AllByRecursion (IsGroup form)
     groups → 0 < length text → groups ≡ slice_split (λ b. b == separator_of form) text
 parts_are form text [] joined each some = absurd (omega (arith, ap length joined))
-parts_are form text (first ∷ groups) joined each some = sym (ap (slice_split (λ b. b == separator_of form)) joined ∙ split_joined form first groups each)
+parts_are form text (first ∷ groups) joined each some = search (arith, slice_split, split_joined)
 
 -- the groups of a text are its parts
 pub groups_are_parts : {form : Group} {text : List ℕ} {groups : List (List ℕ)} → AreGroups form text groups → 0 < length text
@@ -70,10 +65,7 @@ pub small_answer : (digits : List ℕ) (most : ℕ) (r : Result ℕ WordFault) �
     → MatchOption (result_ok r) (IsNumeral 16 digits × (length digits ≤ most) → ⊥) (λ n. IsNumeral 16 digits × (length digits ≤ most)
     × (n ≡ digits_value 16 digits))
 small_answer digits most (Ok n) low upper_bound h = (h.0.numeral, upper_bound, sym h.0.value)
-small_answer digits most (Err fault.TooLarge) low upper_bound h =
-    let below = small_hexadecimal digits most h.1.numeral.1 upper_bound in
-    let more : 16 ^ most ≤ 16 ^ 4 = pow-le-pow_right (lit< tt) low in
-    absurd (not_small h.0 (omega (arith, h.1.value)) h.2)
+small_answer digits most (Err fault.TooLarge) low upper_bound h = search (arith, small_hexadecimal, pow-le-pow_right, not_small)
 small_answer digits most (Err fault.Unknown) low upper_bound h = λ g. h (digits_value 16 digits) (record { numeral = g.0; value = refl })
 
 -- reading the parts of a text
@@ -89,23 +81,11 @@ pub each_pushed : (P : List ℕ → Type 0) (groups : List (List ℕ)) (g : List
 each_pushed P [] g each last = (last, tt)
 each_pushed P (h ∷ groups) g each last = (each.0, each_pushed P groups g each.1 last)
 
-values_pushed : (form : Group) (groups : List (List ℕ)) (g : List ℕ) → group_values form (groups ++ g ∷ []) ≡ group_values form groups
-    ++ group_value form g ∷ []
-values_pushed form [] g = refl
-values_pushed form (h ∷ groups) g = ap (λ values. group_value form h ∷ values) (values_pushed form groups g)
-
-pub now_pushed : (ys : List (Bor (List ℕ))) (y : Bor (List ℕ)) → map (λ x. x.now) (ys ++ y ∷ []) ≡ map (λ x. x.now) ys ++ y.now ∷ []
-now_pushed [] y = refl
-now_pushed (x ∷ ys) y = ap (λ rest. x.now ∷ rest) (now_pushed ys y)
-
 -- a part that is no group
 pub bad_part : {form : Group} {text digits : List ℕ} (k : ℕ) → 0 < length text → (k < length (parts_of form text))
     × (digits ≡ get_or (parts_of form text) k digits) → (IsGroup form digits → ⊥)
     → (groups : List (List ℕ)) → AreGroups form text groups → length groups ≤ 8 → ⊥
-bad_part {form} {text} {digits} k some at bad groups are upper_bound =
-    let same = groups_are_parts are some in
-    let each : AllByRecursion (IsGroup form) (parts_of form text) = subst (λ gs. AllByRecursion (IsGroup form) gs) same are.each in
-    bad (subst (IsGroup form) (sym at.1) (each_at (IsGroup form) (parts_of form text) k digits each at.0))
+bad_part {form} {text} {digits} k some at bad groups are upper_bound = search (arith, groups_are_parts, each_at)
 
 -- a ninth part
 pub too_many : {form : Group} {text : List ℕ} (k : ℕ) → 0 < length text → k < length (parts_of form text) → k ≡ 8
@@ -116,34 +96,25 @@ too_many {form} {text} k some within eight groups are upper_bound =
 -- no part was left
 pub all_read : {form : Group} {text : List ℕ} (groups : List (List ℕ)) → AllByRecursion (IsGroup form) groups → groups ≡ parts_of form text
     → AreGroups form text groups
-all_read {form} {text} groups each same = record {
-  joined = sym (ap (join_with_byte (separator_of form)) same ∙ join_with_byte-slice_split (separator_of form) text);
-  each = each;
-}
+all_read {form} {text} groups each same = search (arith, join_with_byte, same, join_with_byte-slice_split)
+
+pub next_power : (base i : ℕ) → base ^ (i + 1) ≡ base ^ i * base
+next_power base i = rw (add-one, pow-suc) refl
 
 -- one more digit in a base
 pub below_next : (base count value digit : ℕ) → value < base ^ count → digit < base → value * base + digit < base ^ (count + 1)
 below_next base count value digit h k =
     let times : (value + 1) * base ≤ base ^ count * base = mul-le-mul_right base (omega arith) in
-    let power : base ^ (count + 1) ≡ base ^ count * base = rw (add-one, pow-suc) refl in
-    omega arith
+    omega (arith, next_power base count)
 
 pub base_fits : (form : Group) (count : ℕ) → count < 8 → base_of form ^ (count + 1) ≤ 2 ^ 128
 base_fits group.Quad count h = pow-le-pow_right (lit< tt) {j = 8} (omega arith)
-base_fits _ count h = let most : 256 ^ (count + 1) ≤ 256 ^ 8 = pow-le-pow_right (lit< tt) {j = 8} (omega arith) in omega arith
+base_fits _ count h = search (arith, pow-le-pow_right)
 
 -- the state after one more part is read
-pub value_pushed : (form : Group) (groups : List (List ℕ)) (g : List ℕ) (value digit : ℕ) → value ≡ number_from_digits (base_of form)
-    (group_values form groups) → digit ≡ group_value form g
-    → value * base_of form + digit ≡ number_from_digits (base_of form) (group_values form (groups ++ g ∷ []))
-value_pushed form groups g value digit v d =
-    let pushed = number_push (base_of form) (group_values form groups) (group_value form g) in
-    rw (values_pushed form groups g, pushed, v, d) refl
-
 pub step_small : (form : Group) (digits : List ℕ) (value count digit base : ℕ) → base ≡ base_of form → IsGroup form digits
     × (digit ≡ group_value form digits) → value < base_of form ^ count → value * base + digit < base_of form ^ (count + 1)
-step_small form digits value count digit base same g small = rw (same, g.1) (below_next (base_of form) count value (group_value form digits) small
-    (group_below form digits g.0))
+step_small form digits value count digit base same g small = search (arith, same, below_next, group_below)
 
 pub step_fits : (form : Group) (digits : List ℕ) (value count digit base : ℕ) → base ≡ base_of form → IsGroup form digits
     × (digit ≡ group_value form digits) → value < base_of form ^ count → count < 8 → value * base + digit < 2 ^ 128
@@ -155,21 +126,15 @@ step_fits form digits value count digit base same g small upper_bound =
 pub step_value : (form : Group) (seen : List (List ℕ)) (digits : List ℕ) (value digit base : ℕ) → base ≡ base_of form → IsGroup form digits
     × (digit ≡ group_value form digits) → value ≡ number_from_digits (base_of form) (group_values form seen)
     → value * base + digit ≡ number_from_digits (base_of form) (group_values form (seen ++ digits ∷ []))
-step_value form seen digits value digit base same g v = rw same (value_pushed form seen digits value digit v g.1)
+step_value form seen digits value digit base same g v = rw (same, map-append, number_push, v, g.1)
 
 -- one more zero digit
-pub next_power : (base i : ℕ) → base ^ (i + 1) ≡ base ^ i * base
-next_power base i = rw (add-one, pow-suc) refl
-
 base_some : (form : Group) → 0 < base_of form
 base_some group.Octet = lit< tt
 base_some _ = lit< tt
 
 pub shifted_small : (form : Group) (value count i : ℕ) → value < base_of form ^ count → value * base_of form ^ i < base_of form ^ (count + i)
-shifted_small form value count i small =
-    let least : base_of form ^ 0 ≤ base_of form ^ i = pow-le-pow_right (base_some form) (omega arith) in
-    let some : 0 < base_of form ^ i = omega (arith, pow-zero (base_of form)) in
-    rw pow-add (mul-lt-mul_of_pos_right small some)
+shifted_small form value count i small = search (arith, pow-le-pow_right, base_some, pow-zero, pow-add, mul-lt-mul_of_pos_right)
 
 pub zero_fits : (form : Group) (value count i : ℕ) → value < base_of form ^ count → count + i < 8 → value * base_of form ^ i * base_of form < 2 ^ 128
 zero_fits form value count i small upper_bound =
@@ -189,7 +154,7 @@ some_joined form first (second ∷ groups) g = simp length-append (omega (arith,
 none_in_empty : (form : Group) (text : List ℕ) (groups : List (List ℕ)) → length text ≡ 0 → text ≡ join_with_byte (separator_of form) groups
     → AllByRecursion (IsGroup form) groups → groups ≡ []
 none_in_empty form text [] empty joined each = refl
-none_in_empty form text (first ∷ groups) empty joined each = absurd (omega (arith, some_joined form first groups each.0, ap length joined))
+none_in_empty form text (first ∷ groups) empty joined each = search (arith, some_joined)
 
 -- a text is one list of groups at most
 pub same_groups : {form : Group} {text : List ℕ} {xs ys : List (List ℕ)} → AreGroups form text xs → AreGroups form text ys → xs ≡ ys
@@ -205,9 +170,7 @@ values_below form (g ∷ groups) each = (group_below form g each.0, values_below
 
 pub groups_below : (form : Group) (groups : List (List ℕ)) → AllByRecursion (IsGroup form) groups → number_from_digits (base_of form)
     (group_values form groups) < base_of form ^ length groups
-groups_below form groups each =
-    let below = number_lt (base_of form) (group_values form groups) (values_below form groups each) in
-    rw length-map at below
+groups_below form groups each = search (arith, number_lt, values_below, length-map)
 
 pub reads_below : (form : Group) (text : List ℕ) (joined : JoinedGroups) → ReadsGroups form text (Some joined) → joined.value < base_of form ^ joined.count
 reads_below form text joined r = rw (r.3, r.4) (groups_below form r.0 r.1.each)
@@ -224,7 +187,7 @@ zeros_after base n (suc k) = rw (zeros_after base (n * base + 0) k, pow-suc) (om
 
 -- a number with zeros after it
 pub number_zeros : (base k : ℕ) (digits : List ℕ) → number_from_digits base (digits ++ replicate k 0) ≡ number_from_digits base digits * base ^ k
-number_zeros base k digits = number_after_append base 0 digits (replicate k 0) ∙ zeros_after base (number_from_digits base digits) k
+number_zeros base k digits = search (arith, number_after_append, zeros_after)
 
 -- and with other digits after those
 pub number_between : (base k : ℕ) (digits others : List ℕ) → number_from_digits base (digits ++ (replicate k 0 ++ others)) ≡ number_from_digits base
@@ -252,17 +215,10 @@ whole_below {form} w = rw (w.value, ← w.all) (groups_below form w.groups w.are
 pub ends_value : (form : Group) (first last : List (List ℕ)) → length first + length last ≤ 7
     → number_from_digits 65536 (group_values form first) * 65536 ^ (8 - length first) + number_from_digits 65536 (group_values form last)
     ≡ number_from_digits 65536 (group_values form first ++ (replicate (8 - (length first + length last)) 0 ++ group_values form last))
-ends_value form first last upper_bound =
-    let between = number_between 65536 (8 - (length first + length last)) (group_values form first) (group_values form last) in
-    let long : length (group_values form last) ≡ length last = length-map last (group_value form) in
-    let same : 8 - (length first + length last) + length (group_values form last) ≡ 8 - length first = omega arith in
-    sym (between ∙ ap (λ k. number_from_digits 65536 (group_values form first) * 65536 ^ k + number_from_digits 65536 (group_values form last)) same)
+ends_value form first last upper_bound = search (arith, number_between, length, group_values, length-map, group_value, number_from_digits)
 
 pub ends_below : {front back : List ℕ} {a : ℕ} → AreIp6Ends front back a → a < 2 ^ 128
-ends_below e =
-    rw (e.value ∙ sym (ends_value group.Quad e.first e.last e.at_most_seven))
-    (ends_fit _ (length e.first) _ (length e.last) (groups_below group.Quad e.first e.are_first.each) (groups_below group.Quad e.last e.are_last.each)
-    e.at_most_seven)
+ends_below e = search (arith, ends_value, ends_fit, groups_below)
 
 -- two to four parts are 32 bits; missing ones are 0
 pub dotted_below : {word : List ℕ} {a parts : ℕ} → IsDotted word a parts → (a < 2 ^ 32) × (a % 256 ^ (4 - parts) ≡ 0)
@@ -276,11 +232,4 @@ dotted_below {word} {a} {parts} d =
 
 pub read_dotted : {word : List ℕ} {joined : JoinedGroups} → ReadsGroups group.Octet word (Some joined) → 2 ≤ joined.count → joined.count ≤ 4
     → IsDotted word (joined.value * 256 ^ (4 - joined.count)) joined.count
-read_dotted read low high = record {
-  groups = read.0;
-  are = read.1;
-  at_least_two = omega (arith, read.3);
-  at_most_four = omega (arith, read.3);
-  count = read.3;
-  value = rw (read.4, read.3) (sym (number_zeros 256 (4 - length read.0) (group_values group.Octet read.0)));
-}
+read_dotted read low high = search (arith, number_zeros)

@@ -1,5 +1,5 @@
 -- Where two colons are in an IPv6 address.
-use Rattle.flt_words.proofs.Common.{◌≡◌, ◌≢◌, ℕ, suc, zero, ◌+◌, ◌<◌, List, [], ◌∷◌, ◌++◌, length, get_or, take, drop, refl, sym, ap, ◌∙◌, subst, arith, false}
+use Rattle.flt_words.proofs.Common.{◌≡◌, ◌≢◌, ℕ, suc, zero, ◌+◌, ◌<◌, List, [], ◌∷◌, ◌++◌, length, get_or, take, drop, refl, sym, ◌∙◌, subst, arith, false}
 use Rattle.flt_words.proofs.Common.{◌==◌, Option, Some, None, MatchOption, add-one, length-append, drop-cons, drop-append-add, get_or-append_seam}
 use Rattle.flt_words.proofs.Common.{take-append_seam, nat_tests, get_or-append-add, get_or_append_left, take-append-drop, AllByRecursion, join_with_byte}
 use Rattle.flt_words.proofs.Common.{AreGroups, AreIp6Ends, IsGroup, IsIp6, IsWholeIp6, IsDoubleColon, shortened, whole, has, or_parts, Group}
@@ -34,9 +34,7 @@ begins_with_digit (b ∷ digits) some lacks = is_not b (or_parts (b == 58) (has 
 
 first_of_joined : (first : List ℕ) (groups : List (List ℕ)) → IsGroup Group.Quad first → (get_or (join_with_byte 58 (first ∷ groups)) 0 0 ≢ 58)
     × (0 < length (join_with_byte 58 (first ∷ groups)))
-first_of_joined first [] g =
-    let some = group_some Group.Quad first g in
-    (begins_with_digit first some (group_lacks Group.Quad first g), some)
+first_of_joined first [] g = search (arith, group_some, begins_with_digit, group_lacks)
 first_of_joined first (second ∷ groups) g =
     let some = group_some Group.Quad first g in
     (rw get_or_append_left (begins_with_digit first some (group_lacks Group.Quad first g)), simp length-append (omega arith))
@@ -56,7 +54,7 @@ pub no_double_colon : {text : List ℕ} {groups : List (List ℕ)} (k : ℕ) →
 no_double_colon {text} {groups} k are double = (parted are k double.0).0 (rw add-one at double.1)
 
 pub double_between : (front back : List ℕ) → IsDoubleColon (front ++ 58 ∷ 58 ∷ back) (length front)
-double_between front back = (get_or-append_seam front 58 (58 ∷ back) 0, get_or-append-add front (58 ∷ 58 ∷ back) 1 0)
+double_between front back = search (arith, get_or-append_seam, get_or-append-add)
 
 pub none_before_first : {front : List ℕ} {groups : List (List ℕ)} (back : List ℕ) → AreGroups Group.Quad front groups → (k : ℕ) → k < length front
     → IsDoubleColon (front ++ 58 ∷ 58 ∷ back) k → ⊥
@@ -74,14 +72,7 @@ first_double_colon front back groups i are double first =
     omega arith
 
 cut_at_two : (word : List ℕ) (i : ℕ) → i + 1 < length word → IsDoubleColon word i → word ≡ take i word ++ 58 ∷ 58 ∷ drop (i + 2) word
-cut_at_two word i inside double =
-    let below : i < length word = omega arith in
-    let next : suc i < length word = omega arith in
-    let first : drop i word ≡ 58 ∷ drop (suc i) word = drop-cons word i 0 below ∙ ap (λ b. b ∷ drop (suc i) word) double.0 in
-    let second : drop (suc i) word ≡ 58 ∷ drop (suc (suc i)) word = drop-cons word (suc i) 0 next ∙ ap (λ b. b ∷ drop (suc (suc i)) word)
-    (rw add-one at double.1) in
-    let two : suc (suc i) ≡ i + 2 = omega arith in
-    sym (take-append-drop i word) ∙ ap (λ rest. take i word ++ rest) (first ∙ ap (λ rest. 58 ∷ rest) (second ∙ ap (λ k. 58 ∷ drop k word) two))
+cut_at_two word i inside double = search (arith, drop-cons, take-append-drop)
 
 pub ip6_from_ends : {word : List ℕ} {a : ℕ} (i : ℕ) → i + 1 < length word → IsDoubleColon word i → AreIp6Ends (take i word) (drop (i + 2) word) a → IsIp6 word a
 ip6_from_ends {word} {a} i inside double ends = subst (λ w. IsIp6 w a) (sym (cut_at_two word i inside double)) (shortened ends)

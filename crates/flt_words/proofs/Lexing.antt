@@ -1,8 +1,8 @@
 -- The steps of cutting a text into tokens.
-use Rattle.flt_words.proofs.Common.{◌≡◌, ℕ, ◌+◌, ◌<◌, ◌≤◌, List, [], ◌∷◌, ◌++◌, length, get_or, take, drop, refl, sym, ap, ◌∙◌, subst, arith, Bool, true, false}
-use Rattle.flt_words.proofs.Common.{◌==◌, ◌-◌, cond, count_by, nat_lt, Result, Ok, Err, take-add, nat_tests, length-take, take_rest, count_by-le-length}
+use Rattle.flt_words.proofs.Common.{◌≡◌, ℕ, ◌+◌, ◌<◌, ◌≤◌, List, [], ◌∷◌, ◌++◌, length, get_or, take, drop, refl, sym, ap, arith, Bool, true, false}
+use Rattle.flt_words.proofs.Common.{◌==◌, ◌-◌, count_by, nat_lt, Result, Ok, Err, take-add, nat_tests, length-take, take_rest, count_by-le-length}
 use Rattle.flt_words.proofs.Common.{count_by_more_no, sum_by-append, ExprFault, Token, TokenKind, is_blank, is_inside, IsRefused, IsToken, TokensFrom, before}
-use Rattle.flt_words.proofs.Common.{at_end, blank, refused, token}
+use Rattle.flt_words.proofs.Common.{at_end, blank, refused, token, subst}
 
 -- a result after tokens
 abbrev pub after : List Token → Result (List Token) ExprFault → Result (List Token) ExprFault
@@ -33,10 +33,7 @@ cut_blank cut is = record { whole = λ answer rest. cut.whole answer (blank is r
 
 pub cut_token : {text : List ℕ} {at n : ℕ} {tokens : List Token} {kind : TokenKind} → IsCut text at tokens → IsToken (is_inside (take at text))
     (at + 1) (drop at text) kind n → IsCut text (at + n) (tokens ++ record { kind = kind; place = at + 1 } ∷ [])
-cut_token {text} {at} {n} {tokens} {kind} cut is = record {
-  whole = λ answer rest. subst (TokensFrom text 0) (sym (after_push tokens (record { kind = kind; place = at + 1 }) answer))
-      (cut.whole (before (record { kind = kind; place = at + 1 }) answer) (token is rest));
-}
+cut_token {text} {at} {n} {tokens} {kind} cut is = search (arith, after_push, token)
 
 pub cut_end : {text : List ℕ} {at : ℕ} {tokens : List Token} → IsCut text at tokens → at ≡ length text → TokensFrom text 0 (Ok tokens)
 cut_end {text} {at} {tokens} cut ended = subst (TokensFrom text 0) (after_none tokens) (cut.whole (Ok []) (at_end ended))
@@ -48,7 +45,7 @@ cut_refused {text} {at} {tokens} {refusal} cut within other is = subst (TokensFr
 
 -- the bytes of a kind, up to a byte and then in a piece
 pub counted_more : (p : ℕ → Bool) (text : List ℕ) (at n : ℕ) → count_by p (take (at + n) text) ≡ count_by p (take at text) + count_by p (take n (drop at text))
-counted_more p text at n = ap (count_by p) (take-add at n text) ∙ sum_by-append (λ b. cond (p b) 1 0) (take at text) (take n (drop at text))
+counted_more p text at n = search (arith, take-add, sum_by-append)
 
 -- a blank is no bracket
 blank_differs : (b c : ℕ) → is_blank b ≡ true → is_blank c ≡ false → (b == c) ≡ false
@@ -56,19 +53,17 @@ blank_differs b c is other = grind (arith, nat_tests)
 
 pub blank_keeps : (c : ℕ) (text : List ℕ) (at : ℕ) → is_blank c ≡ false → at < length text → is_blank (get_or text at 0) ≡ true
     → count_by (λ b. b == c) (take (at + 1) text) ≡ count_by (λ b. b == c) (take at text)
-blank_keeps c text at other within is = count_by_more_no (λ b. b == c) text at 0 within (blank_differs (get_or text at 0) c is other)
+blank_keeps c text at other within is = search (arith, count_by_more_no, blank_differs)
 
 -- the counted brackets decide whether a byte is inside
 pub inside_at : (P : Bool → List ℕ → Type 0) (text : List ℕ) (at opened closed : ℕ) → opened ≡ count_by (λ b. b == 91) (take at text)
     → closed ≡ count_by (λ b. b == 93) (take at text)
     → P (nat_lt closed opened) (take (length text - at) (drop at text)) → P (is_inside (take at text)) (drop at text)
-inside_at P text at opened closed o c h = subst (λ rest. P (is_inside (take at text)) rest) (take_rest text at)
-    (subst (λ m. P (nat_lt m (count_by (λ b. b == 91) (take at text))) (take (length text - at) (drop at text))) c
-    (subst (λ m. P (nat_lt closed m) (take (length text - at) (drop at text))) o h))
+inside_at P text at opened closed o c h = search (arith, take_rest)
 
 pub counted_step : (p : ℕ → Bool) (text : List ℕ) (at n old more : ℕ) → old ≡ count_by p (take at text) → count_by p (take n (drop at text)) ≡ more
     → old + more ≡ count_by p (take (at + n) text)
 counted_step p text at n old more o m = rw (o, ← m) (sym (counted_more p text at n))
 
 pub counted_few : (p : ℕ → Bool) (text : List ℕ) (at n : ℕ) → n ≡ count_by p (take at text) → n ≤ at
-counted_few p text at n e = omega (arith, count_by-le-length p (take at text), length-take at text)
+counted_few p text at n e = search (arith, count_by-le-length, length-take)

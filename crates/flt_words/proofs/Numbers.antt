@@ -1,7 +1,7 @@
 -- Numbers and ranges in words, and where a byte cuts a word.
 use Rattle.flt_words.proofs.Common.{◌≡◌, ◌≢◌, ℕ, ◌+◌, ◌<◌, ◌≤◌, List, [], ◌∷◌, ◌++◌, length, get_or, take, drop, refl, arith, Bool, true, false, ◌==◌, cond}
 use Rattle.flt_words.proofs.Common.{nat_lt, Option, Some, None, subst, nat_tests, passes_at_first, split_at_first, digit_value, position, position_or_len}
-use Rattle.flt_words.proofs.Common.{AllDigits, has, ◌^◌, digits_value, are_digits, WritesNumber, is_word_sized, ◌⊎◌, ⊎_elim, ◌||◌, sym, lit≤, IsNumber}
+use Rattle.flt_words.proofs.Common.{AllDigits, has, ◌^◌, digits_value, are_digits, WritesNumber, is_word_sized, ◌⊎◌, ◌||◌, sym, lit≤, IsNumber}
 use Rattle.flt_words.proofs.Common.{WritesDecimal, decimal, octal, hexadecimal, capital_hexadecimal, take-append_seam, drop-append-add, IsRange, joined, ◌∙◌}
 use Rattle.std.proofs.lemmas.{Bool.or_parts, List.length-append}
 use Rattle.cap_octet.proofs.Numerals.{digits_from_test, digits_pass}
@@ -19,7 +19,7 @@ first_after c (b ∷ front) back lacks =
     rw (parts.0, first_after c front back parts.1) (omega arith)
 
 pub digit_differs : (c radix d : ℕ) → radix ≤ digit_value c → digit_value d < radix → (d == c) ≡ false
-digit_differs c radix d high low = differs d c (λ e. let small : digit_value c < radix = subst (λ x. digit_value x < radix) e low in omega arith)
+digit_differs c radix d high low = search (arith, differs)
 
 pub digits_lack : (c radix : ℕ) (digits : List ℕ) → radix ≤ digit_value c → AllDigits radix digits → has c digits ≡ false
 digits_lack c radix [] high all = refl
@@ -30,10 +30,7 @@ ltb_is m n h = grind (arith, nat_tests)
 
 -- a separator that the front lacks is found after it
 pub cut_at : (c : ℕ) (front back : List ℕ) → has c front ≡ false → position (λ b. b == c) (front ++ c ∷ back) ≡ Some (length front)
-cut_at c front back lacks =
-    let within : nat_lt (length front) (length (front ++ c ∷ back)) ≡ true = ltb_is (length front) (length (front ++ c ∷ back))
-    (simp length-append (omega arith)) in
-    rw (first_after c front back lacks, within) refl
+cut_at c front back lacks = search (arith, ltb_is, length-append, first_after)
 
 found_within : (m n i : ℕ) (b : Bool) → nat_lt m n ≡ b → ◌≡◌ {A = Option ℕ} (cond b (Some m) None) (Some i) → (m < n) × (m ≡ i)
 found_within m n i true test found = (grind (arith, nat_tests), cc)
@@ -69,17 +66,17 @@ pub some_unless_test : (n : ℕ) → (n == 0) ≡ false → 0 < n
 some_unless_test n empty = grind (arith, nat_tests)
 
 pub writes_from_tests : (radix : ℕ) (ds : List ℕ) → (length ds == 0) ≡ false → are_digits radix ds ≡ true → WritesNumber radix ds (digits_value radix ds)
-writes_from_tests radix ds some pass = record { numeral = (some_unless_test (length ds) some, digits_from_test radix ds pass); value = refl }
+writes_from_tests radix ds some pass = search (arith, some_unless_test, digits_from_test)
 
 -- the front of a word
 pub only_decimal : {word : List ℕ} {n : ℕ} → (length word < 2) ⊎ (get_or word 0 0 ≢ 48) → IsNumber word n → WritesDecimal word n
 only_decimal either (decimal w) = w
-only_decimal either (octal w) = ⊎_elim (λ short. absurd (omega (arith, w.numeral.0))) (λ other. absurd (other refl)) either
-only_decimal either (hexadecimal w) = ⊎_elim (λ short. absurd (omega (arith, w.numeral.0))) (λ other. absurd (other refl)) either
-only_decimal either (capital_hexadecimal w) = ⊎_elim (λ short. absurd (omega (arith, w.numeral.0))) (λ other. absurd (other refl)) either
+only_decimal either (octal w) = search arith
+only_decimal either (hexadecimal w) = search arith
+only_decimal either (capital_hexadecimal w) = search arith
 
 pub not_alone : {a b n : ℕ} {digits : List ℕ} → a ≡ 48 → WritesDecimal (a ∷ b ∷ digits) n → ⊥
-not_alone {a} {b} {n} {digits} zero w = let one : length (a ∷ b ∷ digits) ≡ 1 = w.no_leading_zero zero in omega arith
+not_alone {a} {b} {n} {digits} zero w = search arith
 
 -- the radix that the prefix of a word means, and the digits after it
 abbrev pub form_of : List ℕ → ℕ × List ℕ
@@ -91,7 +88,7 @@ written (decimal {word = []} w) = w.writes
 written (decimal {word = a ∷ []} w) = w.writes
 written (decimal {word = a ∷ b ∷ digits} w) = rw (differs a 48 (λ zero. not_alone zero w)) w.writes
 written (octal {digits = []} w) = absurd (omega (arith, w.numeral.0))
-written (octal {digits = b ∷ digits} w) = rw (digit_differs 120 8 b (lit≤ tt) w.numeral.1.0, digit_differs 88 8 b (lit≤ tt) w.numeral.1.0) w
+written (octal {digits = b ∷ digits} w) = search (arith, digit_differs)
 written (hexadecimal w) = w
 written (capital_hexadecimal w) = w
 
@@ -100,18 +97,13 @@ pub hexadecimal_by_front : (word : List ℕ) → 2 ≤ length word → get_or wo
     → (WritesNumber 16 (drop 2 word) n → IsNumber word n) × (IsNumber word n → WritesNumber 16 (drop 2 word) n)
 hexadecimal_by_front [] long zero x n = absurd (omega arith)
 hexadecimal_by_front (a ∷ []) long zero x n = absurd (omega arith)
-hexadecimal_by_front (a ∷ b ∷ digits) long zero x n = (
-  λ w. ⊎_elim (λ e. subst (λ d. IsNumber (d ∷ b ∷ digits) n) (sym zero) (subst (λ d. IsNumber (48 ∷ d ∷ digits) n) (sym e) (hexadecimal w)))
-      (λ e. subst (λ d. IsNumber (d ∷ b ∷ digits) n) (sym zero) (subst (λ d. IsNumber (48 ∷ d ∷ digits) n) (sym e) (capital_hexadecimal w))) x,
-  λ w. let read = rw zero at (written w) in ⊎_elim (λ e. let b_is : b ≡ 120 = e in rw b_is at read) (λ e. let b_is : b ≡ 88 = e in rw b_is at read) x,
-)
+hexadecimal_by_front (a ∷ b ∷ digits) long zero x n = search (arith, hexadecimal, capital_hexadecimal, written)
 
 pub octal_by_front : (word : List ℕ) → 2 ≤ length word → get_or word 0 0 ≡ 48 → get_or word 1 0 ≢ 120 → get_or word 1 0 ≢ 88 → (n : ℕ)
     → (WritesNumber 8 (drop 1 word) n → IsNumber word n) × (IsNumber word n → WritesNumber 8 (drop 1 word) n)
 octal_by_front [] long zero x y n = absurd (omega arith)
 octal_by_front (a ∷ []) long zero x y n = absurd (omega arith)
-octal_by_front (a ∷ b ∷ digits) long zero x y n =
-    (λ w. subst (λ d. IsNumber (d ∷ b ∷ digits) n) (sym zero) (octal w), λ w. rw (zero, differs b 120 x, differs b 88 y) at (written w))
+octal_by_front (a ∷ b ∷ digits) long zero x y n = search (arith, octal, differs, written)
 
 -- a range is cut at its first dash
 pub decimal_lacks : {digits : List ℕ} {n : ℕ} (c : ℕ) → 10 ≤ digit_value c → WritesDecimal digits n → has c digits ≡ false

@@ -22,7 +22,7 @@ same_word (unknown none) (too_large w g) = absurd (none _ w)
 same_word (unknown none) (unknown other) = refl
 
 no_symbol : {inside : Bool} {text : List ℕ} {kind : TokenKind} → IsWordPiece inside text → symbol_of inside text ≡ Some kind → ⊥
-no_symbol {inside} {text} {kind} w found = false≢true (sym (symbol_piece inside text kind found).starts_none ∙ w.begins)
+no_symbol {inside} {text} {kind} w found = search (arith, false≢true, symbol_piece)
 
 same_means : {inside : Bool} {place : ℕ} {text : List ℕ} {a b : Result TokenKind ExprFault} → PieceMeans inside place text a → PieceMeans inside place
     text b → a ≡ b
@@ -37,38 +37,26 @@ same_length {inside} {rest} {m} {n} v w = omega (arith, v.longest n w.in_range w
 -- two readings of the front of a text
 same_token : {inside : Bool} {place m n : ℕ} {rest : List ℕ} {a b : TokenKind} → IsToken inside place rest a m → IsToken inside place rest b n
     → (m ≡ n) × (a ≡ b)
-same_token {inside} {place} {m} {n} {rest} {a} {b} v w =
-    let long = same_length v.longest w.longest in
-    let means : PieceMeans inside place (take m rest) (Ok b) = subst (λ k. PieceMeans inside place (take k rest) (Ok b)) (sym long) w.means in
-    (long, cc (same_means v.means means))
+same_token {inside} {place} {m} {n} {rest} {a} {b} v w = search (arith, same_length, same_means)
 
 token_or_refused : {inside : Bool} {place n : ℕ} {rest : List ℕ} {a : TokenKind} {e : ExprFault} → IsToken inside place rest a n
     → IsRefused inside place rest e → ⊥
 token_or_refused {inside} {place} {n} {rest} v (no_piece none) = none n v.longest.in_range v.longest.piece
-token_or_refused {inside} {place} {n} {rest} v (bad_piece {n = m} {refusal} longest means) =
-    let long = same_length longest v.longest in
-    cc (same_means v.means (subst (λ k. PieceMeans inside place (take k rest) (Err refusal)) long means))
+token_or_refused {inside} {place} {n} {rest} v (bad_piece {n = m} {refusal} longest means) = search (arith, same_length, same_means)
 
 same_refusal : {inside : Bool} {place : ℕ} {rest : List ℕ} {d e : ExprFault} → IsRefused inside place rest d → IsRefused inside place rest e → d ≡ e
 same_refusal (no_piece none) (no_piece other) = refl
 same_refusal (no_piece none) (bad_piece {n} longest means) = absurd (none n longest.in_range longest.piece)
 same_refusal (bad_piece {n} longest means) (no_piece none) = absurd (none n longest.in_range longest.piece)
-same_refusal {inside} {place} {rest} (bad_piece {refusal = d} longest means) (bad_piece {refusal = e} other_longest other_means) =
-    let long = same_length other_longest longest in
-    cc (same_means means (subst (λ k. PieceMeans inside place (take k rest) (Err e)) long other_means))
+same_refusal {inside} {place} {rest} (bad_piece {refusal = d} longest means) (bad_piece {refusal = e} other_longest other_means) = search (arith, same_length, same_means)
 
 -- a blank begins no token
 blank_starts_none : (inside : Bool) (b : ℕ) → is_blank b ≡ true → starts_word inside b ≡ false
 blank_starts_none inside b is = grind (arith, nat_tests)
 
 piece_not_blank : (inside : Bool) (rest : List ℕ) (m : ℕ) → m ≤ length rest → IsPiece inside (take m rest) → is_blank (get_or rest 0 0) ≡ true → ⊥
-piece_not_blank inside rest m within (word w) is =
-    let first = taken rest m 0 (word_some inside rest m w) in
-    false≢true (sym (blank_starts_none inside (get_or rest 0 0) is) ∙ sym (ap (starts_word inside) first) ∙ w.begins)
-piece_not_blank inside rest m within (symbol {kind} found) is =
-    let piece = symbol_piece inside (take m rest) kind found in
-    let some : 0 < m = omega (arith, piece.some, length-take-le m rest within) in
-    false≢true (sym piece.no_blank ∙ ap is_blank (taken rest m 0 some) ∙ is)
+piece_not_blank inside rest m within (word w) is = search (arith, taken, word_some, false≢true, blank_starts_none)
+piece_not_blank inside rest m within (symbol {kind} found) is = search (arith, symbol_piece, length-take-le, false≢true, taken)
 
 module _ (text : List ℕ) (at : ℕ) where
   first_is : get_or (drop at text) 0 0 ≡ get_or text at 0

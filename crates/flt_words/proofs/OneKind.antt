@@ -20,8 +20,8 @@ digits_of_more radix (d ∷ digits) few all = (omega (arith, all.0), digits_of_m
 number_digits : {word : List ℕ} {n : ℕ} → IsNumber word n → AllDigits 36 word
 number_digits (decimal {word} w) = digits_of_more 10 word (lit≤ tt) w.writes.numeral.1
 number_digits (octal {digits} w) = (lit< tt, digits_of_more 8 digits (lit≤ tt) w.numeral.1)
-number_digits (hexadecimal {digits} w) = (lit< tt, (lit< tt, digits_of_more 16 digits (lit≤ tt) w.numeral.1))
-number_digits (capital_hexadecimal {digits} w) = (lit< tt, (lit< tt, digits_of_more 16 digits (lit≤ tt) w.numeral.1))
+number_digits (hexadecimal {digits} w) = search (arith, digits_of_more)
+number_digits (capital_hexadecimal {digits} w) = search (arith, digits_of_more)
 
 number_lacks : {word : List ℕ} {n : ℕ} (c : ℕ) → 36 ≤ digit_value c → IsNumber word n → has c word ≡ false
 number_lacks {word} c sign w = digits_lack c 36 word sign (number_digits w)
@@ -33,7 +33,7 @@ lacks_append : (c : ℕ) (front back : List ℕ) → has c front ≡ false → h
 lacks_append c front back v w = list_any-append (λ b. b == c) front back ∙ rw (v, w) refl
 
 has_append : (c : ℕ) (front back : List ℕ) → has c back ≡ true → has c (front ++ back) ≡ true
-has_append c front back w = list_any-append (λ b. b == c) front back ∙ rw w (or-true (has c front))
+has_append c front back w = search (arith, list_any-append, or-true)
 
 range_lacks : {word : List ℕ} {first last : ℕ} (c : ℕ) → 36 ≤ digit_value c → (45 == c) ≡ false → IsRange word first last → has c word ≡ false
 range_lacks c sign other (joined {front} {back} v w) =
@@ -56,13 +56,13 @@ joined_lacks c (g ∷ h ∷ groups) sign other each =
 joined_has : (c : ℕ) (groups : List (List ℕ)) → 2 ≤ length groups → has c (join_with_byte c groups) ≡ true
 joined_has c [] two = absurd (omega arith)
 joined_has c (g ∷ []) two = absurd (omega arith)
-joined_has c (g ∷ h ∷ groups) two = has_append c g (c ∷ join_with_byte c (h ∷ groups)) (has_first c (join_with_byte c (h ∷ groups)))
+joined_has c (g ∷ h ∷ groups) two = search (arith, has_append, join_with_byte, has_first)
 
 groups_have : {form : Group} {text : List ℕ} {groups : List (List ℕ)} → AreGroups form text groups → 2 ≤ length groups → has (separator_of form) text ≡ true
-groups_have {form} {text} {groups} are two = ap (has (separator_of form)) are.joined ∙ joined_has (separator_of form) groups two
+groups_have {form} {text} {groups} are two = search (arith, joined_has)
 
 dotted_lacks : {word : List ℕ} {address parts : ℕ} (c : ℕ) → 36 ≤ digit_value c → (46 == c) ≡ false → IsDotted word address parts → has c word ≡ false
-dotted_lacks c sign other d = ap (has c) d.are.joined ∙ joined_lacks c d.groups sign other d.are.each
+dotted_lacks c sign other d = search (arith, joined_lacks)
 
 ip6_has : {word : List ℕ} {address : ℕ} → IsIp6 word address → has 58 word ≡ true
 ip6_has (whole w) = groups_have w.are (omega (arith, w.all))
@@ -84,8 +84,8 @@ kind_sign (ip6 w) = 3
 pub sign_is : {word : List ℕ} {kind : TokenKind} (s : Spells word kind) → sign_of word ≡ kind_sign s
 unfolding kind_sign
 sign_is {word} {kind} (keyword w) = let plain = keyword_is_plain word kind w in rw (plain.no_colon, plain.no_point) refl
-sign_is (number w) = rw (number_lacks 58 (lit≤ tt) w, number_lacks 46 (lit≤ tt) w, number_lacks 45 (lit≤ tt) w) refl
-sign_is (range w) = rw (range_lacks 58 (lit≤ tt) refl w, range_lacks 46 (lit≤ tt) refl w, range_has w) refl
+sign_is (number w) = search (arith, number_lacks)
+sign_is (range w) = search (arith, range_lacks, range_has)
 sign_is (dotted w) = rw (dotted_lacks 58 (lit≤ tt) refl w, groups_have w.are w.at_least_two) refl
 sign_is (mac w) = rw (groups_have w.are (omega (arith, w.all))) refl
 sign_is (ip6 w) = rw (ip6_has w) refl
@@ -109,7 +109,7 @@ same_dotted v w =
     )
 
 same_whole : {form : Group} {base many a b : ℕ} {word : List ℕ} → IsWholeAddress form base many word a → IsWholeAddress form base many word b → a ≡ b
-same_whole {form} {base} v w = v.value ∙ ap (λ gs. number_from_digits base (group_values form gs)) (same_groups v.are w.are) ∙ sym w.value
+same_whole {form} {base} v w = search (arith, same_groups)
 
 same_ends : {front back : List ℕ} {a b : ℕ} → AreIp6Ends front back a → AreIp6Ends front back b → a ≡ b
 same_ends {front} {back} {a} {b} v w =
@@ -139,7 +139,7 @@ six_are_no_ip6 are six (whole w) = let same = ap length (same_groups are w.are) 
 six_are_no_ip6 are six (shortened {front} {back} w) = no_double_colon (length front) are (double_between front back)
 
 no_mac_is_ip6 : {word : List ℕ} {a b : ℕ} → IsMac word a → IsIp6 word b → ⊥
-no_mac_is_ip6 v w = six_are_no_ip6 (record { joined = v.are.joined; each = bytes_are_quads v.groups v.are.each }) v.all w
+no_mac_is_ip6 v w = search (arith, six_are_no_ip6, joined, bytes_are_quads)
 
 decimal_first : (digits : List ℕ) {n : ℕ} → WritesNumber 10 digits n → get_or digits 0 0 < 58
 decimal_first [] w = absurd (omega (arith, w.numeral.0))

@@ -1,6 +1,6 @@
 -- The longest piece at the start of a text.
 use Rattle.flt_words.proofs.Common.{◌≡◌, ℕ, ◌+◌, ◌-◌, ◌<◌, ◌≤◌, ◌≢◌, suc, zero, List, [], ◌∷◌, below_more, length, get_or, take, refl, sym, ap, ◌∙◌, arith}
-use Rattle.flt_words.proofs.Common.{Bool, true, false, length-take-le, Some, None, lit<, lit≤, subst, ⊎_elim, cases_lt, false≢true, get_or-take, TokenKind}
+use Rattle.flt_words.proofs.Common.{Bool, true, false, length-take-le, Some, None, lit<, lit≤, ⊎_elim, cases_lt, false≢true, get_or-take, TokenKind}
 use Rattle.flt_words.proofs.Common.{starts_word, within_word, symbol_of, IsLongest, IsPiece, IsWordPiece, symbol, word}
 use Rattle.flt_words.proofs.Tables.{symbol_piece}
 
@@ -61,11 +61,7 @@ word_some inside rest (suc m) w = omega arith
 
 last_starts : (inside : Bool) (rest : List ℕ) (m : ℕ) → 0 < m → m ≤ length rest → IsWordPiece inside (take m rest)
     → starts_word inside (get_or rest (m - 1) 0) ≡ true
-last_starts inside rest m some within w =
-    let long : length (take m rest) ≡ m = length-take-le m rest within in
-    let same : get_or (take m rest) (length (take m rest) - 1) 0 ≡ get_or rest (m - 1) 0 = ap (λ k. get_or (take m rest) (k - 1) 0) long
-    ∙ taken rest m (m - 1) (omega arith) in
-    sym (ap (starts_word inside) same) ∙ w.ends
+last_starts inside rest m some within w = search (arith, length-take-le, taken)
 
 module _ (inside : Bool) (rest : List ℕ) (len stop : ℕ) (scanned : IsScanned inside rest len stop) (in_range : stop ≤ length rest)
     (begins : starts_word inside (get_or rest 0 0) ≡ true)
@@ -105,13 +101,11 @@ module _ (inside : Bool) (rest : List ℕ) (len stop : ℕ) (scanned : IsScanned
 
 -- where no word begins, no piece is one
 no_word : (inside : Bool) (rest : List ℕ) (m : ℕ) → starts_word inside (get_or rest 0 0) ≡ false → IsWordPiece inside (take m rest) → ⊥
-no_word inside rest m other w =
-    let first = taken rest m 0 (word_some inside rest m w) in
-    false≢true (sym other ∙ sym (ap (starts_word inside) first) ∙ w.begins)
+no_word inside rest m other w = search (arith, taken, word_some, false≢true)
 
 some_bytes : (inside : Bool) (rest : List ℕ) (m : ℕ) → m ≤ length rest → IsPiece inside (take m rest) → 0 < m
 some_bytes inside rest m within (word w) = word_some inside rest m w
-some_bytes inside rest m within (symbol {kind} found) = omega (arith, (symbol_piece inside (take m rest) kind found).some, length-take-le m rest within)
+some_bytes inside rest m within (symbol {kind} found) = search (arith, symbol_piece, length-take-le)
 
 -- but a symbol of at most two bytes
 record IsSymbolOf (inside : Bool) (rest : List ℕ) (m : ℕ) : Type 0 where
@@ -122,15 +116,11 @@ record IsSymbolOf (inside : Bool) (rest : List ℕ) (m : ℕ) : Type 0 where
 only_symbol : {inside : Bool} {rest : List ℕ} (m : ℕ) → starts_word inside (get_or rest 0 0) ≡ false → m ≤ length rest → IsPiece inside (take m rest)
     → IsSymbolOf inside rest m
 only_symbol {inside} {rest} m other within (word w) = absurd (no_word inside rest m other w)
-only_symbol {inside} {rest} m other within (symbol {kind} is) = record {
-  some = some_bytes inside rest m within (symbol is);
-  upper_bound = omega (arith, (symbol_piece inside (take m rest) kind is).upper_bound, length-take-le m rest within);
-  found = λ none. cc;
-}
+only_symbol {inside} {rest} m other within (symbol {kind} is) = search (arith, some_bytes, symbol, symbol_piece, length-take-le)
 
 not_of : {inside : Bool} {rest : List ℕ} {m : ℕ} (n : ℕ) → (n ≤ length rest → symbol_of inside (take n rest) ≡ None) → m ≤ length rest
     → IsSymbolOf inside rest m → m ≢ n
-not_of {inside} {rest} n none within is same = is.found (subst (λ k. symbol_of inside (take k rest) ≡ None) (sym same) (none (omega arith)))
+not_of {inside} {rest} n none within is same = search arith
 
 pub longest_two : {inside : Bool} {rest : List ℕ} {kind : TokenKind} → 2 ≤ length rest → starts_word inside (get_or rest 0 0) ≡ false
     → symbol_of inside (take 2 rest) ≡ Some kind → IsLongest inside rest 2

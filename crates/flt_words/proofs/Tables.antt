@@ -1,8 +1,8 @@
 -- What holds for each row of a table holds for what is found in it, and only brackets are spelled
 -- with brackets.
-use Rattle.flt_words.proofs.Common.{◌≡◌, ℕ, List, [], ◌∷◌, refl, subst, Bool, true, false, ◌&&◌, not, ◌==◌, eqb-true, cond, Option, Some, get_or, nat_lt}
+use Rattle.flt_words.proofs.Common.{◌≡◌, ℕ, List, [], ◌∷◌, refl, Bool, true, false, ◌&&◌, not, ◌==◌, eqb-true, cond, Option, Some, get_or, nat_lt}
 use Rattle.flt_words.proofs.Common.{bytes_eq-Decides, list_all, bytes_eq, TokenKind, has, Spellings, keyword_of, look_up, fits, ◌<◌, ◌≤◌, count_by, length}
-use Rattle.flt_words.proofs.Common.{codes, arith, lit≤, is_ascii_alphanumeric, is_blank, starts_word, symbol_of, suc, take, sym, ap, ◌∙◌, Ok, false≢true}
+use Rattle.flt_words.proofs.Common.{codes, arith, lit≤, is_ascii_alphanumeric, is_blank, starts_word, symbol_of, suc, take, sym, ◌∙◌, Ok, false≢true}
 use Rattle.flt_words.proofs.Common.{within_word, IsToken, IsWordPiece, PieceMeans, symbol_meaning, word_meaning, Spells, keyword, known, and_parts, not-true}
 use Rattle.flt_words.proofs.Common.{or_parts, ltb-true}
 use Rattle.flt_words.specs.Spellings.{keywords, symbols}
@@ -11,10 +11,7 @@ use Rattle.flt_words.specs.declared.token.TokenKind.TheVariants as token
 found_step : (p : List ℕ → TokenKind → Bool) (spelling : List ℕ) (found : TokenKind) (piece : List ℕ) (kind : TokenKind) (later : Option TokenKind)
     (same : Bool) → bytes_eq spelling piece ≡ same → p spelling found ≡ true
     → (later ≡ Some kind → p piece kind ≡ true) → ◌≡◌ {A = Option TokenKind} (cond same (Some found) later) (Some kind) → p piece kind ≡ true
-found_step p spelling found piece kind later true same pass more is =
-    let spelled = (bytes_eq-Decides spelling piece).0 same in
-    let answer : found ≡ kind = cc in
-    subst (λ k. p piece k ≡ true) answer (subst (λ s. p s found ≡ true) spelled pass)
+found_step p spelling found piece kind later true same pass more is = search (arith, bytes_eq-Decides)
 found_step p spelling found piece kind later false same pass more is = more is
 
 pub found_passes : (p : List ℕ → TokenKind → Bool) (table : Spellings) (piece : List ℕ) (kind : TokenKind) → list_all (λ entry. p entry.0 entry.1)
@@ -142,7 +139,7 @@ closes_none _ other = refl
 -- a word's bytes are no brackets
 other_byte : (inside : Bool) (c b : ℕ) → within_word inside c ≡ false → within_word inside b ≡ true → (same : Bool) → (b == c) ≡ same → (b == c) ≡ false
 other_byte inside c b lacks within false e = e
-other_byte inside c b lacks within true e = absurd (false≢true (sym lacks ∙ ap (within_word inside) (sym (eqb-true b c e)) ∙ within))
+other_byte inside c b lacks within true e = search (arith, false≢true, eqb-true)
 
 counts_none : (p : ℕ → Bool) (piece : List ℕ) → ((i : ℕ) → i < length piece → p (get_or piece i 0) ≡ false) → count_by p piece ≡ 0
 counts_none p [] none = refl
@@ -153,8 +150,7 @@ no_bracket true = (refl, refl)
 no_bracket false = (refl, refl)
 
 word_lacks : (inside : Bool) (piece : List ℕ) (c : ℕ) → within_word inside c ≡ false → IsWordPiece inside piece → count_by (λ b. b == c) piece ≡ 0
-word_lacks inside piece c lacks w = counts_none (λ b. b == c) piece (λ i h. other_byte inside c (get_or piece i 0) lacks (w.within i h)
-    (get_or piece i 0 == c) refl)
+word_lacks inside piece c lacks w = search (arith, counts_none, other_byte)
 
 -- a word means no bracket
 stands_for_none : {word : List ℕ} {kind : TokenKind} → Spells word kind → (openings kind ≡ 0) × (closings kind ≡ 0)

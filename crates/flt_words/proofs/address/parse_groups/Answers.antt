@@ -1,6 +1,6 @@
 -- Each turn reads the next part.
-use Rattle.flt_words.proofs.AddressValues.{all_read, bad_part, each_pushed, now_pushed, parts_of, step_fits, step_small, step_value, too_many}
-use Rattle.flt_words.proofs.Common.{◌≡◌, ◌<◌, ◌==◌, length, get_or, List, ℕ, length-append, map, arith, sym, ap, ◌∙◌, rules, of_calls, length-map, Bor, IsGroup}
+use Rattle.flt_words.proofs.AddressValues.{all_read, bad_part, each_pushed, parts_of, step_fits, step_small, step_value, too_many}
+use Rattle.flt_words.proofs.Common.{◌≡◌, ◌<◌, ◌==◌, length, get_or, List, ℕ, length-append, map, arith, sym, ap, ◌∙◌, rules, of_calls, length-map, map-append, Bor, IsGroup}
 use Rattle.flt_words.proofs.{Numbers.some_unless_test, address.parse_groups.Goals.In-Some}
 use Rattle.std.proofs.lemmas.Iterator.Consumers.{YieldsList-end, YieldsList-turn}
 use Rattle.std.proofs.lemmas.Iterator.Splits.{YieldsList-from_slice_split}
@@ -54,8 +54,8 @@ loop-digits-preserved c =
       is_finite = tt;
       upper_bound = omega arith;
       count = simp length-append (omega arith);
-      each = rw now_pushed each;
-      value = rw (now_pushed, c.from-in-loop-digits.ensures) value;
+      each = rw map-append each;
+      value = rw (map-append, c.from-in-loop-digits.ensures) value;
       small = rw c.from-in-loop-digits.ensures small;
     }
 
