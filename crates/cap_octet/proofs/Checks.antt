@@ -1,5 +1,5 @@
 -- A table of checks finds no fault if and only if every check passes.
-use Rattle.std.proofs.Common.{◌≡◌, Bool, true, false, List, [], ◌∷◌, ◌++◌, Option, Some, None, Ok, Err, refl}
+use Rattle.std.proofs.Common.{[], ◌≡◌, Bool, true, false, List, ◌∷◌, ◌++◌, Option, Some, None, Ok, Err, refl}
 use Rattle.std.specs.List.{AllByRecursion}
 use Rattle.cap_octet.specs.{Checks.checked, Checks.first_failing, declared.fault.Fault.Fault}
 
@@ -11,11 +11,11 @@ all_met ((false, fault) ∷ rows) none = (cc)
 pub none_failing : (rows : List (Bool × Fault)) → AllByRecursion (λ row. row.0 ≡ true) rows → first_failing rows ≡ None
 none_failing [] met = refl
 none_failing ((true, fault) ∷ rows) met = none_failing rows met.1
-none_failing ((false, fault) ∷ rows) met = absurd (let bad : false ≡ true = met.0 in cc)
+none_failing ((false, fault) ∷ rows) met = absurd (let bad = met.0 in cc)
 
 pub failing_front : (rows more : List (Bool × Fault)) (fault : Fault) → first_failing rows ≡ Some fault → first_failing (rows ++ more) ≡ Some fault
 failing_front [] more fault fails = (cc)
-failing_front ((true, other) ∷ rows) more fault fails = failing_front rows more fault fails
+failing_front ((true, other) ∷ rows) more fault fails = failing_front rows more _ fails
 failing_front ((false, other) ∷ rows) more fault fails = fails
 
 pub met_front : (rows more : List (Bool × Fault)) → first_failing rows ≡ None → first_failing (rows ++ more) ≡ first_failing more

@@ -1,15 +1,16 @@
 -- Counting days one by one gives the same dates as jiff's day numbers.
-use Rattle.cap_octet.proofs.Common.{◌≡◌, ℕ, ap, zero, suc, ◌+◌, ◌<◌, ◌≤◌, ◌⊎◌, inl, inr, refl, sym, ◌∙◌, arith, rules, ℤ, pos, negsuc, ◌≤ℤ◌, ◌+ℤ◌, ◌-◌}
-use Rattle.cap_octet.proofs.Common.{unsigned_abs, Some, nat_lt, lt-ltb, le-ltb, cases_order, days_in_month, IsCivilDate, epoch_day, signed_arith, le-leb}
-use Rattle.cap_octet.proofs.Common.{leb-true, day_number}
-use Rattle.cap_octet.proofs.Numerals.{both}
+use Rattle.cap_octet.proofs.Common.{◌≡◌, ℕ, ap, zero, suc, ◌+◌, ◌<◌, ◌≤◌, ◌⊎◌, inl, inr, sym, ◌∙◌, arith, ℤ, pos, negsuc, ◌≤ℤ◌, ◌+ℤ◌, ◌-◌}
+use Rattle.cap_octet.proofs.Common.{unsigned_abs, Some, nat_lt, to_z, w16, to_z_pos, lt-ltb, le-ltb, days_in_month, IsCivilDate, epoch_day, signed_arith, le-leb}
+use Rattle.cap_octet.proofs.Common.{day_number}
 use Rattle.jiff_core.specs.{Calendar.days_from_civil, declared.civil.date.Date.Date}
 use Rattle.cap_octet.specs.Calendar.{Day, ymd, next_day, day_from_epoch}
 use Rattle.cap_octet.specs.Laws.{DayHasItsNumber, NumberHasItsDay}
 use Rattle.jiff_core.proofs.CalendarLemmas.{days_in_month_bounds}
 use Rattle.jiff_core.proofs.DateLemmas.{days_from_civil-day, days_from_civil-next_month, days_from_civil-next_year, days_from_civil-max, epoch_day_injective}
 use Rattle.jiff_core.proofs.DateLemmas.{epoch_day_same, epoch_day-lt, cases_date}
-use Rattle.std.proofs.lemmas.Option.{cond_some}
+
+abbrev date_of : (y m d : ℕ) → IsCivilDate (pos y) m d → Date
+date_of y m d civil = record { year = pos y; month = m; day = d; year_in = civil.0; month_in = civil.1; day_in = civil.2 }
 
 -- c is the day with the number n
 pub record IsCounted (n : ℕ) (c : Day) : Type 0 where
@@ -19,17 +20,17 @@ pub record IsCounted (n : ℕ) (c : Day) : Type 0 where
 
 counted_first : IsCounted 0 (ymd 1970 1 1)
 unfolding days_from_civil
-counted_first = record { civil = search rules; low = omega arith; number = omega (arith, signed_arith) }
+counted_first = grind (arith, signed_arith)
 
 counted_in_month : (n : ℕ) (c : Day) → IsCounted n c → c.day < days_in_month (pos c.year) c.month → IsCounted (suc n) (ymd c.year c.month (c.day + 1))
 counted_in_month n c h lt = record {
   civil = (h.civil.0, h.civil.1, (omega arith, omega arith));
   low = h.low;
-  number = omega (arith, signed_arith, h.number, days_from_civil-day (pos c.year) c.month (c.day + 1) c.day (omega arith) h.civil.2.0);
+  number = omega (arith, signed_arith, days_from_civil-day (pos c.year) c.month (c.day + 1) _ (omega arith) h.civil.2.0);
 }
 
 below_or : (a b : ℕ) → (a < b) ⊎ (b ≤ a)
-below_or a b = elim (cases_order a b) [ inl e ↦ inr (omega arith) | inr (inl lt) ↦ inl lt | inr (inr gt) ↦ inr (omega arith) ]
+below_or a b = grind arith
 
 counted_in_year : (n : ℕ) (c : Day) → IsCounted n c → days_in_month (pos c.year) c.month ≤ c.day → c.month < 12 → IsCounted (suc n) (ymd c.year (c.month + 1) 1)
 counted_in_year n c h ge lt =
@@ -38,96 +39,85 @@ counted_in_year n c h ge lt =
     record {
       civil = (h.civil.0, (omega arith, omega arith), (omega arith, omega arith));
       low = h.low;
-      number = omega (arith, signed_arith, h.number, days_from_civil-next_month (pos c.year) c.month c.day h.civil.1.0 last);
+      number = omega (arith, signed_arith, days_from_civil-next_month (pos c.year) _ _ h.civil.1.0 last);
     }
 
 counted_next_year : (n : ℕ) (c : Day) → IsCounted n c → n < 200000 → days_in_month (pos c.year) c.month ≤ c.day → 12 ≤ c.month
     → IsCounted (suc n) (ymd (c.year + 1) 1 1)
 counted_next_year n c h small ge last_month =
     let month : c.month ≡ 12 = omega arith in
-    let long : days_in_month (pos c.year) c.month ≡ 31 = rw month refl in
+    let long : days_in_month (pos c.year) c.month ≡ 31 = cc in
     let day : c.day ≡ 31 = omega arith in
-    let at_end : days_from_civil (pos c.year) 12 31 ≡ pos n = rw (month, day) at h.number in
+    let at_end : days_from_civil (pos c.year) 12 31 ≡ pos n = cc in
     let next = days_from_civil-next_year (pos c.year) (pos (c.year + 1)) (omega (arith, signed_arith)) (omega (arith, signed_arith)) in
-    let not_last : c.year ≡ 9999 → ⊥ = λ e. (let there : days_from_civil (pos 9999) 12 31 ≡ pos n = rw e at at_end in
-    omega (arith, signed_arith, there, days_from_civil-max)) in
-    let more : c.year < 9999 = omega (arith, signed_arith, h.civil.0, not_last) in
+    let not_last : c.year ≡ 9999 → ⊥ = λ e. (let there : days_from_civil (pos 9999) 12 31 ≡ pos n = cc in
+    omega (arith, signed_arith, days_from_civil-max)) in
+    let more : c.year < 9999 = omega (arith, signed_arith) in
     record {
       civil = ((omega (arith, signed_arith), omega (arith, signed_arith)), (omega arith, omega arith), (omega arith, omega arith));
       low = omega arith;
-      number = omega (arith, signed_arith, at_end, next);
+      number = omega (arith, signed_arith);
     }
 
 counted_next : (n : ℕ) (c : Day) → IsCounted n c → n < 200000 → IsCounted (suc n) (next_day c)
 counted_next n c h small =
     let in_month = nat_lt c.day (days_in_month (pos c.year) c.month) in
     elim (below_or c.day (days_in_month (pos c.year) c.month)) [
-      | inl lt ↦ rw (lt-ltb _ _ lt) (counted_in_month n c h lt)
-      | inr ge ↦ rw (le-ltb _ _ ge) (elim (below_or c.month 12) [
-        | inl lt ↦ rw (lt-ltb _ _ lt) (counted_in_year n c h ge lt)
-        | inr le ↦ rw (le-ltb _ _ le) (counted_next_year n c h small ge le)
+      | inl lt ↦ rw lt-ltb (counted_in_month n c h lt)
+      | inr ge ↦ rw le-ltb (elim (below_or c.month 12) [
+        | inl lt ↦ rw lt-ltb (counted_in_year n c h ge lt)
+        | inr le ↦ rw le-ltb (counted_next_year n c h small ge le)
       ])
     ]
 
 pub counted : (n : ℕ) → n ≤ 200000 → IsCounted n (day_from_epoch n)
 unfolding day_from_epoch
 counted zero h = counted_first
-counted (suc n) h = counted_next n (day_from_epoch n) (counted n (omega arith)) (omega arith)
+counted (suc n) h = counted_next n _ (counted n (omega arith)) (omega arith)
 
 -- a date with the day number n is the day that is n days after 1970-01-01
 pub counted_date : (d : Date) (n : ℕ) → n ≤ 200000 → epoch_day d ≡ pos n → (d.year ≡ pos (day_from_epoch n).year)
     × (d.month ≡ (day_from_epoch n).month) × (d.day ≡ (day_from_epoch n).day)
 counted_date d n small e =
     let h = counted n small in
-    let there : Date = record {
-      year = pos (day_from_epoch n).year;
-      month = (day_from_epoch n).month;
-      day = (day_from_epoch n).day;
-      year_in =
-          h.civil.0;
-      month_in = h.civil.1;
-      day_in = h.civil.2;
-    } in
-    epoch_day_injective d there (e ∙ sym h.number)
+    epoch_day_injective d (date_of _ _ _ h.civil) (e ∙ sym h.number)
 
 -- a date from 1970 on has no negative day number
 pub not_before : (d : Date) → pos 1970 ≤ℤ d.year → pos 0 ≤ℤ epoch_day d
 unfolding day_from_epoch
 not_before d low =
     let h = counted 0 (omega arith) in
-    let first : Date = record { year = pos 1970; month = 1; day = 1; year_in = h.civil.0; month_in = h.civil.1; day_in = h.civil.2 } in
-    let zero_there : epoch_day first ≡ pos 0 = h.number in
+    let first = date_of 1970 1 1 h.civil in
+    let zero_there = h.number in
     elim (cases_date first d) [
-      | inl later ↦ (let more = epoch_day-lt first d later in omega (arith, signed_arith, more, zero_there))
-      | inr (inr same) ↦ (let e = epoch_day_same first d same.0 same.1 same.2 in omega (arith, signed_arith, e, zero_there))
-      | inr (inl (inl year)) ↦ absurd (omega (arith, signed_arith, year, low))
-      | inr (inl (inr (year, inl month))) ↦ absurd (omega (arith, signed_arith, month, d.month_in))
-      | inr (inl (inr (year, inr (month, day)))) ↦ absurd (omega (arith, signed_arith, day, d.day_in))
+      | inl later ↦ (let more = epoch_day-lt first d later in omega (arith, signed_arith))
+      | inr (inr same) ↦ (let e = epoch_day_same first d same.0 same.1 same.2 in omega (arith, signed_arith))
+      | inr (inl (inl year)) ↦ absurd (omega (arith, signed_arith))
+      | inr (inl (inr (year, inl month))) ↦ absurd (omega (arith, signed_arith))
+      | inr (inl (inr (year, inr (month, day)))) ↦ absurd (omega (arith, signed_arith))
     ]
 
 abs_since : (z : ℤ) (r : ℕ) → pos 0 ≤ℤ z → z +ℤ pos 4371587 ≡ pos r → r - 4371587 ≡ unsigned_abs z
 abs_since (pos n) r low e = omega (arith, signed_arith)
 abs_since (negsuc n) r low e = absurd (omega (arith, signed_arith))
 
--- the days since the library's first date are those since 1970 and as many as lie before
-pub days_since : (z : ℤ) (y m d r : ℕ) → z ≡ pos y → IsCivilDate (pos y) m d → 1970 ≤ y → days_from_civil z m d +ℤ pos 4371587 ≡ pos r
-    → (4371587 ≤ r) × (r - 4371587 ≡ unsigned_abs (days_from_civil (pos y) m d))
-days_since z y m d r e civil low sum =
-    let date : Date = record { year = pos y; month = m; day = d; year_in = civil.0; month_in = civil.1; day_in = civil.2 } in
-    let late : pos 0 ≤ℤ days_from_civil (pos y) m d = not_before date (omega (arith, signed_arith, low)) in
-    let whole : days_from_civil (pos y) m d +ℤ pos 4371587 ≡ pos r = rw e at sum in
-    (omega (arith, signed_arith, late, whole), abs_since (days_from_civil (pos y) m d) r late whole)
-
 pub day_there : (y m d : ℕ) → 1970 ≤ y → y ≤ 9999 → 1 ≤ m → m ≤ 12 → 1 ≤ d → d ≤ days_in_month (pos y) m → day_number y m d ≡ Some
     (unsigned_abs (days_from_civil (pos y) m d))
-day_there y m d a b e f g h = rw (le-leb 1970 y a, le-leb y 9999 b, le-leb 1 m e, le-leb m 12 f, le-leb 1 d g, le-leb d (days_in_month (pos y) m) h) refl
+day_there y m d a b e f g h = simp le-leb
+
+-- the days since the library's first date are as many as lie before 1970, and the day's number
+pub days_since : (y m d r : ℕ) → 1970 ≤ y → y ≤ 9999 → 1 ≤ m → m ≤ 12 → 1 ≤ d → d ≤ days_in_month (to_z w16 y) m
+    → days_from_civil (to_z w16 y) m d +ℤ pos 4371587 ≡ pos r → (4371587 ≤ r) × (day_number y m d ≡ Some (r - 4371587))
+days_since y m d r a b e f g h since =
+    let same = to_z_pos w16 y (omega arith) in
+    let last : d ≤ days_in_month (pos y) m = rw same at h in
+    let sum : days_from_civil (pos y) m d +ℤ pos 4371587 ≡ pos r = cc in
+    let late = not_before (date_of y m d ((omega (arith, signed_arith), omega (arith, signed_arith)), (e, f), (g, last))) (omega (arith, signed_arith)) in
+    (omega (arith, signed_arith), day_there y m d a b e f g last ∙ ap Some (sym (abs_since _ r late sum)))
 
 pub day_has_its_number : DayHasItsNumber
 day_has_its_number n small =
-    let h = counted n small in
-    let c = day_from_epoch n in
-    let year : c.year ≤ 9999 = omega (arith, signed_arith, h.civil.0) in
-    day_there c.year c.month c.day h.low year h.civil.1.0 h.civil.1.1 h.civil.2.0 h.civil.2.1 ∙ ap (λ (z : ℤ). Some (unsigned_abs z)) h.number
+    grind (arith, counted, signed_arith)
 
 -- the calendar has a day that has a number
 pub record IsNumbered (y m d n : ℕ) : Type 0 where
@@ -137,34 +127,19 @@ pub record IsNumbered (y m d n : ℕ) : Type 0 where
 
 numbered : (y m d n : ℕ) → day_number y m d ≡ Some n → IsNumbered y m d n
 numbered y m d n e =
-    let found = cond_some _ _ _ e in
-    let t1 = both _ _ found.0 in
-    let t2 = both _ _ t1.1 in
-    let t3 = both _ _ t2.1 in
-    let t4 = both _ _ t3.1 in
-    let t5 = both _ _ t4.1 in
-    let year = leb-true y 9999 t2.0 in
-    record {
-      low = leb-true 1970 y t1.0;
-      civil = (
-        (omega (arith, signed_arith), omega (arith, signed_arith, year)),
-        (leb-true 1 m t3.0, leb-true m 12 t4.0),
-        (leb-true 1 d t5.0, leb-true d _ t5.1),
-      );
-      number = found.1;
-    }
+    grind (arith, signed_arith)
 
 positive : (z : ℤ) (n : ℕ) → pos 0 ≤ℤ z → unsigned_abs z ≡ n → z ≡ pos n
 positive (pos m) n low e = ap pos e
 positive (negsuc m) n low e = absurd (omega (arith, signed_arith))
 
 same_day : (c : Day) (y m d : ℕ) → pos y ≡ pos c.year → m ≡ c.month → d ≡ c.day → c ≡ ymd y m d
-same_day c y m d year month day = let years : y ≡ c.year = omega (arith, signed_arith) in rw (years, month, day) refl
+same_day c y m d year month day = grind (arith, signed_arith)
 
 pub number_has_its_day : NumberHasItsDay
 number_has_its_day y m d n small e =
     let h = numbered y m d n e in
-    let date : Date = record { year = pos y; month = m; day = d; year_in = h.civil.0; month_in = h.civil.1; day_in = h.civil.2 } in
-    let late = not_before date (omega (arith, signed_arith, h.low)) in
+    let date = date_of y m d h.civil in
+    let late = not_before date (omega (arith, signed_arith)) in
     let same = counted_date date n small (positive _ n late h.number) in
-    same_day (day_from_epoch n) y m d same.0 same.1 same.2
+    same_day _ y m d same.0 same.1 same.2

@@ -1,7 +1,6 @@
 -- A number in bytes depends only on its own bytes, not on those after it.
-use Rattle.std.proofs.Common.{◌≡◌, ℕ, ◌+◌, ◌≤◌, List, ◌++◌, length, drop, ap, ◌∙◌, arith, length-drop}
+use Rattle.std.proofs.Common.{◌≡◌, ℕ, ◌+◌, ◌≤◌, List, ◌++◌, length, arith, length-drop}
 use Rattle.std.proofs.lemmas.List.{drop-append-le}
-use Rattle.byteorder.specs.Endian.{big_number, little_number}
 use Rattle.byteorder.specs.Numbers.{big_from-append, little_from-append}
 use Rattle.cap_octet.specs.Number.{number_in}
 use Rattle.cap_octet.specs.declared.number.Order.{Order, TheVariants.Little, TheVariants.Big}
@@ -10,8 +9,6 @@ pub number_in-append : (order : Order) (width : ℕ) (front more : List ℕ) (at
     → number_in order width (front ++ more) at ≡ number_in order width front at
 unfolding number_in
 number_in-append Little width front more at within =
-    ap (little_number width) (drop-append-le at front more (omega arith))
-    ∙ little_from-append width (drop at front) more (omega (arith, length-drop at front))
+    grind (arith, drop-append-le, little_from-append, length-drop)
 number_in-append Big width front more at within =
-    ap (big_number width) (drop-append-le at front more (omega arith))
-    ∙ big_from-append width (drop at front) more (omega (arith, length-drop at front))
+    grind (arith, drop-append-le, big_from-append, length-drop)

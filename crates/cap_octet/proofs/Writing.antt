@@ -8,35 +8,31 @@ use Rattle.cap_octet.specs.declared.device.Stopped.{Stopped}
 stops-at : (old mid new done part more : List ℕ) (stopped : Stopped) → mid ≡ old ++ done → stopped.written < length part
     → WritesAll mid part (Err stopped) new → new ≡ old ++ take (length done + stopped.written) (done ++ (part ++ more))
 stops-at old mid new done part more stopped first less second =
-    second
-    ∙ ap (λ (x : List ℕ). x ++ take stopped.written part) first
-    ∙ append_assoc old done (take stopped.written part)
-    ∙ ap (λ (x : List ℕ). old ++ (done ++ x)) (sym (take-append-le stopped.written part more (omega (arith, less))))
-    ∙ ap (λ (x : List ℕ). old ++ x) (sym (take-append-add done (part ++ more) stopped.written))
+    grind (arith, append_assoc, take-append-le, take-append-add)
 
 pub stops-part : (old mid new done part more : List ℕ) (stopped : Stopped) → mid ≡ old ++ done
     → stopped.written < length part → WritesAll mid part (Err stopped) new → Stops old (done ++ (part ++ more)) new
 stops-part old mid new done part more stopped first less second = (
   length done + stopped.written,
-  omega (arith, less, length-append done (part ++ more), length-append part more),
-  stops-at old mid new done part more stopped first less second,
+  omega (arith, length-append done (part ++ more), length-append part more),
+  stops-at old mid new done part more _ first less second,
 )
 
 -- the parts before, at and after a place
 pub parts_at : {X : Type 0} (f : X → List ℕ) (parts : List X) (i : ℕ) (d : X) → i < length parts
     → flat_map f parts ≡ flat_map f (take i parts) ++ (f (get_or parts i d) ++ flat_map f (drop (i + 1) parts))
 parts_at f parts i d within =
-    ap (flat_map f) (sym (take-append-drop i parts))
-    ∙ flat_map-append f (take i parts) (drop i parts)
-    ∙ ap (λ l. flat_map f (take i parts) ++ flat_map f l) (drop_more parts i d within)
+    ap (flat_map f) (sym (take-append-drop i _))
+    ∙ flat_map-append f _ _
+    ∙ ap (λ l. flat_map f (take i parts) ++ flat_map f l) (drop_more _ i d within)
 
 -- a part that stopped after the ones before it
 pub parts-stop : {X : Type 0} (f : X → List ℕ) (parts : List X) (i : ℕ) (d : X) (old mid new : List ℕ) (stopped : Stopped)
     → i < length parts → mid ≡ old ++ flat_map f (take i parts)
     → stopped.written < length (f (get_or parts i d)) → WritesAll mid (f (get_or parts i d)) (Err stopped) new → Stops old (flat_map f parts) new
 parts-stop f parts i d old mid new stopped within first less second =
-    rw (parts_at f parts i d within) (stops-part old mid new (flat_map f (take i parts)) (f (get_or parts i d)) (flat_map f (drop (i + 1) parts))
-    stopped first less second)
+    rw (parts_at f _ i d within) (stops-part old mid new _ _ _
+    _ first less second)
 
 -- the same, with how many bytes there are up to where it stopped
 pub parts-stop-at : {X : Type 0} (f : X → List ℕ) (parts : List X) (i : ℕ) (d : X) (before : ℕ) (old mid new : List ℕ) (stopped : Stopped)
@@ -44,5 +40,5 @@ pub parts-stop-at : {X : Type 0} (f : X → List ℕ) (parts : List X) (i : ℕ)
     → stopped.written < length (f (get_or parts i d)) → WritesAll mid (f (get_or parts i d)) (Err stopped) new
     → new ≡ old ++ take (before + stopped.written) (flat_map f parts)
 parts-stop-at f parts i d before old mid new stopped within before_is first less second =
-    rw (parts_at f parts i d within, before_is)
-    (stops-at old mid new (flat_map f (take i parts)) (f (get_or parts i d)) (flat_map f (drop (i + 1) parts)) stopped first less second)
+    rw (parts_at f _ i d within, before_is)
+    (stops-at old mid new _ _ _ _ first less second)
