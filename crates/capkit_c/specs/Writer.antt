@@ -1,10 +1,10 @@
 -- The units of a pcapng file that is written packet by packet, as for a sink.
-use Rattle.std.specs.Prelude.{◌≡◌, ℕ, ◌==◌, ◌≤◌, ◌&&◌, not, false, if◌then◌else◌, Bool, min, nat_lt, nat_le, List, [], ◌∷◌, ◌++◌, length, map, take, Option}
-use Rattle.cap_octet.specs.{Checks.first_failing, Date.TIME_END, Packet.Captured, declared.fault.Fault.Fault}
+use Rattle.std.specs.Prelude.{◌≡◌, ℕ, ◌+◌, ◌==◌, ◌≤◌, ◌&&◌, not, false, if◌then◌else◌, Bool, min, nat_lt, nat_le, List, [], ◌∷◌, ◌++◌, length, map, take, Option}
+use Rattle.cap_octet.specs.{Checks.first_failing, Date.TIME_END, Fault.fault_number, Packet.Captured, declared.fault.Fault.Fault}
 use Rattle.cap_octet.specs.declared.fault.Fault.TheVariants.{BadOption, TimeOutOfRange, TooManyOutputInterfaces}
 use Rattle.cap_io.specs.Text as text
 use Rattle.cap_pcapng.specs.Encoding.{block_fit_checks, interface_text, packet_block, section_text}
-use Rattle.capkit_c.specs.{Buffers.WriteLeaves, Reading.fault_number, Writing.written_length}
+use Rattle.capkit_c.specs.{Buffers.WriteLeaves, Texts.FOUND, Writing.written_length}
 use Rattle.capkit_c.specs.declared.memory.layout.{Interface.Interface, Packet.Packet, Writer.Writer}
 use Rattle.capkit_c.specs.declared.memory.{writer.Put.Put, writing.Written.Written}
 
@@ -101,7 +101,7 @@ packet_put p name bytes comment =
 abbrev pub put_number : Written → Bool → ℕ
 put_number (Written.Whole count) is_packet = if is_packet then 0 else 227
 put_number (Written.NoRoom count) is_packet = 225
-put_number (Written.Refused fault) is_packet = fault_number fault
+put_number (Written.Refused fault) is_packet = FOUND + fault_number fault
 
 -- the result of a call that puts a packet: the next unit is written, unless the packet is refused
 -- or the buffer is too small

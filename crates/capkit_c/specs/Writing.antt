@@ -1,13 +1,13 @@
 -- The result of writes for C, in numbers.
-use Rattle.std.specs.Prelude.{◌≡◌, ℕ, List, Option}
-use Rattle.cap_octet.specs.declared.fault.Fault.{Fault}
-use Rattle.capkit_c.specs.{Buffers.WriteLeaves, Reading.fault_number, declared.memory.writing.Written.Written}
+use Rattle.std.specs.Prelude.{◌≡◌, ℕ, ◌+◌, List, Option}
+use Rattle.cap_octet.specs.{Fault.fault_number, declared.fault.Fault.Fault}
+use Rattle.capkit_c.specs.{Buffers.WriteLeaves, Texts.FOUND, declared.memory.writing.Written.Written}
 
 -- the number for the result of a write
 abbrev pub written_number : Written → ℕ
 written_number (Written.Whole count) = 0
 written_number (Written.NoRoom count) = 225
-written_number (Written.Refused fault) = fault_number fault
+written_number (Written.Refused fault) = FOUND + fault_number fault
 
 -- the number of bytes that are written, or would be if there were room; 0 if they are refused
 abbrev pub written_length : Written → ℕ

@@ -2,44 +2,13 @@
 ghost use Rattle.std.specs.Prelude.{◌≡◌, List, length, take, drop};
 ghost use Rattle.capkit_c.specs.{Texts.put_text, Units.comment_by, Layout.declared_in};
 ghost use Rattle.capkit_c.specs.declared.memory.layout.Interface.{Interface};
-ghost use Rattle.capkit_c.specs.Reading.{CallLeaves, UnitLeaves, fault_number, found_number};
+ghost use Rattle.capkit_c.specs.Reading.{CallLeaves, UnitLeaves, found_number};
 ghost use Rattle.capkit_c.specs.Skipping.{SkipTells};
 
 use crate::memory::{
     Found, Interface, Packet, Reader, Skip, comment_of, next_packet, next_unit, skip_unit,
 };
-use crate::texts::put_text;
-use cap_octet::Fault;
-
-/// The number of a fault as C sees it, 201 to 221 (`library/include/capkit.h`). No call returns 215
-/// to 220, which are faults of devices and jobs.
-pub(crate) fn fault_number(fault: Fault) -> u32
-    ensures { result ≡ fault_number fault }
-{
-    match fault {
-        Fault::NotACaptureFile => 201,
-        Fault::Truncated => 202,
-        Fault::BadVersion => 203,
-        Fault::TooLong => 204,
-        Fault::BadBlockLength => 205,
-        Fault::BadByteOrderMagic => 206,
-        Fault::UnknownInterface => 207,
-        Fault::BadOption => 208,
-        Fault::BadBody => 209,
-        Fault::TimeOutOfRange => 210,
-        Fault::TooManyInterfaces => 211,
-        Fault::BadTimeResolution => 212,
-        Fault::BadLinkTypeField => 213,
-        Fault::ObsoletePacketBlock => 214,
-        Fault::ReadFailed => 215,
-        Fault::NoMemory => 216,
-        Fault::WriteFailed => 217,
-        Fault::LinkTypesDiffer => 218,
-        Fault::LinkTypeNotFiltered => 219,
-        Fault::TooManyPackets => 220,
-        Fault::TooManyOutputInterfaces => 221,
-    }
-}
+use crate::texts::{FOUND, put_text};
 
 /// The number of what a call found, as C sees it (`library/include/capkit.h`): 0 is a packet.
 pub(crate) fn found_number(found: Found) -> u32
@@ -47,7 +16,7 @@ pub(crate) fn found_number(found: Found) -> u32
 {
     match found {
         Found::Packet => 0,
-        Found::Fault(fault) => fault_number(fault),
+        Found::Fault(fault) => FOUND + fault.number(),
         Found::End => 222,
         Found::Unit => 223,
         Found::NoRoom => 224,

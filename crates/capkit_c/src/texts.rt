@@ -89,23 +89,8 @@ fn found_text(number: u32) -> &'static str
     ensures { result.now ≡ found_text number }
 {
     match number {
-        1 => Fault::NotACaptureFile.text(),
-        2 => Fault::Truncated.text(),
-        3 => Fault::BadVersion.text(),
-        4 => Fault::TooLong.text(),
-        5 => Fault::BadBlockLength.text(),
-        6 => Fault::BadByteOrderMagic.text(),
-        7 => Fault::UnknownInterface.text(),
-        8 => Fault::BadOption.text(),
-        9 => Fault::BadBody.text(),
-        10 => Fault::TimeOutOfRange.text(),
-        11 => Fault::TooManyInterfaces.text(),
-        12 => Fault::BadTimeResolution.text(),
-        13 => Fault::BadLinkTypeField.text(),
-        14 => Fault::ObsoletePacketBlock.text(),
-        // 15 to 20 are faults that no call for C returns; callers show 18 of one pcap file.
-        18 => Fault::LinkTypesDiffer.text(),
-        21 => Fault::TooManyOutputInterfaces.text(),
+        // Faults of devices, memory and jobs, which no call for C returns.
+        15..=17 | 19..=20 => "",
         22 => "end",
         23 => "no packet",
         24 => "no room for the interface",
@@ -113,7 +98,10 @@ fn found_text(number: u32) -> &'static str
         26 => "another link type",
         27 => "a unit before the packet",
         28 => "skipped",
-        _ => "",
+        _ => match Fault::from_number(number) {
+            Some(fault) => fault.text(),
+            None => "",
+        },
     }
 }
 

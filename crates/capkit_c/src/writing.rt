@@ -14,7 +14,7 @@ use crate::memory::{
     Interface, MOST_COMMENT, Packet, Put, Writer, Written, put_next, write_file_header,
     write_interface, write_packet, write_record, write_section,
 };
-use crate::reading::fault_number;
+use crate::texts::FOUND;
 use cap_octet::{Fault, Packet as OctetPacket, date};
 use cap_pcapng::MOST_NAME;
 
@@ -36,7 +36,7 @@ fn tell_written(written: Written, length: &mut usize) -> u32
         }
         Written::Refused(fault) => {
             *length = 0;
-            fault_number(fault)
+            FOUND + fault.number()
         }
     }
 }
