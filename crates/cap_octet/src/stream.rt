@@ -131,8 +131,9 @@ impl<R: Read> Input for StdInput<R> {
         held
     }
 
-    /// Takes `count` bytes, if as many are at hand, and returns `true`; else none, and returns
-    /// `false`.
+    /// Takes `count` bytes of what the reader's buffer holds, if it holds as many, and returns
+    /// `true`; else none, and returns `false`. None either where 2^63 bytes in all would be
+    /// reached.
     #[inline(always)]
     fn pass(&mut self, count: usize) -> bool
         ensures counted { self.new.given ≡ self.old.given + (if result then count else 0) }
@@ -152,7 +153,7 @@ impl<R: Read> Input for StdInput<R> {
             (reader_remaining R.remaining self.new.reader.reader) }
         ensures calls { self.new.reader.calls.count ≡ self.old.reader.calls.count }
     {
-        if count > self.at_hand().len() {
+        if count > self.reader.buffer().len() || self.given + count as u64 >= GIVEN_END {
             return false;
         }
         self.reader.consume(count);
