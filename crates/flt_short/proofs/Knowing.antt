@@ -46,9 +46,7 @@ implied c d o i h = grind arith
 pub joined_one : (x : Fact) (ys : List Fact) (k : ℕ) (d : Fact) (claim : Claim) → k < length ys → same_field x.field (get_or ys k d).field ≡ true
     → JoinsClaims x.claim (get_or ys k d).claim claim → JoinsFact x ys (record { field = x.field; claim = claim })
 joined_one x ys k d claim l same joins p n (inl h) = implied x.claim claim (value_of p n x.field) joins.0 h
-joined_one x ys k d claim l same joins p n (inr h) =
-    let y = get_or ys k d in
-    implied y.claim claim (value_of p n x.field) joins.1 (subst (λ o. is_said y.claim o ≡ true) (sym (same_value p n x.field y.field same)) (h k d l))
+joined_one x ys k d claim l same joins p n (inr h) = grind (arith, implied, joins, same_value)
 
 said_nothing : (o : Option ℕ) → is_said Claim.Nothing o ≡ true
 said_nothing o = grind arith
@@ -86,9 +84,7 @@ module _ (p : List ℕ) (len : ℕ) where
       (t.0, sym (same_loaded p len f g same) ∙ t.1)
 
   pub there_by : (x : Fact) (g : Field) → Says p len x → same_load x.field g ≡ true → claims_nothing x.claim ≡ false → IsThere p len g
-  there_by x g h same e =
-      let said = said_some x.claim (value_of p len x.field) e h in
-      there_of x.field g said.0 said.1 same
+  there_by x g h same e = grind (arith, said_some, there_of)
 
   pub field_there : (h : Held) (g : Field) (s : State) → HeldHolds p len h s → holds_field h g ≡ true → IsThere p len g
   field_there h g s x e = grind (arith, there_of)
@@ -146,19 +142,8 @@ module _ (p : List ℕ) (len : ℕ) where
 pub arrives : (seen : List Known) (place : ℕ) (k d new : Known) → place < length seen → JoinsBy (get_or seen place d).held (get_or seen place d) k new
     → Arrives k place seen (slice_set seen place new)
 arrives [] place k d new l j = absurd (omega arith)
-arrives (h ∷ seen) zero k d new l j = record { keeps = keeps; comes = λ p n s y. joins p n h k new s j (inr y) }
-  where
-    keeps : (p : List ℕ) (n q : ℕ) (s : State) → HoldsAt p n (h ∷ seen) q s → HoldsAt p n (new ∷ seen) q s
-    keeps p n zero s x = joins p n h k new s j (inl x)
-    keeps p n (suc q) s x = x
-arrives (h ∷ seen) (suc place) k d new l j = later (arrives seen place k d new (omega arith) j)
-  where
-    later : {other : List Known} → Arrives k place seen other → Arrives k (suc place) (h ∷ seen) (h ∷ other)
-    later {other} rest = record { keeps = keeps; comes = rest.comes }
-      where
-        keeps : (p : List ℕ) (n q : ℕ) (s : State) → HoldsAt p n (h ∷ seen) q s → HoldsAt p n (h ∷ other) q s
-        keeps p n zero s x = x
-        keeps p n (suc q) s x = rest.keeps p n q s x
+arrives (h ∷ seen) zero k d new l j = grind (arith, joins)
+arrives (h ∷ seen) (suc place) k d new l j = grind (arith, arrives seen place k d new (omega arith) j)
 
 pub arrives_nowhere : (seen : List Known) (place : ℕ) (k : Known) → length seen ≤ place → Arrives k place seen seen
 arrives_nowhere [] place k l = record { keeps = λ p n q s x. x; comes = λ p n s y. tt }

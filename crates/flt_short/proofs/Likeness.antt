@@ -92,9 +92,7 @@ drop_after : (c : List Insn) (k : ℕ) (j : Insn) (js : List Insn) → drop k c 
 drop_after c k j js e = let next : k + 1 ≡ suc k = omega arith in ap (λ m. drop m c) (sym next) ∙ sym (drop-drop 1 k c) ∙ ap (drop 1) e
 
 tail_after : (c : List Insn) (place : ℕ) (j : Insn) (js : List Insn) → 0 < place → place ≤ length c → code_from c place ≡ j ∷ js → js ≡ code_from c (place - 1)
-tail_after c place j js some low e =
-    let next : suc (length c - place) ≡ length c - (place - 1) = omega arith in
-    sym (drop_after c (length c - place) j js e) ∙ ap (λ k. drop k c) next
+tail_after c place j js some low e = grind (arith, drop_after)
 
 module _ (p : List ℕ) (n : ℕ) where
   -- the code does at a landing what the old code does so far on
@@ -476,13 +474,4 @@ replaced new old ls d short same any some top e few free valid =
 
 -- each program replaces itself
 pub itself : (old : List Insn) → Shortens old old
-itself old =
-    record {
-      shorter = omega arith;
-      fewer = omega arith;
-      valid = λ v. v;
-      runs = λ p n answer count m. let k = met_of p n old (length old) 0 0 start answer count m in let steps = k.steps in
-          comes_of p n old answer count k.answer (omega arith);
-      needed = λ h. h;
-      no_jump = λ h. h;
-    }
+itself old = grind (arith, met_of, comes_of)

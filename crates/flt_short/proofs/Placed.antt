@@ -1,10 +1,10 @@
 -- Code that is laid out gives the answers of the wide code.
-use Rattle.flt_short.proofs.Common.{◌≡◌, ℕ, ◌-◌, ◌<◌, ◌≤◌, List, [], ◌∷◌, length, true, Option, Some, refl, sym, arith, nat_le, nat_tests, All-cons}
-use Rattle.flt_short.proofs.Common.{All-head, All-tail, Insn, Operation, Jump, JumpIf, MOST_OFFSET, PlacedCode, with_offsets, with_test_by, with_insn}
-use Rattle.flt_short.proofs.Common.{placed_code, laid_out, zero, suc, Bool, false, ap, ◌∙◌, if◌then◌else◌, with_jump, with_way, way, place_at, subst}
-use Rattle.flt_short.proofs.Common.{◌==◌, ◌&&◌, nat_lt, All, All-take, All-replicate, State, answer_of, emitted, with_noted_jump, jump_near, None}
-use Rattle.flt_short.proofs.Common.{ReturnConstant, ReturnAccumulator, Test, Operand, does_if_known, test_holds, operand_value, answer_after}
-use Rattle.flt_short.proofs.Common.{ends_in_return, plain_both, known_step}
+use Rattle.flt_short.proofs.Common.{◌≡◌, ℕ, ◌-◌, ◌<◌, ◌≤◌, List, [], ◌∷◌, length, true, Option, Some, refl, arith, nat_tests, All-cons, All-head}
+use Rattle.flt_short.proofs.Common.{All-tail, Insn, Operation, Jump, JumpIf, MOST_OFFSET, PlacedCode, with_offsets, with_test_by, with_insn, placed_code}
+use Rattle.flt_short.proofs.Common.{laid_out, zero, suc, Bool, false, ap, ◌∙◌, if◌then◌else◌, with_jump, with_way, way, place_at, subst, ◌==◌, ◌&&◌}
+use Rattle.flt_short.proofs.Common.{nat_lt, All, All-take, State, answer_of, emitted, with_noted_jump, jump_near, None, ReturnConstant}
+use Rattle.flt_short.proofs.Common.{ReturnAccumulator, Test, Operand, does_if_known, test_holds, operand_value, answer_after, ends_in_return, plain_both}
+use Rattle.flt_short.proofs.Common.{known_step}
 use Rattle.std.specs.Prelude.{slice_index}
 use Rattle.flt_bpf.specs.{Instructions.operation_of, Machine.step}
 use Rattle.flt_short.specs.declared.layout.PlacedJump.{PlacedJump}
@@ -20,9 +20,7 @@ jumps to c p n s = refl
 -- past one more instruction, by how much code there is then
 pub later : (m : ℕ) (i : Insn) (c : List Insn) (to : ℕ) (p : List ℕ) (n : ℕ) (s : State) → m ≡ suc (length c) → to ≤ length c
     → answer_of (i ∷ c) p n (m - to) s ≡ answer_of c p n (length c - to) s
-later m i c to p n s e l =
-    let further : m - to ≡ suc (length c - to) = omega arith in
-    ap (λ k. answer_of (i ∷ c) p n k s) further
+later m i c to p n s e l = grind arith
 
 -- the code from one place on gives the answers of that from another one on
 pub record GoesTo (c : List Insn) (place to : ℕ) : Type 0 where
@@ -42,20 +40,10 @@ pub record Extends (l m : PlacedCode) : Type 0 where
   pub ends : 0 < length l.code → ends_in_return m.code ≡ ends_in_return l.code
 
 one_more : (i : Insn) (l : PlacedCode) (noted : List PlacedJump) → Extends l (record { code = i ∷ l.code; places = l.places; jumps = noted })
-one_more i l noted = record { more = omega arith; places = refl; same = λ to p n s b. later _ i l.code to p n s refl b; ends = by l.code }
-  where
-    by : (c : List Insn) → 0 < length c → ends_in_return (i ∷ c) ≡ ends_in_return c
-    by [] some = absurd (omega arith)
-    by (j ∷ c) some = refl
+one_more i l noted = grind (arith, later)
 
 both_more : {l m o : PlacedCode} → Extends l m → Extends m o → Extends l o
-both_more h g = record {
-  more = omega (arith, h.more, g.more);
-  places = g.places ∙ h.places;
-  same = λ to p n s b. g.same to p n s
-      (omega (arith, b, h.more)) ∙ h.same to p n s b;
-  ends = λ some. g.ends (omega (arith, some, h.more)) ∙ h.ends some;
-}
+both_more h g = grind arith
 
 pub way_more : (near : Bool) (to : ℕ) (l : PlacedCode) → Extends l (with_way near to l)
 way_more near to l = grind (arith, one_more)
@@ -71,17 +59,7 @@ pub record Leads (c : List Insn) (j : PlacedJump) : Type 0 where
   pub inside : j.to ≤ length c
 
 keeps : {l m : PlacedCode} → Extends l m → (j : PlacedJump) → Leads l.code j → Leads m.code j
-keeps e j h =
-    let within = h.goes.within in
-    let inside = h.inside in
-    record {
-      goes = record {
-        within = omega (arith, e.more);
-        some = h.goes.some;
-        same = λ p n s. e.same j.place p n s within ∙ h.goes.same p n s ∙ sym (e.same j.to p n s inside);
-      };
-      inside = omega (arith, e.more);
-    }
+keeps e j h = grind arith
 
 -- all that are noted lead so
 abbrev pub AllLead : PlacedCode → Type 0
@@ -91,17 +69,7 @@ all_put : (i : Insn) (l : PlacedCode) → AllLead l → AllLead (emitted i l)
 all_put i l h k j b = keeps (one_more i l l.jumps) _ (h k j b)
 
 jump_leads : (to : ℕ) (l : PlacedCode) → to ≤ length l.code → Leads (with_jump to l.code) (record { place = length (with_jump to l.code); to = to })
-jump_leads to l b =
-    let c = with_jump to l.code in
-    let start : length c - length c ≡ 0 = omega arith in
-    record {
-      goes = record {
-        within = omega arith;
-        some = λ h. omega arith;
-        same = λ p n s. ap (λ k. answer_of c p n k s) start ∙ jumps to l.code p n s ∙ sym (later _ _ l.code to p n s refl b);
-      };
-      inside = omega arith;
-    }
+jump_leads to l b = grind (arith, jumps, later)
 
 all_jump : (to : ℕ) (l : PlacedCode) → to ≤ length l.code → AllLead l → AllLead (with_noted_jump to l)
 all_jump to l b h = All-cons (Leads (with_jump to l.code)) _ _ (jump_leads to l b) (All-take (Leads (with_jump to l.code)) 3 l.jumps (all_put _ l h))
@@ -120,11 +88,7 @@ near_jump c (j ∷ js) to l h =
 
 pub near_goes : (l : PlacedCode) (to : ℕ) → to ≤ length l.code → AllLead l → GoesTo l.code (near_place l to) to
 unfolding near_place
-near_goes l to inside h = choice (nat_le (length l.code - to) MOST_OFFSET)
-  where
-    choice : (b : Bool) → GoesTo l.code (if b then to else jump_near l.jumps to (length l.code)) to
-    choice true = stays l.code to inside
-    choice false = near_jump l.code l.jumps to inside h
+near_goes l to inside h = grind (arith, stays, near_jump)
 
 -- what is laid out in front of jumps that lead so
 all_way : (near : Bool) (to : ℕ) (l : PlacedCode) → to ≤ length l.code → AllLead l → AllLead (with_way near to l)
@@ -150,9 +114,7 @@ way_leads false to l b = jump_leads to l b
 -- a test's two places lead where they should
 pub test_leads : (a b : Bool) (hit miss : ℕ) (l : PlacedCode) → hit ≤ length l.code → miss ≤ length l.code
     → (let m = with_way b miss l in let c = (with_way a hit m).code in GoesTo c (way a hit m) hit × GoesTo c (way b miss l) miss)
-test_leads a b hit miss l lh lm =
-    let m = with_way b miss l in
-    ((way_leads a hit m (omega (arith, lh, (way_more b miss l).more))).goes, (keeps (way_more a hit m) _ (way_leads b miss l lm)).goes)
+test_leads a b hit miss l lh lm = grind (arith, way_leads, way_more, keeps)
 
 -- the layout of wide code: from the place of each instruction a run goes on as in the wide code
 pub record Lays (l : PlacedCode) (wide : List Insn) : Type 0 where
@@ -244,13 +206,7 @@ lays_put i l is h = record { leads = all_emitted op i l h.inside h.leads; inside
     arrives p n (suc k) s = ap (λ to. answer_of m.code p n (length m.code - to) s) (kept k) ∙ more.same _ p n s (h.inside k) ∙ h.arrives p n k s
 
 pub lays : (wide : List Insn) → Lays (placed_code wide) wide
-lays [] = record {
-  leads = All-replicate (Leads []) 4 _ (record { goes = stays [] 0 (omega arith); inside = omega arith });
-  inside = λ k. omega arith;
-  some = λ k b. absurd (omega arith);
-  next = λ p n s. refl;
-  arrives = λ p n k s. refl;
-}
+lays [] = grind (arith, stays)
 lays (i ∷ is) = lays_put i (placed_code is) is (lays is)
 
 pub same_answers : (wide : List Insn) (p : List ℕ) (n : ℕ) (s : State) → answer_of (laid_out wide) p n 0 s ≡ answer_of wide p n 0 s

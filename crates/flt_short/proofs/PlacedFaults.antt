@@ -11,9 +11,7 @@ use Rattle.flt_short.proofs.Placed.{Lays, emitted_more, lays, near, test_leads, 
 
 jump_sound : (to : ℕ) (c : List Insn) → 0 < to → to ≤ length c → IsFaultless c → IsFaultless (with_jump to c)
 unfolding fault_of operation_of
-jump_sound to c some within sound =
-    let l : nat_lt (length c - to) (length c) ≡ true = grind (arith, nat_tests) in
-    (ap (λ b. unless b JumpOut) l, sound)
+jump_sound to c some within sound = grind (arith, nat_tests)
 
 test_sound : (i : Insn) (t : Test) (o : Operand) (jt jf : ℕ) (c : List Insn) → operation_of i.code ≡ Some (JumpIf t o) → jt < length c → jf < length c
     → IsFaultless c → IsFaultless (with_offsets i jt jf ∷ c)
@@ -25,10 +23,7 @@ way_sound near to l some within sound = grind (arith, jump_sound)
 
 reached_sound : (a b : Bool) (i : Insn) (t : Test) (o : Operand) (hit miss : ℕ) (l : PlacedCode) → operation_of i.code ≡ Some (JumpIf t o) → 0 < hit
     → hit ≤ length l.code → 0 < miss → miss ≤ length l.code → IsFaultless l.code → IsFaultless (with_test_by a b i hit miss l).code
-reached_sound a b i t o hit miss l e some_hit hit_in some_miss miss_in sound =
-    let q = test_leads a b hit miss l hit_in miss_in in
-    test_sound i t o _ _ _ e (omega (arith, q.0.some some_hit, q.0.within)) (omega (arith, q.1.some some_miss, q.1.within))
-    (way_sound a hit _ some_hit (omega (arith, hit_in, (way_more b miss l).more)) (way_sound b miss l some_miss miss_in sound))
+reached_sound a b i t o hit miss l e some_hit hit_in some_miss miss_in sound = grind (arith, test_leads, test_sound, way_sound, way_more)
 
 plain_sound : (op : Option Operation) (i : Insn) (c : List Insn) → operation_of i.code ≡ op → fault_if_known op (with_offsets i 0 0) (length c) ≡ None
     → IsFaultless c → IsFaultless (with_offsets i 0 0 ∷ c)

@@ -1,10 +1,10 @@
 -- How many instructions wide code becomes where it is laid out, and that a jump stands only for a target
 -- that is too far for its test.
-use Rattle.flt_short.proofs.Common.{◌≡◌, ℕ, ◌+◌, ◌-◌, ◌*◌, ◌<◌, ◌≤◌, List, [], ◌∷◌, length, true, cond, Option, Some, refl, sym, arith, ◌≢◌, nat_le}
-use Rattle.flt_short.proofs.Common.{count_by, nat_tests, All-cons, All-head, All-tail, Insn, Operation, Jump, JumpIf, is_branch, JUMP, MOST_OFFSET}
-use Rattle.flt_short.proofs.Common.{HasNoJump, IsShort, back_of_code, PlacedCode, with_offsets, with_test_by, with_insn, placed_code, laid_out, zero}
-use Rattle.flt_short.proofs.Common.{suc, Bool, false, ap, ◌∙◌, inl, inr, ◌⊎◌, slice_get, if◌then◌else◌, IsNeeded, JumpsAreNeeded, with_jump, is_near}
-use Rattle.flt_short.proofs.Common.{with_way, way, subst, length-drop}
+use Rattle.flt_short.proofs.Common.{◌≡◌, ℕ, ◌+◌, ◌-◌, ◌*◌, ◌<◌, ◌≤◌, List, [], ◌∷◌, length, true, cond, Option, Some, refl, sym, arith, ◌≢◌, count_by}
+use Rattle.flt_short.proofs.Common.{nat_tests, All-cons, All-head, All-tail, Insn, Operation, Jump, JumpIf, is_branch, JUMP, MOST_OFFSET, HasNoJump}
+use Rattle.flt_short.proofs.Common.{IsShort, back_of_code, PlacedCode, with_offsets, with_test_by, with_insn, placed_code, laid_out, zero, suc, Bool}
+use Rattle.flt_short.proofs.Common.{false, ap, ◌∙◌, inl, inr, ◌⊎◌, slice_get, if◌then◌else◌, IsNeeded, JumpsAreNeeded, with_jump, is_near, with_way, way}
+use Rattle.flt_short.proofs.Common.{subst, length-drop}
 use Rattle.std.proofs.lemmas.List.Sums.{count_by-le-length, sum_by-cons}
 use Rattle.flt_bpf.proofs.{Jumps.jump_later, Jumps.needed_put}
 use Rattle.flt_bpf.specs.{Instructions.operation_of}
@@ -20,14 +20,11 @@ test_grows a b i hit miss l = grind arith
 
 pub emitted_grows : (op : Option Operation) (i : Insn) (l : PlacedCode) → Grows l.code (with_insn op i l).code (1 + 2 * cond (is_branch op) 1 0)
 unfolding with_test
-emitted_grows (Some (JumpIf t o)) i l = test_grows _ _ i _ _ l
-emitted_grows _ i l = record { more = omega arith; few = omega arith }
+emitted_grows op i l = grind (arith, test_grows)
 
 pub at_least : (wide : List Insn) → length wide ≤ length (laid_out wide)
 at_least [] = omega arith
-at_least (i ∷ is) =
-    let g = emitted_grows (operation_of i.code) i (placed_code is) in
-    omega (arith, g.more, at_least is)
+at_least (i ∷ is) = grind (arith, emitted_grows, at_least is)
 
 pub at_most : (wide : List Insn) → length (laid_out wide) ≤ length wide + 2 * count_by (λ i. is_branch (operation_of i.code)) wide
 at_most [] = omega arith
@@ -50,9 +47,7 @@ plain_put i c other none = record { no_jump = All-cons (λ j. j.code ≢ JUMP) i
 emitted_plain : (op : Option Operation) (i : Insn) (l : PlacedCode) → operation_of i.code ≡ op → i.code ≢ JUMP → HasNoJump l.code
     → length l.code ≤ 255 → IsShort (with_insn op i l).code (length l.code + 1)
 unfolding with_test
-emitted_plain (Some (JumpIf t o)) i l e other none short =
-    let near : (to : ℕ) → nat_le (length l.code - to) MOST_OFFSET ≡ true = λ to. grind (arith, nat_tests) in
-    simp near (plain_put _ l.code other none)
+emitted_plain (Some (JumpIf t o)) i l e other none short = grind (arith, nat_tests, plain_put)
 emitted_plain (Some Jump) i l e other none short = absurd (other (sym (back_of_code i.code Jump e)))
 emitted_plain _ i l e other none short = plain_put _ l.code other none
 
@@ -105,21 +100,10 @@ needed_test : (i : Insn) (hit miss : ℕ) (l : PlacedCode) → i.code ≢ JUMP �
     → (a b d : Bool) → d ≡ is_near l hit MOST_OFFSET → b ≡ is_near l miss (if d then MOST_OFFSET else MOST_OFFSET - 1)
     → a ≡ is_near (with_way b miss l) hit MOST_OFFSET → JumpsAreNeeded (with_test_by a b i hit miss l).code
 needed_test i hit miss l other branches h true true d ed eb ea = needed_put l.code _ other h
-needed_test i hit miss l other branches h false true d ed eb ea =
-    let far : MOST_OFFSET < length l.code - hit = grind (arith, nat_tests) in
-    needed_one l.code i _ _ hit other branches (inl (omega arith)) far h
-needed_test i hit miss l other branches h true false true ed eb ea =
-    let far : MOST_OFFSET < length l.code - miss = grind (arith, nat_tests) in
-    needed_one l.code i _ _ miss other branches (inr (omega arith)) far h
+needed_test i hit miss l other branches h false true d ed eb ea = grind (arith, nat_tests, needed_one)
+needed_test i hit miss l other branches h true false true ed eb ea = grind (arith, nat_tests, needed_one)
 needed_test i hit miss l other branches h true false false ed eb ea = absurd (grind (arith, nat_tests))
-needed_test i hit miss l other branches h false false d ed eb ea =
-    let far_hit : MOST_OFFSET < length l.code + 1 - hit = grind (arith, nat_tests) in
-    let far_miss : MOST_OFFSET < length l.code + 1 - miss = by d eb in
-    needed_two l.code i _ _ hit miss other branches (omega arith) (omega arith) far_hit far_miss h
-  where
-    by : (d : Bool) → false ≡ is_near l miss (if d then MOST_OFFSET else MOST_OFFSET - 1) → MOST_OFFSET < length l.code + 1 - miss
-    by true e = grind (arith, nat_tests)
-    by false e = grind (arith, nat_tests)
+needed_test i hit miss l other branches h false false d ed eb ea = grind (arith, nat_tests, needed_two)
 
 emitted_needed : (op : Option Operation) (i : Insn) (l : PlacedCode) → operation_of i.code ≡ op → i.code ≢ JUMP → JumpsAreNeeded l.code
     → JumpsAreNeeded (with_insn op i l).code
