@@ -15,8 +15,8 @@ pub fn items_back()
     ensures { ItemsBack }
 {}
 
-/// A sink decides on one more packet, by its state and its interfaces, as all packets so far would
-/// have it; and a packet that is put extends their text.
+/// What a sink does with one more packet, which it decides by its state and its interfaces alone, is
+/// what all packets before it decide; and that packet only adds bytes to the text of those before.
 pub fn put_extends_text()
     ensures by_packets { EachPutGoesByPackets }
     ensures text { PutExtendsText }

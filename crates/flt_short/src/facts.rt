@@ -372,8 +372,9 @@ pub fn masked_held(held: Held, mask: u32) -> Held
     }
 }
 
-/// What X holds after the load of the length of the header at a byte.
-fn header_at(at: u32) -> IndexValue
+/// What X holds after the load of the length of the header at a byte; nothing that is known from
+/// byte 256 on, so that a place has one byte.
+fn index_of_header(at: u32) -> IndexValue
     ensures { result ≡ if_small at (IndexValue.HeaderLength at) }
 {
     if at < 256 {
@@ -383,8 +384,8 @@ fn header_at(at: u32) -> IndexValue
     }
 }
 
-/// What X holds after the load of a number.
-fn number_of(number: u32) -> IndexValue
+/// What X holds after the load of a number; nothing that is known from 256 on, as for headers.
+fn index_of_number(number: u32) -> IndexValue
     ensures { result ≡ if_small number (IndexValue.Number number) }
 {
     if number < 256 {
@@ -456,8 +457,8 @@ pub fn pass_insn(known: &mut Known, insn: Wide)
     let index = known.index;
     known.held = held_after(&known.held, index, insn);
     known.index = match decode(insn.code) {
-        Some(Operation::LoadHeaderLength) => header_at(insn.k),
-        Some(Operation::Load(Register::Index, Source::Immediate)) => number_of(insn.k),
+        Some(Operation::LoadHeaderLength) => index_of_header(insn.k),
+        Some(Operation::Load(Register::Index, Source::Immediate)) => index_of_number(insn.k),
         Some(Operation::Load(Register::Index, _) | Operation::CopyToIndex) => IndexValue::Unknown,
         _ => index,
     };

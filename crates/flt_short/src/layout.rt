@@ -223,7 +223,7 @@ impl<A: Allocator + Clone> Layout<A> {
     /// The layout of wide code, made from its last instruction to its first. Each becomes three at
     /// most, so of fewer than 2^30 the places fit 32 bits. An error is a failed allocation, or an
     /// allocator that cannot be cloned.
-    #[tactic(auto, using(crate::proofs::Placed::room))]
+    #[tactic(auto, using(crate::proofs::PlacedSizes::room))]
     fn of_wide(alloc: A, wide: &[Wide]) -> Result<Self, AllocError>
         requires { length wide.now < 2 ^ 30 }
         ensures { IfOk result (λ layout. layout ≡ placed_code wide.now) }

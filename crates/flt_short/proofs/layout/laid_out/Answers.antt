@@ -1,7 +1,8 @@
 -- What holds of wide code that is laid out holds of the instructions that are returned.
 use Rattle.std.proofs.Common.{◌≡◌, ◌∙◌, ap}
 use Rattle.flt_bpf.proofs.Suffix.{valid_if_short}
-use Rattle.flt_short.proofs.Placed.{same_answers, at_least, at_most, laid_needed, short_stays, sound_laid}
+use Rattle.flt_short.proofs.{Placed.same_answers, PlacedFaults.sound_laid}
+use Rattle.flt_short.proofs.PlacedSizes.{at_least, at_most, laid_needed, short_stays}
 use Rattle.flt_short.specs.inside.Layout.{laid_out}
 use Rattle.flt_short.proofs.layout.laid_out.Goals as goal
 
