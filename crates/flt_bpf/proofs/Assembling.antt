@@ -6,7 +6,7 @@ use Rattle.std.proofs.{Math.Seq.take-append-add, lemmas.List.length-drop}
 
 -- the bytes of a line from where it starts
 pub line_bytes : (line : List ℕ) (start : ℕ) → length line ≡ 25 → take (25 - start) (drop start line) ≡ drop start line
-line_bytes line start n = take_all (25 - start) (drop start line) (omega (arith, length-drop start line))
+line_bytes line start n = search (arith, take_all, length-drop)
 
 -- the lines of more instructions
 lines_joined : (is js : List Insn) → insn_lines (is ++ js) ≡ insn_lines is ++ insn_lines js
@@ -19,9 +19,7 @@ front_of is k = decimal (length is) ++ LINE_FEED ∷ insn_lines (take k is)
 
 front_joined : (is : List Insn) (js ks : List Insn) → decimal (length is) ++ LINE_FEED ∷ insn_lines (js ++ ks) ≡
     (decimal (length is) ++ LINE_FEED ∷ insn_lines js) ++ insn_lines ks
-front_joined is js ks =
-    ap (λ (x : List ℕ). decimal (length is) ++ LINE_FEED ∷ x) (lines_joined js ks)
-    ∙ sym (append_assoc (decimal (length is)) (LINE_FEED ∷ insn_lines js) (insn_lines ks))
+front_joined is js ks = search (arith, decimal, lines_joined, append_assoc)
 
 -- the front grows by a line
 pub front_more : (is : List Insn) (k : ℕ) (d : Insn) → k < length is → front_of is (k + 1) ≡ front_of is k ++ (insn_line (get_or is k d) ++ LINE_FEED ∷ [])
@@ -30,8 +28,7 @@ front_more is k d l =
 
 -- a front and what follows it
 listing_split : (is : List Insn) (k : ℕ) → listing is ≡ front_of is k ++ insn_lines (drop k is)
-listing_split is k =
-    ap (λ (js : List Insn). decimal (length is) ++ LINE_FEED ∷ insn_lines js) (sym (take-append-drop k is)) ∙ front_joined is (take k is) (drop k is)
+listing_split is k = search (arith, decimal, take-append-drop, front_joined)
 
 -- the same with the next line
 listing_at : (is : List Insn) (k : ℕ) (d : Insn) → k < length is → listing is ≡ front_of is k
@@ -67,25 +64,12 @@ stopped_front is k d written s bytes l e less size = omega (arith, ap length e, 
 pub stopped_told : (before now after : List ℕ) (is : List Insn) (k : ℕ) (d : Insn) (written s : ℕ) (bytes : List ℕ) → k < length is
     → bytes ≡ insn_line (get_or is k d) ++ LINE_FEED ∷ [] → s < length bytes → written ≡ length (front_of is k) → now ≡ before ++ front_of is k
     → after ≡ now ++ take s bytes → after ≡ before ++ take (written + s) (listing is)
-stopped_told before now after is k d written s bytes l e less size first next =
-    let line = insn_line (get_or is k d) ++ LINE_FEED ∷ [] in
-    let upper_bound : s < length line = omega (arith, ap length e) in
-    next
-    ∙ ap (λ (x : List ℕ). x ++ take s bytes) first
-    ∙ append_assoc before (front_of is k) (take s bytes)
-    ∙ ap (λ (x : List ℕ). before ++ (front_of is k ++ take s x)) e
-    ∙ ap (λ (x : List ℕ). before ++ x) (stopped_at is k d s l upper_bound)
-    ∙ ap (λ n. before ++ take (n + s) (listing is)) (sym size)
+stopped_told before now after is k d written s bytes l e less size first next = search (arith, append_assoc, stopped_at, listing)
 
 -- one more complete line
 pub more_told : (before now after : List ℕ) (is : List Insn) (k : ℕ) (d : Insn) (bytes : List ℕ) → k < length is → bytes ≡ insn_line (get_or is k d)
     ++ LINE_FEED ∷ [] → now ≡ before ++ front_of is k → after ≡ now ++ bytes → after ≡ before ++ front_of is (k + 1)
-more_told before now after is k d bytes l e first next =
-    next
-    ∙ ap (λ (x : List ℕ). x ++ bytes) first
-    ∙ append_assoc before (front_of is k) bytes
-    ∙ ap (λ (x : List ℕ). before ++ (front_of is k ++ x)) e
-    ∙ ap (λ (x : List ℕ). before ++ x) (sym (front_more is k d l))
+more_told before now after is k d bytes l e first next = search (arith, append_assoc, front_more)
 
 pub more_size : (is : List Insn) (k : ℕ) (d : Insn) (written start : ℕ) (line : List ℕ) → k < length is → length line ≡ 25
     → take (25 - start) (drop start line) ≡ insn_line (get_or is k d) ++ LINE_FEED ∷ [] → written ≡ length (front_of is k) → written + (25 - start) ≡

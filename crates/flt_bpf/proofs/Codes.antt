@@ -38,9 +38,4 @@ byte_at (b ∷ p) (suc at) h = byte_at p at (All-tail (λ x. x < 256) b p h)
 
 pub word_is : (p : List ℕ) (at : ℕ) → All (λ b. b < 256) p → big_endian_at p at Word ≡ slice_index p at * 0x100_0000 + slice_index p (at + 1) *
     0x1_0000 + slice_index p (at + 2) * 0x100 + slice_index p (at + 3)
-word_is p at h =
-    let a = byte_at p at h in
-    let b = byte_at p (at + 1) h in
-    let c = byte_at p (at + 2) h in
-    let d = byte_at p (at + 3) h in
-    mod-eq_of_lt (omega arith)
+word_is p at h = search (arith, byte_at, mod-eq_of_lt)

@@ -1,6 +1,6 @@
 -- The reader of numbers accepts exactly the written numbers.
-use Rattle.flt_bpf.proofs.Common.{◌≡◌, ℕ, ◌^◌, ◌<◌, ◌≤◌, List, [], ◌∷◌, length, true, false, Some, ap, arith, nat_lt, ◌==◌, All, decimal, nat_tests}
-use Rattle.flt_bpf.proofs.Common.{decimal_is_IsNumeral, length-decimal-le, All-cons, All-nil, IsWrittenNumber, digits_from_test, digits_pass, numeral}
+use Rattle.flt_bpf.proofs.Common.{◌≡◌, ℕ, ◌^◌, ◌<◌, ◌≤◌, List, [], ◌∷◌, length, true, false, Some, arith, ◌==◌, All, decimal, nat_tests}
+use Rattle.flt_bpf.proofs.Common.{decimal_is_IsNumeral, length-decimal-le, All-nil, IsWrittenNumber, digits_from_test, digits_pass, numeral}
 use Rattle.std.specs.Str.Parse.{AllDigits, digits_value}
 use Rattle.std.proofs.lemmas.Str.Parse.{digit_from_value}
 use Rattle.cap_octet.specs.Digits.{are_digits}
@@ -10,24 +10,16 @@ numeral_parts : (ds : List ℕ) (n : ℕ) → numeral ds ≡ Some n → (length 
 numeral_parts ds n e = grind (arith, nat_tests)
 
 pub numeral_is : (ds : List ℕ) (n : ℕ) → numeral ds ≡ Some n → IsWrittenNumber ds n
-numeral_is ds n e = let r = numeral_parts ds n e in record { numeral = (r.1, digits_from_test 10 ds r.2); short = r.0; value = r.3 }
+numeral_is ds n e = search (arith, numeral_parts, numeral, digits_from_test)
 
 -- a number is read as itself
 pub numeral_read : (ds : List ℕ) (n : ℕ) → IsWrittenNumber ds n → numeral ds ≡ Some n
-numeral_read ds n h =
-    let upper_bound = h.short in
-    let one = h.numeral.0 in
-    let short : nat_lt 10 (length ds) ≡ false = grind (arith, nat_tests) in
-    let there : (length ds == 0) ≡ false = grind (arith, nat_tests) in
-    rw (short, there, digits_pass 10 ds h.numeral.1) (ap (λ (x : ℕ). Some x) h.value)
+numeral_read ds n h = search (arith, digits_pass)
 
 -- digits have no byte below them
 pub digits_lack : (c : ℕ) (ds : List ℕ) → c < 48 → AllDigits 10 ds → All (λ b. (b == c) ≡ false) ds
 digits_lack c [] l h = All-nil (λ b. (b == c) ≡ false)
-digits_lack c (b ∷ bs) l h =
-    let low = (digit_from_value b h.0).0 in
-    let t : (b == c) ≡ false = grind (arith, nat_tests) in
-    All-cons (λ x. (x == c) ≡ false) b bs t (digits_lack c bs l h.1)
+digits_lack c (b ∷ bs) l h = search (arith, digit_from_value, (digits_lack c bs l h.1))
 
 pub number_lacks : (c : ℕ) (ds : List ℕ) (n : ℕ) → c < 48 → IsWrittenNumber ds n → All (λ b. (b == c) ≡ false) ds
 number_lacks c ds n l h = digits_lack c ds l h.numeral.1

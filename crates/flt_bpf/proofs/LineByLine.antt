@@ -35,12 +35,7 @@ pub record ReadTo (lines others : List (List ℕ)) (n at : ℕ) (is : List Insn)
   pub wrong : (k : ℕ) → WrongAfter (n - at) others k → WrongAfter n lines (at + k)
 
 pub read_none : (lines : List (List ℕ)) (n : ℕ) → ReadTo lines lines n 0 []
-read_none lines n = record {
-  counted = refl;
-  insns = λ js h. h;
-  wrong = λ k h. let m : n - 0 ≡ n = omega arith in let z : k ≡ 0 + k = omega arith in
-      subst (WrongAfter n lines) z (subst (λ x. WrongAfter x lines k) m h);
-}
+read_none lines n = search arith
 
 -- one more line
 wrong_later : {n : ℕ} {lines : List (List ℕ)} {k : ℕ} (line : List ℕ) (i : Insn) → IsInsnLine line i → WrongAfter n lines k
@@ -83,7 +78,7 @@ read_all {lines} rest {n} {at} {is} r last e = record {
 -- the next line is no instruction, is missing, or is one too many
 no_insn : {lines others : List (List ℕ)} {n at : ℕ} {is : List Insn} → ReadTo lines others n at is → at < n
     → ((i : Insn) → ¬ HasInsn (slice_get others 0) i) → WrongAfter n lines (at + 0)
-no_insn r l h = r.wrong 0 (record { wrong = inl (omega arith, h); upper_bound = omega arith; insns = λ j less. absurd (omega arith) })
+no_insn r l h = search (arith, inl)
 
 pub read_wrong : {lines others next : List (List ℕ)} {n at : ℕ} {is : List Insn} {line : List ℕ} → ReadTo lines others n at is → at < n
     → others ≡ line ∷ next → insn_of (line_numbers line) ≡ None → WrongAfter n lines (at + 0)
@@ -94,8 +89,8 @@ read_wrong {line} r l e f = no_insn r l (λ i h. not_there i (subst (λ (ls : Li
 
 pub read_missing : {lines : List (List ℕ)} (rest : List ℕ) {n at : ℕ} {is : List Insn} → ReadTo lines (lines_of rest) n at is → at < n
     → length rest ≡ 0 → WrongAfter n lines (at + 0)
-read_missing rest r l e = no_insn r l (λ i h. subst (λ (ls : List (List ℕ)). HasInsn (slice_get ls 0) i) (lines_none rest e) h)
+read_missing rest r l e = search (arith, no_insn, slice_get, lines_none)
 
 pub read_beyond : {lines : List (List ℕ)} (rest : List ℕ) {n at : ℕ} {is : List Insn} → ReadTo lines (lines_of rest) n at is
     → n ≡ at → 0 < length rest → WrongAfter n lines (at + 0)
-read_beyond rest r e l = r.wrong 0 (record { wrong = inr (omega arith, lines_some rest l); upper_bound = omega arith; insns = λ j less. absurd (omega arith) })
+read_beyond rest r e l = search (arith, inr, lines_some)

@@ -1,15 +1,13 @@
 -- A text is cut at the first occurrence of a byte, and the numbers of a line are read one by one.
-use Rattle.flt_bpf.proofs.Common.{◌≡◌, ℕ, ◌<◌, List, [], ◌∷◌, length, Option, Some, None, refl, sym, ap, ◌∙◌, arith, ◌==◌, slice_split, length-slice_split}
+use Rattle.flt_bpf.proofs.Common.{◌≡◌, ℕ, ◌<◌, List, [], ◌∷◌, length, Option, Some, None, refl, ap, ◌∙◌, arith, ◌==◌, slice_split, length-slice_split}
 use Rattle.flt_bpf.proofs.Common.{Insn, BLANK, numeral, after, later_numbers, numbers_of, line_numbers, insn_from, insn_of, only_of, zero, suc, ◌+◌, ◌-◌}
-use Rattle.flt_bpf.proofs.Common.{get_or, take, drop, length-drop, true, false, nat_tests, slice_split-cons_yes, slice_split-cons_no, onto_first, take_all}
+use Rattle.flt_bpf.proofs.Common.{get_or, take, drop, length-drop, false, nat_tests, slice_split-cons_yes, slice_split-cons_no, onto_first, take_all}
 
 -- no byte below a place is the one
 pub cut_here : (c : ℕ) (bs : List ℕ) (at : ℕ) → ((k : ℕ) → k < at → get_or bs k 0 ≡ c → ⊥) → at < length bs → get_or bs at 0 ≡ c
     → slice_split (λ b. b == c) bs ≡ take at bs ∷ slice_split (λ b. b == c) (drop (suc at) bs)
 cut_here c [] at before l here = absurd (omega arith)
-cut_here c (b ∷ bs) zero before l here =
-    let t : (b == c) ≡ true = grind (arith, nat_tests) in
-    slice_split-cons_yes (λ x. x == c) b bs t ∙ refl
+cut_here c (b ∷ bs) zero before l here = search (arith, slice_split-cons_yes)
 cut_here c (b ∷ bs) (suc at) before l here =
     let other : b ≡ c → ⊥ = before 0 (omega arith) in
     let t : (b == c) ≡ false = grind (arith, nat_tests) in
@@ -18,12 +16,7 @@ cut_here c (b ∷ bs) (suc at) before l here =
 -- the same, with what follows as a range
 pub cut_range : (c : ℕ) (bs : List ℕ) (at : ℕ) → ((k : ℕ) → k < at → get_or bs k 0 ≡ c → ⊥) → at < length bs → get_or bs at 0 ≡ c
     → slice_split (λ b. b == c) bs ≡ take at bs ∷ slice_split (λ b. b == c) (take (length bs - (at + 1)) (drop (at + 1) bs))
-cut_range c bs at before l here =
-    let next : suc at ≡ at + 1 = omega arith in
-    let whole : take (length bs - (at + 1)) (drop (at + 1) bs) ≡ drop (at + 1) bs = take_all (length bs - (at + 1)) (drop (at + 1) bs)
-    (omega (arith, length-drop (at + 1) bs)) in
-    cut_here c bs at before l here ∙ ap (λ n. take at bs ∷ slice_split (λ b. b == c) (drop n bs)) next
-    ∙ ap (λ xs. take at bs ∷ slice_split (λ b. b == c) xs) (sym whole)
+cut_range c bs at before l here = search (arith, suc, take_all, length-drop, cut_here, slice_split)
 
 pub cut_none : (c : ℕ) (bs : List ℕ) → ((k : ℕ) → k < length bs → get_or bs k 0 ≡ c → ⊥) → slice_split (λ b. b == c) bs ≡ bs ∷ []
 cut_none c [] h = refl
@@ -38,9 +31,7 @@ numbers_more w ws l = grind arith
 -- a number with others after it
 pub number_first : (line piece rest next : List ℕ) (n : ℕ) → slice_split (λ b. b == BLANK) line ≡ piece ∷ slice_split (λ b. b == BLANK) rest
     → numeral piece ≡ Some n → later_numbers (slice_split (λ b. b == BLANK) rest) ≡ line_numbers next → line_numbers line ≡ after (Some n) (line_numbers next)
-number_first line piece rest next n s e l =
-    let some : 0 < length (slice_split (λ b. b == BLANK) rest) = omega (arith, length-slice_split (λ b. b == BLANK) rest) in
-    ap numbers_of s ∙ numbers_more piece _ some ∙ ap (λ o. after o (later_numbers (slice_split (λ b. b == BLANK) rest))) e ∙ ap (after (Some n)) l
+number_first line piece rest next n s e l = search (arith, slice_split, length-slice_split, numbers_more, after)
 
 after_not_empty : (o : Option ℕ) (q : Option (List ℕ)) → after o q ≡ Some [] → ⊥
 after_not_empty o q e = grind arith
@@ -57,10 +48,7 @@ not_only o q h = grind arith
 -- a line with a blank isn't one number
 pub blank_not_only : (line piece rest : List ℕ) → slice_split (λ b. b == BLANK) line ≡ piece ∷ slice_split (λ b. b == BLANK) rest
     → only_of (line_numbers line) ≡ None
-blank_not_only line piece rest s =
-    let some : 0 < length (slice_split (λ b. b == BLANK) rest) = omega (arith, length-slice_split (λ b. b == BLANK) rest) in
-    ap (λ ws. only_of (numbers_of ws)) s ∙ ap only_of (numbers_more piece _ some) ∙ not_only (numeral piece)
-    (later_numbers (slice_split (λ b. b == BLANK) rest)) (later_not_empty (slice_split (λ b. b == BLANK) rest))
+blank_not_only line piece rest s = search (arith, slice_split, length-slice_split, numbers_more, not_only, numeral, later_not_empty)
 
 abbrev pub insn_last : ℕ → ℕ → ℕ → Option ℕ → Option Insn
 insn_last a b c None = None
@@ -73,5 +61,4 @@ last_of_four a b c o = grind arith
 pub four_numbers : (line l1 l2 l3 : List ℕ) (a b c : ℕ) (k : Option ℕ) → line_numbers line ≡ after (Some a) (line_numbers l1)
     → line_numbers l1 ≡ after (Some b) (line_numbers l2) → line_numbers l2 ≡ after (Some c) (line_numbers l3) → k ≡ only_of (line_numbers l3)
     → insn_of (line_numbers line) ≡ insn_last a b c k
-four_numbers line l1 l2 l3 a b c k e1 e2 e3 ek =
-    ap insn_of (e1 ∙ ap (after (Some a)) (e2 ∙ ap (after (Some b)) e3)) ∙ last_of_four a b c (line_numbers l3) ∙ ap (insn_last a b c) (sym ek)
+four_numbers line l1 l2 l3 a b c k e1 e2 e3 ek = search (arith, after, last_of_four)

@@ -1,5 +1,5 @@
 -- The numbers that the reader finds on a line are those that the line writes.
-use Rattle.flt_bpf.proofs.Common.{◌≡◌, ℕ, zero, suc, ◌<◌, List, [], ◌∷◌, ◌++◌, length, append_assoc, Bool, Option, Some, refl, sym, ap, ◌∙◌, subst, arith, ◌==◌}
+use Rattle.flt_bpf.proofs.Common.{◌≡◌, ℕ, zero, suc, ◌<◌, List, [], ◌∷◌, ◌++◌, length, append_assoc, Bool, Option, Some, refl, ap, ◌∙◌, subst, arith, ◌==◌}
 use Rattle.flt_bpf.proofs.Common.{replicate, slice_split, join_with_byte, slice_split_at, slice_split_none, length-slice_split, slice_split-cons_yes}
 use Rattle.flt_bpf.proofs.Common.{join_with_byte-slice_split, BLANK, AreNumbers, numeral, after, later_numbers, numbers_of, line_numbers}
 use Rattle.flt_bpf.proofs.{Digits.numeral_is, Digits.numeral_read, Digits.number_lacks, Lines.numbers_more}
@@ -26,20 +26,12 @@ one_number w ns e = let r = only (numeral w) ns e in rw r.2 (numeral_is w r.0 r.
 -- a number, blanks and other numbers
 more_numbers : (w line : List ℕ) (n : ℕ) (ms : List ℕ) → numeral w ≡ Some n → Indented line ms → AreNumbers (w ++ BLANK ∷ line) (n ∷ ms)
 more_numbers w line n [] e r = absurd r.numbers
-more_numbers w line n (m ∷ ms) e r =
-    record {
-      digits = w;
-      more_blanks = r.blanks;
-      rest = r.rest;
-      line_is = ap (λ (x : List ℕ). w ++ BLANK ∷ x) r.line_is ∙ sym (append_assoc w (BLANK ∷ replicate r.blanks BLANK) r.rest);
-      number = numeral_is w n e;
-      rest_is = r.numbers;
-    }
+more_numbers w line n (m ∷ ms) e r = search (arith, append_assoc, numeral_is)
 
 -- the numbers of later pieces are those of their text, after blanks
 later_are : (ws : List (List ℕ)) (ns : List ℕ) → later_numbers ws ≡ Some ns → Indented (join_with_byte BLANK ws) ns
 later_are [] ns e = cc
-later_are (w ∷ []) ns e = record { blanks = 0; rest = w; line_is = refl; numbers = one_number w ns e }
+later_are (w ∷ []) ns e = search (arith, one_number)
 later_are ([] ∷ v ∷ ws) ns e =
     let r = later_are (v ∷ ws) ns e in
     record { blanks = suc r.blanks; rest = r.rest; line_is = ap (λ (x : List ℕ). BLANK ∷ x) r.line_is; numbers = r.numbers }
@@ -74,10 +66,7 @@ later_skip ws l = grind arith
 later_blanks : (k : ℕ) (rest : List ℕ) → later_numbers (slice_split (λ b. b == BLANK) (replicate k BLANK ++ rest)) ≡ later_numbers
     (slice_split (λ b. b == BLANK) rest)
 later_blanks zero rest = refl
-later_blanks (suc k) rest =
-    let p : ℕ → Bool = λ b. b == BLANK in
-    ap later_numbers (slice_split-cons_yes p BLANK (replicate k BLANK ++ rest) refl) ∙ later_skip (slice_split p (replicate k BLANK ++ rest))
-    (omega (arith, length-slice_split p (replicate k BLANK ++ rest))) ∙ later_blanks k rest
+later_blanks (suc k) rest = search (arith, slice_split-cons_yes, later_skip, slice_split, length-slice_split, (later_blanks k rest))
 
 -- the numbers that are on a line are read from it, as those of a line and as later ones
 both_read : (line : List ℕ) (ns : List ℕ) → AreNumbers line ns → (line_numbers line ≡ Some ns) × (later_numbers (slice_split (λ b. b == BLANK) line) ≡ Some ns)

@@ -1,6 +1,6 @@
 -- The instruction that the reader finds on a line is the one that it writes, so a text has one
 -- reading.
-use Rattle.flt_bpf.proofs.Common.{◌≡◌, ℕ, ◌≤◌, List, [], ◌∷◌, length, Option, Some, refl, sym, ap, ◌∙◌, subst, AllZip, Insn, MOST_INSTRUCTIONS, MOST_BYTES}
+use Rattle.flt_bpf.proofs.Common.{◌≡◌, ℕ, ◌≤◌, List, [], ◌∷◌, length, Option, Some, refl, ap, ◌∙◌, AllZip, Insn, MOST_INSTRUCTIONS, MOST_BYTES}
 use Rattle.flt_bpf.proofs.Common.{IsWrittenNumber, IsInsnLine, lines_of, AreListingLines, IsListing, line_numbers, only_of, AreInsns, arith, nat_tests}
 use Rattle.flt_bpf.proofs.Common.{HasFieldsInRange, insn_from, insn_of}
 use Rattle.flt_bpf.proofs.Numbers.{line_numbers_are, line_numbers_read}
@@ -17,7 +17,7 @@ insn_from_fields i h = grind (arith, nat_tests)
 
 -- the instruction that is read from a line is on it, and the other way round
 pub insn_is : (line : List ℕ) (i : Insn) → insn_of (line_numbers line) ≡ Some i → IsInsnLine line i
-insn_is line i e = record { numbers = line_numbers_are line _ (four_numbers (line_numbers line) i e); in_range = in_range (line_numbers line) i e }
+insn_is line i e = search (arith, line_numbers_are, four_numbers, in_range)
 
 pub insn_read : (line : List ℕ) (i : Insn) → IsInsnLine line i → insn_of (line_numbers line) ≡ Some i
 insn_read line i h = ap insn_of (line_numbers_read line (i.code ∷ i.jt ∷ i.jf ∷ i.k ∷ []) h.numbers) ∙ insn_from_fields i h.in_range
@@ -32,11 +32,7 @@ only_number_is line n e = line_numbers_are line (n ∷ []) (one (line_numbers li
 
 pub insns_listing : (text first : List ℕ) (others : List (List ℕ)) (n : ℕ) (is : List Insn) → length text ≤ MOST_BYTES → lines_of text ≡ first ∷
     others → IsWrittenNumber first n → n ≤ MOST_INSTRUCTIONS → AreInsns n others is → IsListing text is
-insns_listing text first others n is short e number upper_bound h = record {
-  short = short;
-  upper_bound = rw (← h.count) at upper_bound;
-  lines = subst (λ (ls : List (List ℕ)). AreListingLines ls is) (sym e) (subst (IsWrittenNumber first) (sym h.count) number, h.each);
-}
+insns_listing text first others n is short e number upper_bound h = search arith
 
 insns_same : (lines : List (List ℕ)) (is js : List Insn) → AllZip IsInsnLine lines is → AllZip IsInsnLine lines js → is ≡ js
 insns_same [] [] [] a b = refl

@@ -1,7 +1,7 @@
 -- The listing that is written for instructions is a listing of them.
 use Rattle.flt_bpf.proofs.Common.{◌≡◌, ℕ, suc, ◌*◌, ◌^◌, ◌<◌, ◌≤◌, List, [], ◌∷◌, ◌++◌, length, length-append, append_assoc, false, refl, sym, subst, arith}
 use Rattle.flt_bpf.proofs.Common.{common_steps, ◌==◌, All, decimal, AllZip, length-decimal-le, All-append, All-cons, slice_split_at, Insn, BLANK, LINE_FEED}
-use Rattle.flt_bpf.proofs.Common.{insn_line, insn_lines, listing, AreNumbers, HasFieldsInRange, IsInsnLine, lines_of, AreListingLines, IsListing}
+use Rattle.flt_bpf.proofs.Common.{insn_line, insn_lines, listing, AreNumbers, HasFieldsInRange, IsInsnLine, lines_of, IsListing}
 use Rattle.flt_bpf.proofs.{Digits.decimal_number, Digits.field_lengths, Digits.number_lacks, LineByLine.line_more}
 
 -- a number, one blank, and a rest
@@ -26,7 +26,7 @@ insn_written i r =
     record { numbers = code; in_range = r }
 
 decimal_lacks : (n : ℕ) → n < 2 ^ 32 → All (λ b. (b == LINE_FEED) ≡ false) (decimal n)
-decimal_lacks n l = number_lacks LINE_FEED (decimal n) n (omega arith) (decimal_number n l)
+decimal_lacks n l = search (arith, number_lacks, decimal, decimal_number)
 
 line_lacks : (i : Insn) → HasFieldsInRange i → All (λ b. (b == LINE_FEED) ≡ false) (insn_line i)
 line_lacks i r =
@@ -51,7 +51,7 @@ lines_short (i ∷ is) r =
 
 -- one line, and the others
 line_off : (w rest : List ℕ) → All (λ b. (b == LINE_FEED) ≡ false) w → lines_of (w ++ LINE_FEED ∷ rest) ≡ w ∷ lines_of rest
-line_off w rest h = line_more (w ++ LINE_FEED ∷ rest) w rest (slice_split_at (λ b. b == LINE_FEED) w LINE_FEED rest h refl)
+line_off w rest h = search (arith, line_more, slice_split_at)
 
 insns_written : (is : List Insn) → All HasFieldsInRange is → AllZip IsInsnLine (lines_of (insn_lines is)) is
 insns_written [] r = tt
@@ -64,11 +64,4 @@ insns_written (i ∷ is) r =
 -- what is written is a listing
 pub listing_written : (is : List Insn) → length is ≤ 32768 → All HasFieldsInRange is → IsListing (listing is) is
 listing_written is upper_bound r =
-    let count = length-decimal-le 10 (length is) (omega arith) (omega arith) (omega arith) in
-    let lines : AreListingLines (decimal (length is) ∷ lines_of (insn_lines is)) is = (decimal_number (length is) (omega arith), insns_written is r) in
-    record {
-      short = omega (arith, count, lines_short is r, length-append (decimal (length is)) (LINE_FEED ∷ insn_lines is));
-      upper_bound = upper_bound;
-      lines = subst (λ (ls : List (List ℕ)). AreListingLines ls is)
-          (sym (line_off (decimal (length is)) (insn_lines is) (decimal_lacks (length is) (omega arith)))) lines;
-    }
+    search (arith, length-decimal-le, decimal, decimal_number, insns_written, lines_short, length-append, line_off, decimal_lacks)

@@ -1,5 +1,5 @@
 -- The reader refuses a text at its first wrong line, and a listing has none.
-use Rattle.flt_bpf.proofs.Common.{◌≡◌, ℕ, zero, suc, ◌<◌, ◌≤◌, List, [], ◌∷◌, length, Some, refl, sym, ap, ◌∙◌, arith, ◌⊎◌, inl, inr, slice_get, AllZip, Insn}
+use Rattle.flt_bpf.proofs.Common.{◌≡◌, ℕ, zero, suc, ◌<◌, ◌≤◌, List, [], ◌∷◌, length, Some, sym, ap, ◌∙◌, arith, ◌⊎◌, inl, inr, slice_get, AllZip, Insn}
 use Rattle.flt_bpf.proofs.Common.{MOST_INSTRUCTIONS, MOST_BYTES, IsWrittenNumber, IsInsnLine, lines_of, AreListingLines, IsListing, HasCount, IsWrong}
 use Rattle.flt_bpf.proofs.Common.{FirstWrong, IsRefusedAt, HasInsn, WrongAfter, IsFaultAfter, line_numbers, only_of}
 use Rattle.flt_bpf.proofs.Numbers.{line_numbers_read}
@@ -28,7 +28,7 @@ first_wrong first others n k number upper_bound w =
 
 -- where there is no count, the first line is the wrong one
 refused_first : (text : List ℕ) → length text ≤ MOST_BYTES → ((count : ℕ) → ¬ HasCount (lines_of text) count) → IsRefusedAt text 1
-refused_first text short h = inr (short, (0, record { wrong = h; first = λ j less w. omega arith }, refl))
+refused_first text short h = search (arith, inr)
 
 pub no_count : (text first : List ℕ) (others : List (List ℕ)) → length text ≤ MOST_BYTES → lines_of text ≡ first ∷ others
     → ((count : ℕ) → only_of (line_numbers first) ≡ Some count → ¬ (count ≤ MOST_INSTRUCTIONS)) → IsRefusedAt text 1

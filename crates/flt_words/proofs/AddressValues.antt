@@ -4,7 +4,8 @@ use Rattle.flt_words.proofs.Common.{MatchOption, pow-le-pow_right, nat_tests, di
 use Rattle.flt_words.proofs.Common.{IsNumeral, digits_value, Group, WordFault, AreGroups, IsGroup, group_value, separator_of, base_of, WritesNumber}
 use Rattle.flt_words.proofs.Common.{is_word_sized, FindsMeaning, has, suc, zero, ◌+◌, ◌*◌, get_or, add-one, pow-add, pow-suc, add_assoc}
 use Rattle.flt_words.proofs.Common.{mul-le-mul_right, mul-lt-mul_of_pos_right, mul_assoc, pow-zero, number_push, number_from_digits, group_values, ◌-◌}
-use Rattle.flt_words.proofs.Common.{◌%◌, length-append, replicate, Some, number_after_append, number_lt, length-map, map-append, AllBelowBase, number_from_digits_after}
+use Rattle.flt_words.proofs.Common.{◌%◌, length-append, replicate, Some, number_after_append, number_lt, length-map, map-append, AllBelowBase}
+use Rattle.flt_words.proofs.Common.{number_from_digits_after}
 use Rattle.flt_words.proofs.Common.{AreIp6Ends, IsDotted, IsWholeAddress, ReadsGroups, or_parts, mul-mod_left}
 use Rattle.flt_words.proofs.Numbers.{digits_lack, same}
 use Rattle.std.specs.Result.{result_ok}
@@ -46,7 +47,7 @@ split_at c (b ∷ front) back lacks =
 
 pub split_joined : (form : Group) (first : List ℕ) (groups : List (List ℕ)) → AllByRecursion (IsGroup form) (first ∷ groups)
     → slice_split (λ b. b == separator_of form) (join_with_byte (separator_of form) (first ∷ groups)) ≡ first ∷ groups
-split_joined form first [] each = split_none (separator_of form) first (group_lacks form first each.0)
+split_joined form first [] each = search (arith, split_none, group_lacks)
 split_joined form first (second ∷ groups) each = search (arith, split_at, join_with_byte, group_lacks, (split_joined form second groups each.1))
 
 parts_are : (form : Group) (text : List ℕ) (groups : List (List ℕ)) → text ≡ join_with_byte (separator_of form) groups → AllByRecursion (IsGroup form)
@@ -90,8 +91,7 @@ bad_part {form} {text} {digits} k some at bad groups are upper_bound = search (a
 -- a ninth part
 pub too_many : {form : Group} {text : List ℕ} (k : ℕ) → 0 < length text → k < length (parts_of form text) → k ≡ 8
     → (groups : List (List ℕ)) → AreGroups form text groups → length groups ≤ 8 → ⊥
-too_many {form} {text} k some within eight groups are upper_bound =
-    let same = ap length (groups_are_parts are some) in omega arith
+too_many {form} {text} k some within eight groups are upper_bound = search (arith, groups_are_parts)
 
 -- no part was left
 pub all_read : {form : Group} {text : List ℕ} (groups : List (List ℕ)) → AllByRecursion (IsGroup form) groups → groups ≡ parts_of form text
@@ -210,12 +210,12 @@ ends_fit first count last last_count below last_below upper_bound =
     omega arith
 
 pub whole_below : {form : Group} {many a : ℕ} {word : List ℕ} → IsWholeAddress form (base_of form) many word a → a < base_of form ^ many
-whole_below {form} w = rw (w.value, ← w.all) (groups_below form w.groups w.are.each)
+whole_below {form} w = search (arith, groups_below)
 
 pub ends_value : (form : Group) (first last : List (List ℕ)) → length first + length last ≤ 7
     → number_from_digits 65536 (group_values form first) * 65536 ^ (8 - length first) + number_from_digits 65536 (group_values form last)
     ≡ number_from_digits 65536 (group_values form first ++ (replicate (8 - (length first + length last)) 0 ++ group_values form last))
-ends_value form first last upper_bound = search (arith, number_between, length, group_values, length-map, group_value, number_from_digits)
+ends_value form first last upper_bound = search (arith, number_between, length-map)
 
 pub ends_below : {front back : List ℕ} {a : ℕ} → AreIp6Ends front back a → a < 2 ^ 128
 ends_below e = search (arith, ends_value, ends_fit, groups_below)

@@ -10,7 +10,7 @@ pub use Rattle.std.proofs.lemmas.Int.Digits.{number_after_append, number_lt, dig
 pub use Rattle.std.proofs.lemmas.List.{length-map, map-append, get_or-append-add, get_or_append_left, take-append-drop, length-take, take_rest, get_or-take}
 pub use Rattle.std.proofs.lemmas.List.Sums.{passes_at_first, split_at_first, count_by-le-length, count_by_more_no, sum_by-append}
 pub use Rattle.std.proofs.lemmas.{Result.err_from_is_err_and, Slice.Eq.bytes_eq-Decides}
-pub use Rattle.std.specs.{Borrow.Bor, Char.digit_value, Char.is_ascii_alphanumeric}
+pub use Rattle.std.specs.{Borrow.Bor, Char.digit_value}
 pub use Rattle.std.specs.Int.Digits.{AllBelowBase, number_from_digits, number_from_digits_after}
 pub use Rattle.std.specs.List.{AllByRecursion, join_with_byte, list_all, position, position_or_len, slice_split}
 pub use Rattle.std.specs.Str.{bytes_eq, Parse.AllDigits, Parse.digits_value, Parse.IsNumeral}

@@ -18,15 +18,12 @@ parted_more b text first p (suc k) h = let next = p k h in (next.0, omega (arith
 
 parted_digits : (text : List ℕ) → has 58 text ≡ false → Parted text
 parted_digits [] lacks = λ k h. absurd (omega arith)
-parted_digits (b ∷ text) lacks =
-    let parts = or_parts (b == 58) (has 58 text) lacks in
-    parted_more b text (λ e. absurd (is_not b parts.0 e)) (parted_digits text parts.1)
+parted_digits (b ∷ text) lacks = search (arith, or_parts, has, parted_more, is_not, (parted_digits text (or_parts (b == 58) (has 58 text) lacks).1))
 
 parted_before : (front rest : List ℕ) → has 58 front ≡ false → get_or rest 0 0 ≢ 58 → 0 < length rest → Parted rest → Parted (front ++ 58 ∷ rest)
 parted_before [] rest lacks other some p = parted_more 58 rest (λ e. (other, some)) p
 parted_before (b ∷ front) rest lacks other some p =
-    let parts = or_parts (b == 58) (has 58 front) lacks in
-    parted_more b (front ++ 58 ∷ rest) (λ e. absurd (is_not b parts.0 e)) (parted_before front rest parts.1 other some p)
+    search (arith, or_parts, has, parted_more, is_not, (parted_before front rest (or_parts (b == 58) (has 58 front) lacks).1 other some p))
 
 begins_with_digit : (digits : List ℕ) → 0 < length digits → has 58 digits ≡ false → get_or digits 0 0 ≢ 58
 begins_with_digit [] some lacks = absurd (omega arith)

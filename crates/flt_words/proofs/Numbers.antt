@@ -14,9 +14,7 @@ differs b c ne = grind (arith, nat_tests)
 
 first_after : (c : ℕ) (front back : List ℕ) → has c front ≡ false → position_or_len (λ b. b == c) (front ++ c ∷ back) ≡ length front
 first_after c [] back lacks = rw (same c) refl
-first_after c (b ∷ front) back lacks =
-    let parts = or_parts (b == c) (has c front) lacks in
-    rw (parts.0, first_after c front back parts.1) (omega arith)
+first_after c (b ∷ front) back lacks = search (arith, or_parts, has, (first_after c front back (or_parts (b == c) (has c front) lacks).1))
 
 pub digit_differs : (c radix d : ℕ) → radix ≤ digit_value c → digit_value d < radix → (d == c) ≡ false
 digit_differs c radix d high low = search (arith, differs)

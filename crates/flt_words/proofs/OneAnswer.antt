@@ -8,7 +8,7 @@ use Rattle.flt_words.proofs.OneKind.{same_kind}
 use Rattle.flt_words.proofs.{Pieces.longest_some, Pieces.taken, Pieces.word_some, Tables.symbol_piece}
 
 fits_apart : {word : List ℕ} {a b : TokenKind} → Spells word a → Spells word b → fits a ≡ true → fits b ≡ false → ⊥
-fits_apart v w fit no_fit = false≢true (sym no_fit ∙ ap fits (same_kind w v) ∙ fit)
+fits_apart v w fit no_fit = search (arith, false≢true, fits, same_kind)
 
 same_word : {place : ℕ} {word : List ℕ} {a b : Result TokenKind ExprFault} → WordMeans place word a → WordMeans place word b → a ≡ b
 same_word (known v f) (known w g) = ap Ok (same_kind v w)
@@ -48,7 +48,8 @@ same_refusal : {inside : Bool} {place : ℕ} {rest : List ℕ} {d e : ExprFault}
 same_refusal (no_piece none) (no_piece other) = refl
 same_refusal (no_piece none) (bad_piece {n} longest means) = absurd (none n longest.in_range longest.piece)
 same_refusal (bad_piece {n} longest means) (no_piece none) = absurd (none n longest.in_range longest.piece)
-same_refusal {inside} {place} {rest} (bad_piece {refusal = d} longest means) (bad_piece {refusal = e} other_longest other_means) = search (arith, same_length, same_means)
+same_refusal {inside} {place} {rest} (bad_piece {refusal = d} longest means) (bad_piece {refusal = e} other_longest other_means) =
+    search (arith, same_length, same_means)
 
 -- a blank begins no token
 blank_starts_none : (inside : Bool) (b : ℕ) → is_blank b ≡ true → starts_word inside b ≡ false

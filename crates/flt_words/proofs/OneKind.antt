@@ -30,7 +30,7 @@ lacks_more : (b c : ℕ) (text : List ℕ) → (b == c) ≡ false → has c text
 lacks_more b c text other lacks = rw (other, lacks) refl
 
 lacks_append : (c : ℕ) (front back : List ℕ) → has c front ≡ false → has c back ≡ false → has c (front ++ back) ≡ false
-lacks_append c front back v w = list_any-append (λ b. b == c) front back ∙ rw (v, w) refl
+lacks_append c front back v w = search (arith, list_any-append)
 
 has_append : (c : ℕ) (front back : List ℕ) → has c back ≡ true → has c (front ++ back) ≡ true
 has_append c front back w = search (arith, list_any-append, or-true)
@@ -66,7 +66,7 @@ dotted_lacks c sign other d = search (arith, joined_lacks)
 
 ip6_has : {word : List ℕ} {address : ℕ} → IsIp6 word address → has 58 word ≡ true
 ip6_has (whole w) = groups_have w.are (omega (arith, w.all))
-ip6_has (shortened {front} {back} ends) = has_append 58 front (58 ∷ 58 ∷ back) (has_first 58 (58 ∷ back))
+ip6_has (shortened {front} {back} ends) = search (arith, has_append, has_first)
 
 -- the greatest of the signs that a word has
 abbrev pub sign_of : List ℕ → ℕ
@@ -132,7 +132,7 @@ same_ip6 (shortened {front} {back} v) w =
 
 bytes_are_quads : (groups : List (List ℕ)) → AllByRecursion (IsGroup group.Byte) groups → AllByRecursion (IsGroup group.Quad) groups
 bytes_are_quads [] each = tt
-bytes_are_quads (g ∷ groups) each = ((each.0.0, omega (arith, each.0.1)), bytes_are_quads groups each.1)
+bytes_are_quads (g ∷ groups) each = search (arith, (bytes_are_quads groups each.1))
 
 six_are_no_ip6 : {word : List ℕ} {groups : List (List ℕ)} {b : ℕ} → AreGroups group.Quad word groups → length groups ≡ 6 → IsIp6 word b → ⊥
 six_are_no_ip6 are six (whole w) = let same = ap length (same_groups are w.are) in omega (arith, w.all)
@@ -143,7 +143,7 @@ no_mac_is_ip6 v w = search (arith, six_are_no_ip6, joined, bytes_are_quads)
 
 decimal_first : (digits : List ℕ) {n : ℕ} → WritesNumber 10 digits n → get_or digits 0 0 < 58
 decimal_first [] w = absurd (omega (arith, w.numeral.0))
-decimal_first (d ∷ digits) w = let range = digit_from_value d w.numeral.1.0 in omega (arith, range)
+decimal_first (d ∷ digits) w = search (arith, digit_from_value)
 
 number_first : {word : List ℕ} {n : ℕ} → IsNumber word n → get_or word 0 0 < 58
 number_first {word} (decimal w) = decimal_first word w.writes

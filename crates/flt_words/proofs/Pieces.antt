@@ -17,7 +17,7 @@ starts_at_none true = refl
 starts_at_none false = refl
 
 pub begins_some : (inside : Bool) (rest : List ℕ) → starts_word inside (get_or rest 0 0) ≡ true → 0 < length rest
-begins_some inside [] begins = absurd (false≢true (sym (starts_at_none inside) ∙ begins))
+begins_some inside [] begins = search (arith, false≢true, starts_at_none)
 begins_some inside (b ∷ rest) begins = omega arith
 
 -- its first byte
@@ -56,7 +56,7 @@ pub taken : (rest : List ℕ) (m i : ℕ) → i < m → get_or (take m rest) i 0
 taken rest m i below = get_or-take m rest i 0 below
 
 pub word_some : (inside : Bool) (rest : List ℕ) (m : ℕ) → IsWordPiece inside (take m rest) → 0 < m
-word_some inside rest zero w = absurd (false≢true (sym (starts_at_none inside) ∙ w.begins))
+word_some inside rest zero w = search (arith, false≢true, starts_at_none)
 word_some inside rest (suc m) w = omega arith
 
 last_starts : (inside : Bool) (rest : List ℕ) (m : ℕ) → 0 < m → m ≤ length rest → IsWordPiece inside (take m rest)

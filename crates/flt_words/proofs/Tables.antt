@@ -2,7 +2,7 @@
 -- with brackets.
 use Rattle.flt_words.proofs.Common.{◌≡◌, ℕ, List, [], ◌∷◌, refl, Bool, true, false, ◌&&◌, not, ◌==◌, eqb-true, cond, Option, Some, get_or, nat_lt}
 use Rattle.flt_words.proofs.Common.{bytes_eq-Decides, list_all, bytes_eq, TokenKind, has, Spellings, keyword_of, look_up, fits, ◌<◌, ◌≤◌, count_by, length}
-use Rattle.flt_words.proofs.Common.{codes, arith, lit≤, is_ascii_alphanumeric, is_blank, starts_word, symbol_of, suc, take, sym, ◌∙◌, Ok, false≢true}
+use Rattle.flt_words.proofs.Common.{codes, arith, lit≤, is_blank, starts_word, symbol_of, suc, take, sym, ◌∙◌, Ok, false≢true}
 use Rattle.flt_words.proofs.Common.{within_word, IsToken, IsWordPiece, PieceMeans, symbol_meaning, word_meaning, Spells, keyword, known, and_parts, not-true}
 use Rattle.flt_words.proofs.Common.{or_parts, ltb-true}
 use Rattle.flt_words.specs.Spellings.{keywords, symbols}
@@ -85,7 +85,7 @@ unfolding symbol_test symbols
 all_symbols = refl
 
 starts_none_inside : (inside : Bool) (b : ℕ) → starts_word false b ≡ false → starts_word inside b ≡ false
-starts_none_inside true b other = rw (or_parts (is_ascii_alphanumeric b) (b == 58) other).0 refl
+starts_none_inside true b other = search (arith, or_parts)
 starts_none_inside false b other = other
 
 in_table : (inside : Bool) (piece : List ℕ) (kind : TokenKind) → look_up symbols piece ≡ Some kind → IsSymbolPiece inside piece kind

@@ -1,10 +1,10 @@
 -- The instructions so far, followed by those of the other lines, are all instructions.
-use Rattle.flt_bpf.proofs.Common.{◌∙◌, sym, arith, rules, subst}
-use Rattle.flt_bpf.proofs.LineByLine.{ReadTo, read_all, read_beyond, read_missing, read_more, read_none, read_wrong}
+use Rattle.flt_bpf.proofs.Common.{◌∙◌, sym, arith, rules}
+use Rattle.flt_bpf.proofs.LineByLine.{read_all, read_beyond, read_missing, read_more, read_none, read_wrong}
 use Rattle.flt_bpf.proofs.reading.insns_on_lines.Goals as goal
 
 pub loop-at-init : goal.loop-at-init
-loop-at-init g c = subst (ReadTo _ _ c.args.count 0) (sym c.new-insns.ensures.items) (read_none _ _)
+loop-at-init g c = search (arith, read_none)
 
 pub returns-then-is_empty-clause-wrong : goal.returns-then-is_empty-clause-wrong
 returns-then-is_empty-clause-wrong g c = (_, read_missing c.loop-at.rest.now c.loop-at.invariant c.loop-at-test.true (search rules), omega arith)

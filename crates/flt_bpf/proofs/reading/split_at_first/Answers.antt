@@ -7,5 +7,4 @@ pub returns-clause-pieces : goal.returns-clause-pieces
 returns-clause-pieces c = cut_none c.args.stop c.args.text.now (λ k less. c.loop-at.invariant k (omega arith))
 
 pub returns-then-byte-stop-clause-pieces : goal.returns-then-byte-stop-clause-pieces
-returns-then-byte-stop-clause-pieces c =
-    cut_range c.args.stop c.args.text.now c.loop-at.at c.loop-at.invariant c.loop-at-test.true c.if-byte-stop.true
+returns-then-byte-stop-clause-pieces c = search (arith, cut_range)

@@ -1,20 +1,14 @@
 -- The lines so far are written, and if the output fails, a prefix of the listing.
 use Rattle.flt_bpf.proofs.Assembling.{line_bytes, stopped_front, stopped_told, more_told, more_size}
 use Rattle.flt_bpf.proofs.Checking.{parts}
-use Rattle.flt_bpf.proofs.Common.{length, ◌∙◌, arith, rules, length-decimal-le, common_steps}
+use Rattle.flt_bpf.proofs.Common.{◌∙◌, arith, rules, length-decimal-le, common_steps}
 use Rattle.flt_bpf.proofs.writing.write_listing.Goals as goal
 
 pub put_number-start-requires-clause-room : goal.put_number-start-requires-clause-room
-put_number-start-requires-clause-room g c =
-    let short = (parts c.insns-insns.result.now c.insns-insns.ensures.valid).short in
-    let count = length-decimal-le 10 (length c.insns-insns.result.now) (omega arith) (omega arith) (omega arith) in
-    omega arith
+put_number-start-requires-clause-room g c = search (arith, parts, length-decimal-le)
 
 pub returns-in-Err-clause-front : goal.returns-in-Err-clause-front
-returns-in-Err-clause-front g c =
-    rw (← c.insns-insns.ensures.insns) (stopped_front c.insns-insns.result.now c.loop-insn.insn-index _ c.loop-insn.written c.in-Err.stopped.written _
-    c.loop-insn-test.true (line_bytes c.put_insn_line-start.new.line c.put_insn_line-start.result c.put_insn_line-start.array_long
-    ∙ c.put_insn_line-start.ensures.written) c.in-Err.ensures.front c.loop-insn.invariant.size)
+returns-in-Err-clause-front g c = search (arith, stopped_front, line_bytes)
 
 pub returns-in-Err-clause-exact : goal.returns-in-Err-clause-exact
 returns-in-Err-clause-exact g c =
@@ -38,16 +32,10 @@ loop-insn-preserved g c =
     }
 
 pub loop-insn-init : goal.loop-insn-init
-loop-insn-init g c = record {
-  bounded = omega arith;
-  size = grind (arith, common_steps);
-  failed = grind arith;
-  room = c.in_ok-write_all.ensures.room;
-  exact = λ tells. let told = c.in_ok-write_all.ensures.exact tells in grind (arith, common_steps);
-}
+loop-insn-init g c = search (arith, common_steps)
 
 pub overflow_add-result : goal.overflow_add-result
-overflow_add-result g c = let short = (parts c.insns-insns.result.now c.insns-insns.ensures.valid).short in grind arith
+overflow_add-result g c = search (arith, parts)
 
 pub overflow_add-written : goal.overflow_add-written
-overflow_add-written g c = let short = (parts c.insns-insns.result.now c.insns-insns.ensures.valid).short in omega arith
+overflow_add-written g c = search (arith, parts)

@@ -15,4 +15,4 @@ pub overflow_cast-result : goal.overflow_cast-result
 overflow_cast-result c = omega (arith, (dotted_below (read_dotted c.in_ok-joined.ensures (omega arith) (omega arith))).0, c.value_with_zeros-address.ensures)
 
 pub returns : goal.returns
-returns c = rw c.value_with_zeros-address.ensures (read_dotted c.in_ok-joined.ensures (omega arith) (omega arith))
+returns c = search (arith, read_dotted)

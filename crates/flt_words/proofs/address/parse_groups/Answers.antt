@@ -1,6 +1,7 @@
 -- Each turn reads the next part.
 use Rattle.flt_words.proofs.AddressValues.{all_read, bad_part, each_pushed, parts_of, step_fits, step_small, step_value, too_many}
-use Rattle.flt_words.proofs.Common.{◌≡◌, ◌<◌, ◌==◌, length, get_or, List, ℕ, length-append, map, arith, sym, ap, ◌∙◌, rules, of_calls, length-map, map-append, Bor, IsGroup}
+use Rattle.flt_words.proofs.Common.{◌≡◌, ◌<◌, ◌==◌, length, get_or, List, ℕ, length-append, map, arith, sym, ap, ◌∙◌, rules, of_calls, length-map, map-append}
+use Rattle.flt_words.proofs.Common.{Bor, IsGroup}
 use Rattle.flt_words.proofs.{Numbers.some_unless_test, address.parse_groups.Goals.In-Some}
 use Rattle.std.proofs.lemmas.Iterator.Consumers.{YieldsList-end, YieldsList-turn}
 use Rattle.std.proofs.lemmas.Iterator.Splits.{YieldsList-from_slice_split}
@@ -8,7 +9,7 @@ use Rattle.std.specs.Slice.Iter.{split_callee}
 use Rattle.flt_words.proofs.address.parse_groups.Goals as goal
 
 some_text : (c : In-Some) → 0 < length c.args.text.now
-some_text c = some_unless_test (length c.args.text.now) (sym c.is_empty.ensures ∙ c.if-is_empty.false)
+some_text c = search (arith, some_unless_test)
 
 next_part : (c : In-Some) → (length c.loop-digits.yielded < length (parts_of c.args.form c.args.text.now))
     × (c.in-Some.digits.now ≡ get_or (parts_of c.args.form c.args.text.now) (length c.loop-digits.yielded) c.in-Some.digits.now)
@@ -29,16 +30,10 @@ returns-then-count-eq8 c =
     too_many _ (some_text here) (next_part here).0 (sym c.loop-digits.invariant.count ∙ c.if-count-eq8.true)
 
 pub overflow_mul-value : goal.overflow_mul-value
-overflow_mul-value c =
-    let fits = step_fits c.args.form c.in-Some.digits.now c.loop-digits.value c.loop-digits.count c.in_ok-digit.digit c.from.result
-    (c.from.ensures ∙ c.base.ensures) c.in_ok-digit.ensures c.loop-digits.invariant.small (omega arith) in
-    omega arith
+overflow_mul-value c = search (arith, step_fits)
 
 pub overflow_add-value : goal.overflow_add-value
-overflow_add-value c =
-    let fits = step_fits c.args.form c.in-Some.digits.now c.loop-digits.value c.loop-digits.count c.in_ok-digit.digit c.from.result
-    (c.from.ensures ∙ c.base.ensures) c.in_ok-digit.ensures c.loop-digits.invariant.small (omega arith) in
-    omega (arith, c.from-in-loop-digits.ensures)
+overflow_add-value c = search (arith, step_fits)
 
 pub loop-digits-preserved : goal.loop-digits-preserved
 loop-digits-preserved c =

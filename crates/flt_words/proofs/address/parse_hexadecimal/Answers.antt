@@ -4,4 +4,4 @@ use Rattle.flt_words.proofs.AddressValues.{small_answer}
 use Rattle.flt_words.proofs.address.parse_hexadecimal.Goals as goal
 
 pub returns : goal.returns
-returns c = rw c.ok.ensures.value (small_answer c.args.digits.now c.args.most _ c.requires (omega arith) c.parse_digits.ensures)
+returns c = search (arith, small_answer)

@@ -1,5 +1,5 @@
 -- The address is cut at its first two colons.
-use Rattle.flt_words.proofs.Common.{◌+◌, drop, take, take_rest, AreIp6Ends, IsIp6, IsWholeIp6, whole}
+use Rattle.flt_words.proofs.Common.{arith, ◌+◌, drop, take, take_rest, AreIp6Ends, IsIp6, whole}
 use Rattle.flt_words.proofs.DoubleColons.{ends_from_ip6, ip6_from_ends, match_along, whole_from_ip6}
 use Rattle.flt_words.proofs.address.parse_ip6.Goals as goal
 
@@ -11,5 +11,4 @@ returns-in-Some c =
     (λ a. ends_from_ip6 c.in-Some.at found.1 found.2) (rw take_rest at c.parse_shortened_ip6.ensures)
 
 pub returns-in-None : goal.returns-in-None
-returns-in-None c = match_along (IsWholeIp6 c.args.word.now) (IsIp6 c.args.word.now) _ (λ a. whole) (λ a. whole_from_ip6 c.in-None.ensures)
-    c.parse_whole.ensures
+returns-in-None c = search (arith, match_along, whole, whole_from_ip6)

@@ -22,14 +22,4 @@ overflow_add-result c =
     omega (arith, c.value_with_zeros.ensures)
 
 pub returns : goal.returns
-returns c =
-    let first = c.in_ok-first.ensures in
-    let last = c.in_ok-last.ensures in
-    record {
-      first = first.0;
-      last = last.0;
-      are_first = first.1;
-      are_last = last.1;
-      at_most_seven = omega (arith, first.3, last.3);
-      value = rw (c.value_with_zeros.ensures, first.3, first.4, last.4) (ends_value Group.Quad first.0 last.0 (omega (arith, first.3, last.3)));
-    }
+returns c = search (arith, ends_value)

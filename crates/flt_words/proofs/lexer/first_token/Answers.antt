@@ -1,12 +1,10 @@
 -- The first token is a word if one begins here, otherwise a symbol.
-use Rattle.flt_words.proofs.Common.{sym, ◌∙◌, err_from_is_err_and, bad_piece, no_piece, symbol_meaning, word_meaning}
+use Rattle.flt_words.proofs.Common.{arith, sym, ◌∙◌, err_from_is_err_and, bad_piece, no_piece, symbol_meaning, word_meaning}
 use Rattle.flt_words.proofs.Pieces.{longest_is_word}
 use Rattle.flt_words.proofs.lexer.first_token.Goals as goal
 
 pub returns-then-starts_word : goal.returns-then-starts_word
-returns-then-starts_word c =
-    let begins = sym c.starts_word.ensures ∙ c.if-starts_word.true in
-    record { longest = c.first_word_len-len.ensures; means = word_meaning (longest_is_word c.first_word_len-len.ensures begins) c.in_ok-kind.ensures }
+returns-then-starts_word c = search (arith, word_meaning, longest_is_word)
 
 pub returns-in_err-kind : goal.returns-in_err-kind
 returns-in_err-kind c =
@@ -15,7 +13,7 @@ returns-in_err-kind c =
     rw (p.1, p.2) (bad_piece c.first_word_len-len.ensures (word_meaning (longest_is_word c.first_word_len-len.ensures begins) c.in_err-kind.ensures))
 
 pub returns-in-Some : goal.returns-in-Some
-returns-in-Some c = record { longest = c.in-Some.ensures.0; means = symbol_meaning c.in-Some.ensures.1 }
+returns-in-Some c = search (arith, symbol_meaning)
 
 pub returns-in-None : goal.returns-in-None
 returns-in-None c = no_piece c.in-None.ensures

@@ -35,9 +35,7 @@ returns-in_err-kind-clause-err g c =
     rw (p.1, p.2) (λ other. subst (λ bytes. Tokens bytes (Err refusal)) c.as_bytes-bytes.ensures.value (short (omega arith) whole))
 
 pub loop-at-smaller : goal.loop-at-smaller
-loop-at-smaller g c =
-    let some = longest_some c.in_ok-kind.ensures.longest in
-    omega (arith, some)
+loop-at-smaller g c = search (arith, longest_some)
 
 pub loop-at-preserved : goal.loop-at-preserved
 loop-at-preserved g c =
@@ -68,4 +66,4 @@ loop-at-preserved g c =
     }
 
 pub returns-clause-ok : goal.returns-clause-ok
-returns-clause-ok g c = rw (← c.as_bytes-bytes.ensures.value) (short (omega arith) (cut_end c.loop-at.invariant.cut (omega arith)))
+returns-clause-ok g c = search (arith, short, cut_end)

@@ -1,15 +1,12 @@
 -- The first bytes of a word decide its base.
 use Rattle.flt_words.proofs.Answering.{answers_along}
-use Rattle.flt_words.proofs.Common.{◌≡◌, ◌≢◌, ◌⊎◌, ◌<◌, ◌≤◌, inl, inr, length, get_or, arith, nat_tests, take_rest, is_word_sized, decimal}
+use Rattle.flt_words.proofs.Common.{◌≡◌, ◌≢◌, ◌⊎◌, ◌≤◌, inl, inr, length, get_or, arith, nat_tests, take_rest, is_word_sized, decimal}
 use Rattle.flt_words.proofs.Numbers.{hexadecimal_by_front, octal_by_front, only_decimal}
-use Rattle.flt_words.proofs.number.parse_number.Goals.{then-word-lt2, else-word-lt2, then-word-eq120, else-word-eq120}
+use Rattle.flt_words.proofs.number.parse_number.Goals.{then-word-eq120, else-word-eq120}
 use Rattle.flt_words.proofs.number.parse_number.Goals as goal
 
 pub returns-then-word-ne48 : goal.returns-then-word-ne48
-returns-then-word-ne48 c =
-    let either : (length c.args.word.now < 2) ⊎ (get_or c.args.word.now 0 0 ≢ 48) = elim c.if-word-lt2.branch
-    [ then-word-lt2 w ↦ inl w.if-word-lt2.true | else-word-lt2 w ↦ inr (grind (arith, nat_tests)) ] in
-    answers_along _ _ is_word_sized (λ n. decimal) (λ n. only_decimal either) _ c.parse_decimal.ensures
+returns-then-word-ne48 c = search (arith, inr, answers_along, decimal, only_decimal)
 
 pub returns-then-word-eq88 : goal.returns-then-word-eq88
 returns-then-word-eq88 c =

@@ -1,5 +1,5 @@
 -- A word that no reader accepts means nothing.
-use Rattle.flt_words.proofs.Common.{◌≡◌, ℕ, List, None, sym, ◌∙◌, TokenKind, IsDotted, IsIp6, IsMac, IsNumber, IsRange, Spells, keyword, number, dotted, range}
+use Rattle.flt_words.proofs.Common.{arith, ◌≡◌, ℕ, List, None, TokenKind, IsDotted, IsIp6, IsMac, IsNumber, IsRange, Spells, keyword, number, dotted, range}
 use Rattle.flt_words.proofs.Common.{mac, ip6, keyword_of, known, too_large, unknown}
 use Rattle.flt_words.proofs.Tables.{keyword_is_plain}
 use Rattle.flt_words.proofs.word.word_kind_at.Goals as goal
@@ -15,19 +15,13 @@ nothing no_number no_dotted no_keyword no_mac no_ip6 no_range kind (mac w) = no_
 nothing no_number no_dotted no_keyword no_mac no_ip6 no_range kind (ip6 w) = no_ip6 _ w
 
 pub returns-in-Err-TooLarge : goal.returns-in-Err-TooLarge
-returns-in-Err-TooLarge c = let large = rw c.in-Err-TooLarge.field-0-is at c.in-Err-TooLarge.ensures in too_large (number large.1) large.2
+returns-in-Err-TooLarge c = search (arith, too_large, number)
 
 pub returns-in-Some-keyword_of : goal.returns-in-Some-keyword_of
-returns-in-Some-keyword_of c =
-    let found = sym c.keyword_of.ensures ∙ c.in-Some-keyword_of.is in
-    known (keyword found) (keyword_is_plain c.args.word.now c.in-Some-keyword_of.kind found).fitting
+returns-in-Some-keyword_of c = search (arith, known, keyword, keyword_is_plain)
 
 pub returns-in-Err-TooLarge-parse_range : goal.returns-in-Err-TooLarge-parse_range
-returns-in-Err-TooLarge-parse_range c =
-    let large = rw c.in-Err-TooLarge-parse_range.field-0-is at c.in-Err-TooLarge-parse_range.ensures in too_large (range large.1) large.2
+returns-in-Err-TooLarge-parse_range c = search (arith, too_large, range)
 
 pub returns-in-Err-Unknown-parse_range : goal.returns-in-Err-Unknown-parse_range
-returns-in-Err-Unknown-parse_range c =
-    unknown (nothing (rw c.in-Err-Unknown.field-0-is at c.in-Err-Unknown.ensures) c.in_default.ensures
-    (sym c.keyword_of.ensures ∙ c.in_default-keyword_of.is) c.in_default-parse_mac.ensures c.in_default-parse_ip6.ensures
-    (rw c.in-Err-Unknown-parse_range.field-0-is at c.in-Err-Unknown-parse_range.ensures))
+returns-in-Err-Unknown-parse_range c = search (arith, unknown, nothing)
