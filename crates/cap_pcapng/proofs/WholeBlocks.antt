@@ -1,5 +1,5 @@
 -- All checks of a block by itself, and those that need its section.
-use Rattle.cap_pcapng.proofs.Common.{◌≡◌, ℕ, ◌-◌, ◌≤◌, ◌⊎◌, inl, inr, Bool, true, false, List, [], ◌∷◌, ◌++◌, length, Some, None, refl, sym, ap, ◌∙◌, le-leb}
+use Rattle.cap_pcapng.proofs.Common.{arith, ◌≡◌, ℕ, ◌-◌, ◌≤◌, ◌⊎◌, inl, inr, Bool, true, false, List, [], ◌∷◌, ◌++◌, length, Some, None, refl, le-leb}
 use Rattle.cap_pcapng.proofs.Common.{eq-eqb, first_failing, u32_in, Fault, block_checks, block_fault, body_checks, body_in, option_checks, parts_in}
 use Rattle.cap_pcapng.proofs.Common.{parts_in_body, Frame}
 use Rattle.cap_pcapng.proofs.Units.{both_none}
@@ -10,8 +10,7 @@ pub block_fault-body : (frame : Frame) (text body : List ℕ) → 12 ≤ frame.l
     → body ≡ body_in frame text
     → first_failing (body_checks frame.block_type frame.order body ++ option_checks (parts_in_body frame.block_type frame.order body)) ≡ block_fault frame text
 block_fault-body frame text body least whole same is =
-    rw (le-leb 12 frame.length least, le-leb frame.length (length text) whole, eq-eqb (u32_in frame.order text (frame.length - 4)) frame.length same)
-    (ap (λ t. first_failing (body_checks frame.block_type frame.order t ++ option_checks (parts_in_body frame.block_type frame.order t))) is)
+    grind (arith, le-leb, eq-eqb)
 
 -- ---- what the result of all checks means for each
 
@@ -24,15 +23,15 @@ either_fails ((false, other) ∷ rows) more fault fails = inl fails
 -- checks of a block whose bytes are there
 after_size : (frame : Frame) (text : List ℕ) → 12 ≤ frame.length → frame.length ≤ length text
     → block_fault frame text ≡ first_failing (block_checks frame text ++ option_checks (parts_in frame text))
-after_size frame text least whole = rw (le-leb 12 frame.length least, le-leb frame.length (length text) whole) refl
+after_size frame text least whole = simp le-leb
 
 pub block_passes : (frame : Frame) (text : List ℕ) → 12 ≤ frame.length → frame.length ≤ length text → block_fault frame text ≡ None
     → (first_failing (block_checks frame text) ≡ None) × (first_failing (option_checks (parts_in frame text)) ≡ None)
 block_passes frame text least whole none =
-    both_none (block_checks frame text) (option_checks (parts_in frame text)) (sym (after_size frame text least whole) ∙ none)
+    grind (arith, both_none, after_size)
 
 pub block_fails : (frame : Frame) (text : List ℕ) (fault : Fault) → 12 ≤ frame.length → frame.length ≤ length text → block_fault frame text ≡ Some fault
     → (first_failing (block_checks frame text) ≡ Some fault)
     ⊎ ((first_failing (block_checks frame text) ≡ None) × (first_failing (option_checks (parts_in frame text)) ≡ Some fault))
 block_fails frame text fault least whole fails =
-    either_fails (block_checks frame text) (option_checks (parts_in frame text)) fault (sym (after_size frame text least whole) ∙ fails)
+    grind (arith, either_fails, after_size)
