@@ -30,8 +30,7 @@ found_by (Some t) e x is = (cc)
 -- options lie after the padded data
 options_after : (padding optional : ℕ) (rest options : List ℕ) → padding ≤ length rest → options ≡ drop padding rest → optional ≡ length options
     → take optional (drop (28 + length rest - optional - 28) rest) ≡ options
-options_after padding optional rest options there is count =
-    grind (arith, length-drop, take_all)
+options_after padding optional rest options there is count = grind (arith, length-drop, take_all)
 
 -- what is found fails none of its checks
 abbrev pub IsFound : List (Bool × Fault) → Type 0 → Type 0
@@ -108,14 +107,12 @@ simple_found interfaces i orig size rest known upper_bound = (
 enhanced_body : (kind : BlockType) (order own : Order) (body rest : List ℕ) (number ticks captured orig : ℕ) → parts_in_body kind order body ≡
     EnhancedParts number ticks captured orig own rest
     → first_failing (body_checks kind order body) ≡ None → (rest ≡ drop 20 body) × (20 ≤ length body) × (own ≡ order)
-enhanced_body BlockType.EnhancedPacket order own body rest number ticks captured orig e none =
-    grind (arith, leb-true, all_met)
+enhanced_body BlockType.EnhancedPacket order own body rest number ticks captured orig e none = grind (arith, leb-true, all_met)
 enhanced_body kind order own body rest number ticks captured orig e none = absurd (cc)
 
 simple_body : (kind : BlockType) (order : Order) (body rest : List ℕ) (orig : ℕ) → parts_in_body kind order body ≡ SimpleParts orig rest
     → first_failing (body_checks kind order body) ≡ None → (rest ≡ drop 4 body) × (4 ≤ length body)
-simple_body BlockType.SimplePacket order body rest orig e none =
-    grind (arith, leb-true, all_met)
+simple_body BlockType.SimplePacket order body rest orig e none = grind (arith, leb-true, all_met)
 simple_body kind order body rest orig e none = absurd (cc)
 
 rows_after : (b : Bool) (fault : Fault) (rows : List (Bool × Fault)) → first_failing ((b, fault) ∷ rows) ≡ None → first_failing rows ≡ None
@@ -149,8 +146,7 @@ packet_enters : (frame : Frame) (interfaces : List Described) (block rest : List
 packet_enters frame interfaces block rest parts skip spans whole least is passes left there among found stays =
     let most = frame.length - 12 - skip in
     let skipped : skip + most ≡ frame.length - 12 = omega (arith, length-take (frame.length - 12) (drop 8 block)) in
-    let rest_is =
-    left ∙ ap (λ n. drop skip (take n (drop 8 block))) (sym skipped) ∙ drop-take skip most _ ∙ ap (take most) (drop-drop skip 8 block) in
+    let rest_is = left ∙ ap (λ n. drop skip (take n (drop 8 block))) (sym skipped) ∙ drop-take skip most _ ∙ ap (take most) (drop-drop skip 8 block) in
     let size : length rest ≤ most = omega (arith, ap length rest_is, length-take most (drop (8 + skip) block)) in
     let f = found in
     let further = spans.options.start - spans.bytes.start in
@@ -223,8 +219,7 @@ body_stays _ order body = (λ i. refl, tt)
 block_stays : (frame : Frame) (block : List ℕ) (fault : Fault) → first_failing (block_checks frame block) ≡ Some fault → (interfaces : List Described)
     → fault_among interfaces fault ≡ fault
 unfolding Stays
-block_stays frame block fault fails =
-    grind (arith, all_failing, body_stays)
+block_stays frame block fault fails = grind (arith, all_failing, body_stays)
 
 -- those of its options come after that of how many interfaces there are
 Yields : Fault → Type 0
@@ -241,8 +236,7 @@ after_room false rows fault fails = refl
 
 among_options : (interfaces : List Described) (parts : Parts) (fault : Fault) → first_failing (option_checks parts) ≡ Some fault
     → first_failing (checks_among interfaces parts) ≡ Some (if nat_lt (length interfaces) most_interfaces then fault else TooManyInterfaces)
-among_options interfaces (InterfaceParts link snap order options) fault fails =
-    grind (arith, after_room)
+among_options interfaces (InterfaceParts link snap order options) fault fails = grind (arith, after_room)
 among_options interfaces parts fault fails = (cc)
 
 pub refused_by_itself : (frame : Frame) (interfaces : List Described) (block : List ℕ) (fault : Fault) → length block ≡ frame.length

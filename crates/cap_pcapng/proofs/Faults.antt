@@ -34,8 +34,7 @@ IsItemOf P (Err fault) = P fault
 
 all_of_option : (P : Fault → Type 0) → P BadOption → P BadTimeResolution → (before : List CodedValue) (option : CodedValue)
     → AreAll P (checks_after before option)
-all_of_option P bad worse before option =
-    grind (arith, by_either)
+all_of_option P bad worse before option = grind (arith, by_either)
 
 all_of_list : (P : Fault → Type 0) → P BadOption → P BadTimeResolution → (before : List CodedValue) (items : List (Result CodedValue Fault))
     → AllByRecursion (IsItemOf P) items

@@ -53,8 +53,7 @@ by_code false false false false name units offset a b c n u f = refl
 -- an option after another one with its code isn't checked
 pub checks_after-found : (order : Order) (before : List CodedValue) (o : CodedValue) (found : FoundOptions) → IsFound order before found
     → checks_after before o ≡ (if is_found found o.code then [] else first_checks o)
-checks_after-found order before o found is =
-    grind (arith, by_code, eqb-true, is_some-map)
+checks_after-found order before o found is = grind (arith, by_code, eqb-true, is_some-map)
 
 -- ---- one item of the iterator
 

@@ -43,8 +43,7 @@ pub options_in-more : (order : Order) (text : List ℕ) → ends_at order text �
     → options_in order text ≡ Ok (option_at order text) ∷ options_in order (drop (padded_length (option_size order text)) text)
 unfolding options_in options_within
 options_in-more order [] more fits = (cc)
-options_in-more order (b ∷ bytes) more fits =
-    grind (arith, after_shorter, room, enough)
+options_in-more order (b ∷ bytes) more fits = grind (arith, after_shorter, room, enough)
 
 drop_least : (n : ℕ) (text : List ℕ) → drop (min (length text) n) text ≡ drop n text
 drop_least n text = ap (λ k. drop k text) (omega arith) ∙ drop_min n text
@@ -59,8 +58,7 @@ pub options_in-short : (order : Order) (text : List ℕ) → length text < 4 →
 options_in-short order text short = simp (options_in-end, lt-ltb)
 
 pub options_in-code_end : (order : Order) (text : List ℕ) → u16_in order text 0 ≡ 0 → options_in order text ≡ []
-options_in-code_end order text code =
-    simp (options_in-end, or_true, eq-eqb)
+options_in-code_end order text code = simp (options_in-end, or_true, eq-eqb)
 
 pub goes_on : (order : Order) (text : List ℕ) → 4 ≤ length text → u16_in order text 0 ≢ 0 → ends_at order text ≡ false
 goes_on order text there code = rw (le-ltb, ne_eqb) refl
@@ -69,16 +67,14 @@ pub options_in-past : (order : Order) (text : List ℕ) → 4 ≤ length text �
     → options_in order text ≡ Err BadOption ∷ []
 unfolding options_in options_within
 options_in-past order [] there code past = absurd (omega arith)
-options_in-past order (b ∷ bytes) there code past =
-    rw (goes_on, lt-leb) refl
+options_in-past order (b ∷ bytes) there code past = rw (goes_on, lt-leb) refl
 
 -- as the code finds the code, the value and the rest
 pub options_in-next : (order : Order) (text : List ℕ) (code len following : ℕ) → code ≡ u16_in order text 0 → len ≡ u16_in order text 2
     → 4 ≤ length text → code ≢ 0 → 4 + len ≤ length text → following ≡ min (length text) (padded_length (4 + len))
     → options_in order text ≡ Ok (record { code = code; value = take (4 + len - 4) (drop 4 text) })
     ∷ options_in order (take (length text - following) (drop following text))
-options_in-next order text code len following code_is len_is there more within is =
-    grind (arith, drop_least, take_rest, options_in-more, goes_on)
+options_in-next order text code len following code_is len_is there more within is = grind (arith, drop_least, take_rest, options_in-more, goes_on)
 
 pub options_in-none : (order : Order) → options_in order [] ≡ []
 options_in-none order = options_in-short order [] (lit< tt)

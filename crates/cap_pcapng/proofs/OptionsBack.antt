@@ -56,7 +56,7 @@ options_back (b ∷ bytes) short =
 
 checks_back : (name : List ℕ) → length name ≤ 255 → first_failing (list_checks [] (items_back name)) ≡ None
 checks_back [] short = refl
-checks_back (b ∷ bytes) short = rw (le-leb) refl
+checks_back (b ∷ bytes) short = rw le-leb refl
 
 pub options_pass : (name : List ℕ) → length name ≤ 255
     → first_failing (list_checks [] (options_in Little (name_text name ++ resolution_text ++ end_text))) ≡ None
@@ -68,8 +68,7 @@ described_back link snap (b ∷ bytes) = refl
 
 pub options_describe : (link snap : ℕ) (name : List ℕ) → length name ≤ 255
     → described_in link snap Little (name_text name ++ resolution_text ++ end_text) ≡ written_interface link snap name
-options_describe link snap name short =
-    simp (options_back, described_back)
+options_describe link snap name short = simp (options_back, described_back)
 
 -- a comment
 pub comment_back : (comment : List ℕ) → length comment ≤ 65535 → comment_in Little (comment_text comment) ≡ comment

@@ -37,8 +37,7 @@ pub block_written : (type : ℕ) (body : List ℕ) → type < 2 ^ 32 → (type =
 block_written type body upper_bound other whole most =
     let size : ℕ = 12 + length body in
     let text : List ℕ = block_text type body in
-    let type_is : u32_in Little text 0 ≡ type =
-    number_at 4 text 0 type (little_bytes 4 size ++ body ++ little_bytes 4 size) refl upper_bound in
+    let type_is : u32_in Little text 0 ≡ type = number_at 4 text 0 type (little_bytes 4 size ++ body ++ little_bytes 4 size) refl upper_bound in
     let size_is : u32_in Little text 4 ≡ size = number_at 4 text 4 size (body ++ little_bytes 4 size) refl (omega arith) in
     let no_section : (u32_in Little text 0 == section_type) ≡ false = ap (λ n. n == section_type) type_is ∙ other in
     record {
@@ -100,8 +99,7 @@ packet_parts number p number_fits time_fits orig_fits upper_bound =
 
 -- nanoseconds are the time itself
 nanoseconds_back : (time : ℕ) → time < 2 ^ 63 → representable_time time NANOS_PER_SECOND (pos 0) ≡ Some time
-nanoseconds_back time upper_bound =
-    grind (arith, lt-ltb)
+nanoseconds_back time upper_bound = grind (arith, lt-ltb)
 
 padded_size : (bytes : List ℕ) → length (padded_text bytes) ≡ padded_length (length bytes)
 padded_size bytes = simp (length-append, length-replicate) (omega arith)
@@ -112,24 +110,20 @@ padded_fits bytes more = grind (arith, length-append, padded_size)
 packet_among : (interfaces : List Described) (number : ℕ) (p : Captured) → slice_get interfaces number ≡ Some (written_interface p.link p.snap p.name)
     → p.time < 2 ^ 63 → first_failing
     (checks_among interfaces (EnhancedParts number p.time (length p.bytes) p.orig Little (padded_text p.bytes ++ comment_text p.comment))) ≡ None
-packet_among interfaces number p known upper_bound =
-    grind (arith, le-leb, padded_fits, nanoseconds_back)
+packet_among interfaces number p known upper_bound = grind (arith, le-leb, padded_fits, nanoseconds_back)
 
 -- the data and the comment of a body
 data_back : (bytes more : List ℕ) → take (length bytes) (padded_text bytes ++ more) ≡ bytes
-data_back bytes more =
-    simp (append_assoc, take_at)
+data_back bytes more = simp (append_assoc, take_at)
 
 comment_after : (bytes comment : List ℕ) → length comment ≤ 65535
     → comment_in Little (drop (padded_length (length bytes)) (padded_text bytes ++ comment_text comment)) ≡ comment
-comment_after bytes comment short =
-    simp (drop_at, padded_size, comment_back)
+comment_after bytes comment short = simp (drop_at, padded_size, comment_back)
 
 packet_held : (interfaces : List Described) (number : ℕ) (p : Captured) → slice_get interfaces number ≡ Some (written_interface p.link p.snap p.name)
     → p.time < 2 ^ 63 → length p.comment ≤ 65535
     → packet_by interfaces (EnhancedParts number p.time (length p.bytes) p.orig Little (padded_text p.bytes ++ comment_text p.comment)) ≡ Some p
-packet_held interfaces number p known upper_bound short =
-    rw (known, nanoseconds_back, data_back, comment_after) refl
+packet_held interfaces number p known upper_bound short = rw (known, nanoseconds_back, data_back, comment_after) refl
 
 pub packet_back : PacketBack
 packet_back interfaces number p known number_fits time_fits orig_fits short fits =

@@ -18,8 +18,7 @@ block_end k zeros n more end upper_bound is size =
     ∙ take_all _ _ (simp (length-append, length-replicate) (omega arith))
 
 pub length-packet_body : (number : ℕ) (p : Captured) → length (packet_body number p) ≡ 20 + padded_length (length p.bytes) + length (comment_text p.comment)
-length-packet_body number p =
-    grind (arith, length-append, length-replicate)
+length-packet_body number p = grind (arith, length-append, length-replicate)
 
 -- the length of a comment with the end of the options is a multiple of four
 pub length-comment_text : (comment : List ℕ) → (length comment == 0) ≡ false → length (comment_text comment) ≡ 8 + padded_length (length comment)
@@ -35,8 +34,7 @@ comment_text-whole (b ∷ bytes) = let size =
 
 pub plain_after : (padding : ℕ) (bytes comment : List ℕ) → (length comment == 0) ≡ true → length bytes + padding ≡ padded_length (length bytes)
     → comment ++ replicate padding 0 ≡ replicate (padded_length (length bytes) - length bytes) 0 ++ comment_text comment
-plain_after padding bytes [] none padding_is =
-    grind (arith, append-nil)
+plain_after padding bytes [] none padding_is = grind (arith, append-nil)
 plain_after padding bytes (b ∷ more) none padding_is = grind (arith, ne_eqb)
 
 commented : (zeros head comment more end : List ℕ) → (zeros ++ head) ++ (comment ++ (more ++ end)) ≡ zeros ++ (head ++ (comment ++ more) ++ end)
@@ -112,8 +110,7 @@ pub named : (padding : ℕ) (name option : List ℕ) → (length name == 0) ≡ 
     → option ≡ replicate 3 0 ++ (little_bytes 2 2 ++ little_bytes 2 (length name))
     → take (7 - 3) (drop 3 option) ++ (name ++ replicate padding 0) ≡ name_text name
 named padding [] option some padding_is option_is = absurd (false≢true (sym some))
-named padding (b ∷ bytes) option some padding_is option_is =
-    grind (arith, block_end)
+named padding (b ∷ bytes) option some padding_is option_is = grind (arith, block_end)
 
 regrouped : (option name zeros r e s : List ℕ)
     → option ++ (name ++ ((zeros ++ (r ++ e ++ s)) ++ [])) ≡ (option ++ (name ++ zeros)) ++ r ++ e ++ s
@@ -127,7 +124,7 @@ pub interface_joined : (link snap padding : ℕ) (name head option end : List �
 interface_joined link snap padding name head option end upper_bound name_is head_is end_is =
     let size = 32 + length option + length name + padding in
     let sizes = simp (length-append, length-replicate) at (ap length name_is) in
-    let body : length (interface_body link snap name) ≡ length (name_text name) + 20 = simp (length-append) (omega arith) in
+    let body : length (interface_body link snap name) ≡ length (name_text name) + 20 = simp length-append (omega arith) in
     let whole : size ≡ 12 + length (interface_body link snap name) = omega arith in
     ap₂ (λ h t. h ++ (option ++ (name ++ (t ++ [])))) head_is (block_end 3 _ 19 _ end (omega arith) end_is refl)
     ∙ ap (λ t. interface_header size link snap ++ t) (regrouped option name _ _ _ _)
