@@ -1,7 +1,6 @@
 -- Counting days one by one gives the same dates as jiff's day numbers.
-use Rattle.cap_octet.proofs.Common.{◌≡◌, ℕ, ap, zero, suc, ◌+◌, ◌<◌, ◌≤◌, ◌⊎◌, inl, inr, sym, ◌∙◌, arith, ℤ, pos, negsuc, ◌≤ℤ◌, ◌+ℤ◌, ◌-◌}
-use Rattle.cap_octet.proofs.Common.{unsigned_abs, Some, nat_lt, to_z, w16, to_z_pos, lt-ltb, le-ltb, days_in_month, IsCivilDate, epoch_day, signed_arith, le-leb}
-use Rattle.cap_octet.proofs.Common.{day_number}
+use Rattle.cap_octet.proofs.Common.{◌≡◌, ℕ, ap, zero, suc, ◌+◌, ◌<◌, ◌≤◌, ◌⊎◌, inl, inr, sym, ◌∙◌, arith, ℤ, pos, negsuc, ◌≤ℤ◌, ◌+ℤ◌, ◌-◌, unsigned_abs, Some}
+use Rattle.cap_octet.proofs.Common.{nat_lt, to_z, w16, to_z_pos, lt-ltb, le-ltb, days_in_month, IsCivilDate, epoch_day, signed_arith, le-leb, day_number}
 use Rattle.jiff_core.specs.{Calendar.days_from_civil, declared.civil.date.Date.Date}
 use Rattle.cap_octet.specs.Calendar.{Day, ymd, next_day, day_from_epoch}
 use Rattle.cap_octet.specs.Laws.{DayHasItsNumber, NumberHasItsDay}

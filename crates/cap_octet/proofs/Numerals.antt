@@ -1,7 +1,7 @@
 -- n decimal digits are a number below 10^n, and more digits never make a number smaller.
-use Rattle.cap_octet.proofs.Common.{[], ◌≡◌, ℕ, ◌+◌, ◌*◌, ◌^◌, ◌<◌, ◌≤◌, Bool, true, false, nat_lt, ◌&&◌, List, ◌∷◌, length, drop, get_or}
-use Rattle.cap_octet.proofs.Common.{refl, arith, mul-le-mul_left, pow-le-pow_right, at_drop_more, AllDigits, digits_value_after}
-use Rattle.cap_octet.proofs.Common.{digits_value, are_digits, decimal_value, in_u64}
+use Rattle.cap_octet.proofs.Common.{[], ◌≡◌, ℕ, ◌+◌, ◌*◌, ◌^◌, ◌<◌, ◌≤◌, Bool, true, false, nat_lt, ◌&&◌, List, ◌∷◌, length, drop, get_or, refl, arith}
+use Rattle.cap_octet.proofs.Common.{mul-le-mul_left, pow-le-pow_right, at_drop_more, AllDigits, digits_value_after, digits_value, are_digits, decimal_value}
+use Rattle.cap_octet.proofs.Common.{in_u64}
 use Rattle.std.proofs.lemmas.{Int.Digits.digits_value-lt}
 use Rattle.std.specs.Char.{digit_value}
 

@@ -1,7 +1,7 @@
 -- Two reads after each other are one longer read, and two writes one longer write.
-use Rattle.cap_octet.proofs.Common.{◌≡◌, ℕ, ◌+◌, ◌-◌, ◌<◌, ◌≤◌, Bool, true, false, if◌then◌else◌, List, ◌++◌, length, take, drop, sym, ◌∙◌, ap, arith}
-use Rattle.cap_octet.proofs.Common.{subst, Option, None, Some, length-take, drop-drop, drop_at, take_at, append-nil, append_assoc, take-take, take_all}
-use Rattle.cap_octet.proofs.Common.{drop-append-le, take-append-drop, take-add, Takes, TakesSome, TakesFull}
+use Rattle.cap_octet.proofs.Common.{◌≡◌, ℕ, ◌+◌, ◌-◌, ◌<◌, ◌≤◌, Bool, true, false, if◌then◌else◌, List, ◌++◌, length, take, drop, sym, ◌∙◌, ap, arith, subst}
+use Rattle.cap_octet.proofs.Common.{Option, None, Some, length-take, drop-drop, drop_at, take_at, append-nil, append_assoc, take-take, take_all, drop-append-le}
+use Rattle.cap_octet.proofs.Common.{take-append-drop, take-add, Takes, TakesSome, TakesFull}
 use Rattle.std.specs.Io.{BufRead.DropsConsumable, KnownBytes.Consumes, KnownBytes.prepend_known}
 use Rattle.std.proofs.{Math.ListN.drop_of_length-le, lemmas.List.length-drop}
 use borrow.Rule.Slice.PartMut.{put_mid, mid_of}

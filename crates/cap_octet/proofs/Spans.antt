@@ -1,7 +1,7 @@
 -- Reading seconds and their fraction in 64 bits gives the same value as in unbounded numbers.
-use Rattle.cap_octet.proofs.Common.{◌≡◌, ℕ, ◌+◌, ◌-◌, ◌*◌, ◌^◌, ◌<◌, ◌≤◌, Bool, true, false, List, length, Option, Some}
-use Rattle.cap_octet.proofs.Common.{None, refl, sym, ap, ◌∙◌, arith, if◌then◌else◌, take, drop, one-le-pow, mul-le-mul_right}
-use Rattle.cap_octet.proofs.Common.{decimal_value, in_u64, duration_of_parts, fraction_nanoseconds, number_at}
+use Rattle.cap_octet.proofs.Common.{◌≡◌, ℕ, ◌+◌, ◌-◌, ◌*◌, ◌^◌, ◌<◌, ◌≤◌, Bool, true, false, List, length, Option, Some, None, refl, sym, ap, ◌∙◌, arith}
+use Rattle.cap_octet.proofs.Common.{if◌then◌else◌, take, drop, one-le-pow, mul-le-mul_right, decimal_value, in_u64, duration_of_parts, fraction_nanoseconds}
+use Rattle.cap_octet.proofs.Common.{number_at}
 use Rattle.cap_octet.proofs.Numerals.{below_ten_to, few_in_u64}
 use Rattle.std.proofs.{Common.length-take, lemmas.Nat.pow-add}
 use Rattle.std.specs.Option.{option_and_then}

@@ -6,7 +6,7 @@ use Rattle.cap_pcapng.proofs.Common.{first_failing, Fault, TimeOutOfRange, TooMa
 use Rattle.cap_pcapng.proofs.Common.{SimpleParts, block_checks, block_fault, option_checks, body_checks, body_in, data_checks, parts_in, parts_in_body}
 use Rattle.cap_pcapng.proofs.Common.{parts_of, simple_captured, comment_code, comment_in, Described, most_interfaces, first_value, fitting_options}
 use Rattle.cap_pcapng.proofs.Common.{padded_length, representable_time, checks_among, packet_by, packet_of, section_by, Frame, Enters, IsBlockFault}
-use Rattle.cap_pcapng.proofs.Common.{held_packet, section_of, span_bytes}
+use Rattle.cap_pcapng.proofs.Common.{held_packet, section_of}
 use Rattle.cap_pcapng.proofs.{Faults.all_failing, Faults.all_of_options, OptionLists.options_in-none}
 use Rattle.cap_pcapng.proofs.WholeBlocks.{block_fails, block_passes}
 use Rattle.cap_pcapng.specs.declared.blocks.{Block.Block, EnhancedBlock.EnhancedBlock, SimpleBlock.SimpleBlock}
@@ -17,7 +17,7 @@ use Rattle.cap_pcapng.specs.inside.Effect.{PacketFound, fault_among}
 
 -- captured bytes are within the remainder of a body if they are with their padding
 captured_fits : (captured : ℕ) (rest : List ℕ) → first_failing (data_checks captured rest) ≡ None → captured ≤ length rest
-captured_fits captured rest none = omega (arith, leb-true (padded_length captured) (length rest) (all_met (data_checks captured rest) none).0)
+captured_fits captured rest none = grind (arith, leb-true, all_met)
 
 pub known_interface : {X : Type 0} (found : Option X) (f : X → Described) (x : X) (i : Option Described) → found ≡ Some x → option_map f found ≡ i
     → i ≡ Some (f x)
@@ -30,10 +30,7 @@ found_by (Some t) e x is = (cc)
 -- options lie after the padded data
 options_after : (padding optional : ℕ) (rest options : List ℕ) → padding ≤ length rest → options ≡ drop padding rest → optional ≡ length options
     → take optional (drop (28 + length rest - optional - 28) rest) ≡ options
-options_after padding optional rest options there is count =
-    let size : length options ≡ length rest - padding = ap length is ∙ length-drop padding rest in
-    let at : 28 + length rest - optional - 28 ≡ padding = omega arith in
-    ap (λ n. take optional (drop n rest)) at ∙ ap (take optional) (sym is) ∙ take_all optional options (omega arith)
+options_after padding optional rest options there is count = grind (arith, length-drop, take_all)
 
 -- what is found fails none of its checks
 abbrev pub IsFound : List (Bool × Fault) → Type 0 → Type 0
@@ -54,13 +51,13 @@ pub enhanced_found : (order : Order) (interfaces : List Described) (i : Describe
       orig = orig;
     }))
 enhanced_found order interfaces i number ticks captured orig time size optional rest options known upper_bound exact small following optional_is =
-    let room : padded_length captured ≤ length rest = leb-true (padded_length captured) (length rest) (all_met (data_checks captured rest) upper_bound).0 in
-    let lies_there : take optional (drop (28 + length rest - optional - 28) rest) ≡ options = options_after (padded_length captured) optional rest
-    options room following optional_is in
-    let left : length options ≡ length rest - padded_length captured = ap length following ∙ length-drop (padded_length captured) rest in
-    let fits : captured ≤ length rest = captured_fits captured rest upper_bound in
-    let at : representable_time ticks i.units i.offset ≡ Some time = found_by (representable_time ticks i.units i.offset) TimeOutOfRange time (sym exact) in (
-      rw (known, at) (met_front (data_checks captured rest) ((is_some (Some time), TimeOutOfRange) ∷ []) upper_bound),
+    let room = leb-true (padded_length _) _ (all_met (data_checks _ rest) upper_bound).0 in
+    let lies_there = options_after (padded_length _) _ rest
+    _ room following optional_is in
+    let left = ap length following ∙ length-drop (padded_length _) rest in
+    let fits = captured_fits _ rest upper_bound in
+    let at = found_by (representable_time ticks _ i.offset) _ time (sym exact) in (
+      rw (known, at) (met_front (data_checks _ rest) ((is_some (Some time), TimeOutOfRange) ∷ []) upper_bound),
       record {
         whole = refl;
         known = rw known refl;
@@ -69,10 +66,10 @@ enhanced_found order interfaces i number ticks captured orig time size optional 
         stands = rw (known, at) refl;
         is_lent = rw (known, lies_there ∙ following) refl;
         there = fits;
-        following = omega (arith, left, optional_is);
-        options = omega (arith, left, optional_is);
+        following = omega arith;
+        options = omega arith;
         time = small;
-        lies = (refl, refl, ap₂ (λ (a b : ℕ). record { start = a; length = b }) (omega (arith, left, optional_is, room)) (omega (arith, left, optional_is)));
+        lies = (refl, refl, ap₂ (λ a b. record { start = a; length = b }) (omega arith) (omega arith));
       },
     )
 
@@ -97,7 +94,7 @@ simple_found interfaces i orig size rest known upper_bound = (
     stands = rw known refl;
     is_lent = rw known (ap (λ items. Some (packet_of i 0 orig (take (simple_captured orig i.snap) rest)
         (unwrap_or (first_value comment_code (fitting_options items)) []))) (options_in-none order));
-    there = captured_fits (simple_captured orig i.snap) rest upper_bound;
+    there = captured_fits _ rest upper_bound;
     following = lit≤ tt;
     options = omega arith;
     time = omega arith;
@@ -110,14 +107,12 @@ simple_found interfaces i orig size rest known upper_bound = (
 enhanced_body : (kind : BlockType) (order own : Order) (body rest : List ℕ) (number ticks captured orig : ℕ) → parts_in_body kind order body ≡
     EnhancedParts number ticks captured orig own rest
     → first_failing (body_checks kind order body) ≡ None → (rest ≡ drop 20 body) × (20 ≤ length body) × (own ≡ order)
-enhanced_body BlockType.EnhancedPacket order own body rest number ticks captured orig e none =
-    ((cc), leb-true 20 (length body) (all_met (body_checks BlockType.EnhancedPacket order body) none).0, (cc))
+enhanced_body BlockType.EnhancedPacket order own body rest number ticks captured orig e none = grind (arith, leb-true, all_met)
 enhanced_body kind order own body rest number ticks captured orig e none = absurd (cc)
 
 simple_body : (kind : BlockType) (order : Order) (body rest : List ℕ) (orig : ℕ) → parts_in_body kind order body ≡ SimpleParts orig rest
     → first_failing (body_checks kind order body) ≡ None → (rest ≡ drop 4 body) × (4 ≤ length body)
-simple_body BlockType.SimplePacket order body rest orig e none =
-    ((cc), leb-true 4 (length body) (all_met (body_checks BlockType.SimplePacket order body) none).0)
+simple_body BlockType.SimplePacket order body rest orig e none = grind (arith, leb-true, all_met)
 simple_body kind order body rest orig e none = absurd (cc)
 
 rows_after : (b : Bool) (fault : Fault) (rows : List (Bool × Fault)) → first_failing ((b, fault) ∷ rows) ≡ None → first_failing rows ≡ None
@@ -126,7 +121,7 @@ rows_after false fault rows none = (cc)
 
 pub body_passes : (frame : Frame) (block : List ℕ) → first_failing (block_checks frame block) ≡ None
     → first_failing (body_checks frame.block_type frame.order (body_in frame block)) ≡ None
-body_passes frame block none = rows_after _ _ (body_checks frame.block_type frame.order (body_in frame block)) none
+body_passes frame block none = grind (arith, rows_after)
 
 -- bytes of a part of a block, as bytes of the block
 part_lies : (block rest : List ℕ) (most start at count : ℕ) → rest ≡ take most (drop start block) → at + count ≤ length rest
@@ -134,10 +129,10 @@ part_lies : (block rest : List ℕ) (most start at count : ℕ) → rest ≡ tak
 part_lies block rest most start at count is within =
     let size : length rest ≤ most = omega (arith, ap length is, length-take most (drop start block)) in
     let whole : at + (most - at) ≡ most = omega arith in
-    let same : drop at rest ≡ take (most - at) (drop (start + at) block) =
+    let same =
     ap (drop at) is ∙ ap (λ n. drop at (take n (drop start block))) (sym whole) ∙ drop-take at (most - at) (drop start block)
-    ∙ ap (take (most - at)) (drop-drop at start block) in
-    sym (take-take count (most - at) (drop (start + at) block) (omega arith)) ∙ ap (take count) (sym same)
+    ∙ ap (take _) (drop-drop at start block) in
+    sym (take-take count _ _ (omega arith)) ∙ ap (take count) (sym same)
 
 -- ---- a block with a packet
 
@@ -149,29 +144,28 @@ packet_enters : (frame : Frame) (interfaces : List Described) (block rest : List
     → section_by (Some (section_of frame.order interfaces)) frame.order parts ≡ section_of frame.order interfaces
     → Enters frame interfaces block (Some spans) interfaces
 packet_enters frame interfaces block rest parts skip spans whole least is passes left there among found stays =
-    let most : ℕ = frame.length - 12 - skip in
-    let skipped : skip + most ≡ frame.length - 12 = omega (arith, there, length-take (frame.length - 12) (drop 8 block)) in
-    let rest_is : rest ≡ take most (drop (8 + skip) block) =
-    left ∙ ap (λ n. drop skip (take n (drop 8 block))) (sym skipped) ∙ drop-take skip most (drop 8 block) ∙ ap (take most) (drop-drop skip 8 block) in
+    let most = frame.length - 12 - skip in
+    let skipped : skip + most ≡ frame.length - 12 = omega (arith, length-take (frame.length - 12) (drop 8 block)) in
+    let rest_is = left ∙ ap (λ n. drop skip (take n (drop 8 block))) (sym skipped) ∙ drop-take skip most _ ∙ ap (take most) (drop-drop skip 8 block) in
     let size : length rest ≤ most = omega (arith, ap length rest_is, length-take most (drop (8 + skip) block)) in
     let f = found in
-    let further : ℕ = spans.options.start - spans.bytes.start in
-    let bytes : span_bytes spans.bytes block ≡ take spans.bytes.length rest =
-    ap (λ n. take spans.bytes.length (drop n block)) (omega (arith, f.from)) ∙ part_lies block rest most (8 + skip) 0 spans.bytes.length rest_is
-    (omega (arith, f.there)) in
-    let options : span_bytes spans.options block ≡ take spans.options.length (drop further rest) =
-    ap (λ n. take spans.options.length (drop n block)) (omega (arith, f.from, f.following)) ∙ part_lies block rest most (8 + skip) further
-    spans.options.length rest_is f.options in
+    let further = spans.options.start - spans.bytes.start in
+    let bytes =
+    ap (λ n. take spans.bytes.length (drop n block)) (omega arith) ∙ part_lies block rest most _ 0 _ rest_is
+    (omega arith) in
+    let options =
+    ap (λ n. take spans.options.length (drop n block)) (omega arith) ∙ part_lies block rest most _ _
+    _ rest_is f.options in
     record {
       passes = passes;
       among = ap (λ p. first_failing (checks_among interfaces p)) (sym is) ∙ among;
       section = ap (λ p. section_by (Some (section_of frame.order interfaces)) frame.order p) (sym is) ∙ stays;
       packet = record {
         packet = found.packet;
-        stands = ap (packet_by interfaces) (sym is) ∙ found.stands;
-        is_lent = ap₂ (held_packet frame.order interfaces spans) bytes options ∙ found.is_lent;
+        stands = ap (packet_by _) (sym is) ∙ found.stands;
+        is_lent = ap₂ (held_packet _ _ spans) bytes options ∙ found.is_lent;
       };
-      fits = (found.whole, omega (arith, f.from, f.there, skipped), found.time, omega (arith, f.from, f.following, f.options, skipped));
+      fits = (found.whole, omega arith, found.time, omega arith);
       known = found.known;
     }
 
@@ -179,11 +173,11 @@ packet_enters frame interfaces block rest parts skip spans whole least is passes
 pub enhanced_room : (frame : Frame) (block : List ℕ) (b : EnhancedBlock) → length block ≡ frame.length → 12 ≤ frame.length
     → parts_of (Block.Enhanced b) ≡ parts_in frame block → block_fault frame block ≡ None → 28 + length b.rest.now ≤ frame.length
 enhanced_room frame block b whole least is none =
-    let passes = (block_passes frame block least (omega (arith, whole)) none).0 in
-    let body = enhanced_body frame.block_type frame.order b.order (body_in frame block) b.rest.now b.interface b.ticks b.captured b.orig (sym is)
+    let passes = (block_passes frame block least (omega arith) none).0 in
+    let body = enhanced_body _ _ _ _ _ b.interface b.ticks b.captured b.orig (sym is)
     (body_passes frame block passes) in
-    let size : length (body_in frame block) ≡ frame.length - 12 = length-take-le (frame.length - 12) (drop 8 block) (omega (arith, length-drop 8 block)) in
-    omega (arith, size, body.1, ap length body.0, length-drop 20 (body_in frame block), least)
+    let size : length (body_in frame block) ≡ frame.length - 12 = length-take-le _ (drop 8 block) (omega (arith, length-drop 8 block)) in
+    omega (arith, size, ap length body.0, length-drop 20 (body_in frame block))
 
 pub enhanced_enters : (frame : Frame) (interfaces : List Described) (block : List ℕ) (b : EnhancedBlock) (spans : PacketSpans)
     → length block ≡ frame.length → 12 ≤ frame.length
@@ -192,11 +186,11 @@ pub enhanced_enters : (frame : Frame) (interfaces : List Described) (block : Lis
     b.rest.now spans)
     → Enters frame interfaces block (Some spans) interfaces
 enhanced_enters frame interfaces block b spans whole least is none found =
-    let passes = (block_passes frame block least (omega (arith, whole)) none).0 in
-    let body = enhanced_body frame.block_type frame.order b.order (body_in frame block) b.rest.now b.interface b.ticks b.captured b.orig (sym is)
+    let passes = (block_passes frame block least (omega arith) none).0 in
+    let body = enhanced_body _ _ _ _ _ _ _ _ b.orig (sym is)
     (body_passes frame block passes) in
     let P : Order → Type 0 = λ order. PacketFound order interfaces (parts_of (Block.Enhanced b)) 28 frame.length b.rest.now spans in
-    packet_enters frame interfaces block b.rest.now (parts_of (Block.Enhanced b)) 20 spans whole least is passes body.0 body.1 found.0
+    packet_enters frame _ block _ _ 20 spans whole least is passes body.0 body.1 found.0
     (subst P body.2 found.1) refl
 
 pub simple_enters : (frame : Frame) (interfaces : List Described) (block : List ℕ) (b : SimpleBlock) (spans : PacketSpans)
@@ -206,9 +200,9 @@ pub simple_enters : (frame : Frame) (interfaces : List Described) (block : List 
     frame.length b.rest.now spans)
     → Enters frame interfaces block (Some spans) interfaces
 simple_enters frame interfaces block b spans whole least is none found =
-    let passes = (block_passes frame block least (omega (arith, whole)) none).0 in
-    let body = simple_body frame.block_type frame.order (body_in frame block) b.rest.now b.orig (sym is) (body_passes frame block passes) in
-    packet_enters frame interfaces block b.rest.now (parts_of (Block.Simple b)) 4 spans whole least is passes body.0 body.1 found.0 (found.1 frame.order) refl
+    let passes = (block_passes frame block least (omega arith) none).0 in
+    let body = simple_body _ _ _ _ b.orig (sym is) (body_passes frame block passes) in
+    packet_enters frame _ block _ _ 4 spans whole least is passes body.0 body.1 found.0 (found.1 _) refl
 
 -- ---- a block that is refused by itself
 
@@ -225,8 +219,7 @@ body_stays _ order body = (λ i. refl, tt)
 block_stays : (frame : Frame) (block : List ℕ) (fault : Fault) → first_failing (block_checks frame block) ≡ Some fault → (interfaces : List Described)
     → fault_among interfaces fault ≡ fault
 unfolding Stays
-block_stays frame block fault fails =
-    all_failing Stays (block_checks frame block) fault (λ i. refl, body_stays frame.block_type frame.order (body_in frame block)) fails
+block_stays frame block fault fails = grind (arith, all_failing, body_stays)
 
 -- those of its options come after that of how many interfaces there are
 Yields : Fault → Type 0
@@ -234,7 +227,7 @@ Yields fault = (interfaces : List Described) → fault_among interfaces fault �
 
 option_yields : (parts : Parts) (fault : Fault) → first_failing (option_checks parts) ≡ Some fault → Yields fault
 unfolding Yields
-option_yields parts fault fails = all_failing Yields (option_checks parts) fault (all_of_options Yields (λ i. refl) (λ i. refl) parts) fails
+option_yields parts fault fails = all_failing Yields _ fault (all_of_options Yields (λ i. refl) (λ i. refl) parts) fails
 
 after_room : (room : Bool) (rows : List (Bool × Fault)) (fault : Fault) → first_failing rows ≡ Some fault
     → first_failing ((room, TooManyInterfaces) ∷ rows) ≡ Some (if room then fault else TooManyInterfaces)
@@ -243,8 +236,7 @@ after_room false rows fault fails = refl
 
 among_options : (interfaces : List Described) (parts : Parts) (fault : Fault) → first_failing (option_checks parts) ≡ Some fault
     → first_failing (checks_among interfaces parts) ≡ Some (if nat_lt (length interfaces) most_interfaces then fault else TooManyInterfaces)
-among_options interfaces (InterfaceParts link snap order options) fault fails =
-    after_room (nat_lt (length interfaces) most_interfaces) (option_checks (InterfaceParts link snap order options)) fault fails
+among_options interfaces (InterfaceParts link snap order options) fault fails = grind (arith, after_room)
 among_options interfaces parts fault fails = (cc)
 
 pub refused_by_itself : (frame : Frame) (interfaces : List Described) (block : List ℕ) (fault : Fault) → length block ≡ frame.length
@@ -253,9 +245,9 @@ pub refused_by_itself : (frame : Frame) (interfaces : List Described) (block : L
 unfolding Yields
 refused_by_itself frame interfaces block fault whole least fails =
     elim (block_fails frame block fault least (omega arith) fails) [
-      | inl body ↦ inl (body ∙ ap Some (sym (block_stays frame block fault body interfaces)))
+      | inl body ↦ inl (body ∙ ap Some (sym (block_stays frame block fault body _)))
       | inr options ↦ inr (
         options.0,
-        among_options interfaces (parts_in frame block) fault options.1 ∙ ap Some (sym (option_yields (parts_in frame block) fault options.1 interfaces)),
+        among_options _ _ fault options.1 ∙ ap Some (sym (option_yields _ fault options.1 _)),
       )
     ]

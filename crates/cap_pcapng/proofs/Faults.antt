@@ -1,9 +1,9 @@
 -- What is true of the faults of all checks is true of the first that fails; and which faults
 -- options have.
-use Rattle.cap_pcapng.proofs.Common.{◌≡◌, ℕ, zero, suc, Bool, true, false, List, [], ◌∷◌, ◌++◌, length, drop, Some, Result, Ok, Err, cond, subst, ◌==◌, is_some}
+use Rattle.cap_pcapng.proofs.Common.{arith, ◌≡◌, ℕ, zero, suc, Bool, true, false, List, [], ◌∷◌, ◌++◌, Some, Result, Ok, Err, cond, subst}
 use Rattle.cap_pcapng.proofs.Common.{AllByRecursion, first_failing, Fault, BadOption, BadTimeResolution, Order, Parts, InterfaceParts, option_checks}
-use Rattle.cap_pcapng.proofs.Common.{checks_after, first_value, list_checks, name_checks, name_code, offset_checks, offset_code, resolution_checks}
-use Rattle.cap_pcapng.proofs.Common.{resolution_code, CodedValue, ends_at, fits_at, option_at, option_size, padded_length}
+use Rattle.cap_pcapng.proofs.Common.{checks_after, list_checks}
+use Rattle.cap_pcapng.proofs.Common.{CodedValue, fits_at}
 use Rattle.cap_pcapng.specs.OptionList.{options_in, options_within}
 
 -- ---- the faults of some rows
@@ -34,11 +34,7 @@ IsItemOf P (Err fault) = P fault
 
 all_of_option : (P : Fault → Type 0) → P BadOption → P BadTimeResolution → (before : List CodedValue) (option : CodedValue)
     → AreAll P (checks_after before option)
-all_of_option P bad worse before option =
-    by_either (AreAll P) (is_some (first_value option.code before)) [] _ tt
-    (by_either (AreAll P) (option.code == name_code) (name_checks option.value) _ (bad, tt)
-    (by_either (AreAll P) (option.code == resolution_code) (resolution_checks option.value) _ (bad, (worse, tt))
-    (by_either (AreAll P) (option.code == offset_code) (offset_checks option.value) [] (bad, tt) tt)))
+all_of_option P bad worse before option = grind (arith, by_either)
 
 all_of_list : (P : Fault → Type 0) → P BadOption → P BadTimeResolution → (before : List CodedValue) (items : List (Result CodedValue Fault))
     → AllByRecursion (IsItemOf P) items
@@ -46,23 +42,23 @@ all_of_list : (P : Fault → Type 0) → P BadOption → P BadTimeResolution →
 all_of_list P bad worse before [] all = tt
 all_of_list P bad worse before (Err fault ∷ items) all = (all.0, all_of_list P bad worse before items all.1)
 all_of_list P bad worse before (Ok option ∷ items) all =
-    all_append P (checks_after before option) (list_checks (before ++ option ∷ []) items) (all_of_option P bad worse before option)
+    all_append P _ _ (all_of_option P bad worse before option)
     (all_of_list P bad worse (before ++ option ∷ []) items all.1)
 
 items_within : (P : Fault → Type 0) → P BadOption → (most : ℕ) (order : Order) (text : List ℕ) → AllByRecursion (IsItemOf P) (options_within most order text)
 unfolding options_within
 items_within P bad zero order text = tt
 items_within P bad (suc most) order text =
-    by_either (AllByRecursion (IsItemOf P)) (ends_at order text) [] _ tt
-    (by_either (AllByRecursion (IsItemOf P)) (fits_at order text)
-    (Ok (option_at order text) ∷ options_within most order (drop (padded_length (option_size order text)) text)) _
-    (tt, items_within P bad most order (drop (padded_length (option_size order text)) text)) (bad, tt))
+    by_either (AllByRecursion _) _ [] _ tt
+    (by_either (AllByRecursion _) (fits_at order text)
+    _ _
+    (tt, items_within P bad most order _) (bad, tt))
 
 items_in : (P : Fault → Type 0) → P BadOption → (order : Order) (text : List ℕ) → AllByRecursion (IsItemOf P) (options_in order text)
 unfolding options_in
-items_in P bad order text = items_within P bad (length text) order text
+items_in P bad order text = items_within P bad _ order text
 
 -- a refusal of options is of one of two kinds
 pub all_of_options : (P : Fault → Type 0) → P BadOption → P BadTimeResolution → (parts : Parts) → AllByRecursion (λ row. P row.1) (option_checks parts)
-all_of_options P bad worse (InterfaceParts link snap order options) = all_of_list P bad worse [] (options_in order options) (items_in P bad order options)
+all_of_options P bad worse (InterfaceParts link snap order options) = all_of_list P bad worse [] _ (items_in P bad order _)
 all_of_options P bad worse parts = tt

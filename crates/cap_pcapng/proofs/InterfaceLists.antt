@@ -1,10 +1,9 @@
 -- The options of an interface, read one after another.
 use Rattle.cap_pcapng.proofs.Common.{◌≡◌, ℕ, Bool, true, false, List, [], ◌∷◌, ◌++◌, cond, refl, sym, ap, ◌∙◌, eqb-true, Option, Some, None, Result, Ok, ◌<◌}
-use Rattle.cap_pcapng.proofs.Common.{◌≤◌, ◌^◌, ◌-◌, nat_lt, unwrap_or, arith, is_some, if◌then◌else◌, ◌==◌, slice_index, option_map, option_or, met_front}
+use Rattle.cap_pcapng.proofs.Common.{◌^◌, ◌-◌, unwrap_or, arith, is_some, if◌then◌else◌, option_map, option_or, met_front}
 use Rattle.cap_pcapng.proofs.Common.{failing_front, first_failing, Fault, Order, checks_after, first_checks, first_value, fitting_options, list_checks}
-use Rattle.cap_pcapng.proofs.Common.{name_code, offset_code, offset_in_value, resolution_code, units_in_value, CodedValue, microseconds}
+use Rattle.cap_pcapng.proofs.Common.{units_in_value, CodedValue, microseconds}
 use Rattle.std.proofs.{Math.Nat.one-le-pow, lemmas.List.append_assoc}
-use Rattle.std.specs.Borrow.{Bor}
 use Rattle.cap_pcapng.specs.declared.interface.FoundOptions.{FoundOptions}
 use Rattle.cap_pcapng.specs.inside.Interface.{Adds, IsFound, is_found, value_for}
 
@@ -24,7 +23,7 @@ or_later false value x y z same = same
 first_value-push : (code : ℕ) (before : List CodedValue) (o : CodedValue) → first_value code (before ++ o ∷ []) ≡ option_or (first_value code before)
     (value_for code o)
 first_value-push code [] o = refl
-first_value-push code (b ∷ before) o = or_later (b.code == code) b.value _ _ _ (first_value-push code before o)
+first_value-push code (b ∷ before) o = or_later _ _ _ _ _ (first_value-push code before o)
 
 is_some-map : {X Y : Type 0} (f : X → Y) (o : Option X) → is_some (option_map f o) ≡ is_some o
 is_some-map f None = refl
@@ -37,18 +36,7 @@ option_or-map f (Some x) b = refl
 -- one option more
 pub IsFound-more : (order : Order) (before : List CodedValue) (o : CodedValue) (found more : FoundOptions) → IsFound order before found
     → Adds order found o more → IsFound order (before ++ o ∷ []) more
-IsFound-more order before o found more is adds = record {
-  name = adds.name ∙ ap (λ v. option_or v (value_for name_code o)) is.name ∙ sym (first_value-push name_code before o);
-  units =
-      adds.units ∙ ap (λ v. option_or v (option_map units_in_value (value_for resolution_code o))) is.units
-      ∙ option_or-map units_in_value (first_value resolution_code before) (value_for resolution_code o)
-      ∙ ap (option_map units_in_value) (sym (first_value-push resolution_code before o));
-  offset =
-      adds.offset ∙ ap (λ v. option_or v (option_map (offset_in_value order) (value_for offset_code o))) is.offset
-      ∙ option_or-map (offset_in_value order) (first_value offset_code before) (value_for offset_code o)
-      ∙ ap (option_map (offset_in_value order)) (sym (first_value-push offset_code before o));
-  short = adds.short is.short;
-}
+IsFound-more order before o found more is adds = grind (arith, first_value-push, option_or-map)
 
 -- a list of checks that is empty unless a code is one of three, and then where one of its code was
 -- found
@@ -65,15 +53,7 @@ by_code false false false false name units offset a b c n u f = refl
 -- an option after another one with its code isn't checked
 pub checks_after-found : (order : Order) (before : List CodedValue) (o : CodedValue) (found : FoundOptions) → IsFound order before found
     → checks_after before o ≡ (if is_found found o.code then [] else first_checks o)
-checks_after-found order before o found is =
-    by_code (o.code == name_code) (o.code == resolution_code) (o.code == offset_code) (is_some (first_value o.code before))
-    (is_some found.name) (is_some found.units) (is_some found.offset) _ _ _
-    (λ t. ap (λ code. is_some (first_value code before)) (eqb-true o.code name_code t)
-    ∙ sym (sym (is_some-map (λ (x : Bor (List ℕ)). x.now) found.name) ∙ ap is_some is.name))
-    (λ t. ap (λ code. is_some (first_value code before)) (eqb-true o.code resolution_code t)
-    ∙ sym (ap is_some is.units ∙ is_some-map units_in_value (first_value resolution_code before)))
-    (λ t. ap (λ code. is_some (first_value code before)) (eqb-true o.code offset_code t)
-    ∙ sym (ap is_some is.offset ∙ is_some-map (offset_in_value order) (first_value offset_code before)))
+checks_after-found order before o found is = grind (arith, by_code, eqb-true, is_some-map)
 
 -- ---- one item of the iterator
 
@@ -86,9 +66,9 @@ HasRead-more order all left rest o found more read is adds passes = record {
   before = read.before ++ o ∷ [];
   checks =
       read.checks ∙ ap (λ items. first_failing (list_checks read.before items)) is
-      ∙ met_front (checks_after read.before o) _ (ap first_failing (checks_after-found order read.before o found read.is_found) ∙ passes);
-  joined = read.joined ∙ ap (λ items. read.before ++ fitting_options items) is ∙ sym (append_assoc read.before (o ∷ []) (fitting_options rest));
-  is_found = IsFound-more order read.before o found more read.is_found adds;
+      ∙ met_front (checks_after _ o) _ (ap first_failing (checks_after-found order _ o found read.is_found) ∙ passes);
+  joined = read.joined ∙ ap (λ items. read.before ++ fitting_options items) is ∙ sym (append_assoc _ (o ∷ []) _);
+  is_found = IsFound-more order _ o found more read.is_found adds;
 }
 
 pub HasRead-refused : (order : Order) (all left rest : List (Result CodedValue Fault)) (o : CodedValue) (found : FoundOptions) (fault : Fault)
@@ -97,14 +77,14 @@ pub HasRead-refused : (order : Order) (all left rest : List (Result CodedValue F
     → first_failing (list_checks [] all) ≡ Some fault
 HasRead-refused order all left rest o found fault read is refused =
     read.checks ∙ ap (λ items. first_failing (list_checks read.before items)) is
-    ∙ failing_front (checks_after read.before o) _ fault (ap first_failing (checks_after-found order read.before o found read.is_found) ∙ refused)
+    ∙ failing_front (checks_after _ o) _ fault (ap first_failing (checks_after-found order _ o found read.is_found) ∙ refused)
 
 -- ---- a second has some ticks
 
 some_by : (test : Bool) (n m : ℕ) → 0 < (if test then 10 ^ n else 2 ^ m)
-some_by true n m = let some : 1 ≤ 10 ^ n = one-le-pow n 10 (omega arith) in omega arith
-some_by false n m = let some : 1 ≤ 2 ^ m = one-le-pow m 2 (omega arith) in omega arith
+some_by true n m = grind (arith, one-le-pow)
+some_by false n m = grind (arith, one-le-pow)
 
 pub units-some : (value : Option (List ℕ)) → 0 < unwrap_or (option_map units_in_value value) microseconds
 units-some None = omega arith
-units-some (Some value) = some_by (nat_lt (slice_index value 0) 128) (slice_index value 0) (slice_index value 0 - 128)
+units-some (Some value) = some_by _ _ _

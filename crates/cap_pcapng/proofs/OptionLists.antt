@@ -1,7 +1,7 @@
 -- The first option of a list, and those after it.
-use Rattle.cap_pcapng.proofs.Common.{◌≡◌, ℕ, zero, suc, ◌+◌, ◌<◌, ◌≤◌, Bool, true, false, List, [], ◌∷◌, ◌||◌, cond, length, drop, refl, sym, ap, ap₂, ◌∙◌, ◌-◌}
-use Rattle.cap_pcapng.proofs.Common.{take, arith, lit<, ltb-false, lt-ltb, le-ltb, le-leb, eq-eqb, ne_eqb, length-drop, min, ◌≢◌, Result, Ok, Err, IsErr}
-use Rattle.cap_pcapng.proofs.Common.{lt-leb, drop_min, take_rest, nat_lt, u16_in, Fault, BadOption, Order, fitting_options, CodedValue, item_of, option_at}
+use Rattle.cap_pcapng.proofs.Common.{◌≡◌, ℕ, zero, suc, ◌+◌, ◌<◌, ◌≤◌, Bool, true, false, List, [], ◌∷◌, ◌||◌, cond, length, drop, refl, ap, ◌∙◌, ◌-◌}
+use Rattle.cap_pcapng.proofs.Common.{take, arith, lit<, ltb-false, lt-ltb, le-ltb, eq-eqb, ne_eqb, length-drop, min, ◌≢◌, Result, Ok, Err, IsErr}
+use Rattle.cap_pcapng.proofs.Common.{lt-leb, drop_min, take_rest, u16_in, Fault, BadOption, Order, fitting_options, CodedValue, item_of, option_at}
 use Rattle.cap_pcapng.proofs.Common.{option_size, ends_at, fits_at, padded_length}
 use Rattle.cap_pcapng.specs.{OptionList.options_in, OptionList.options_within, declared.options.BlockOption.BlockOption}
 
@@ -11,7 +11,7 @@ false_first true b is = is
 
 -- an option has four bytes at least
 pub room : (order : Order) (text : List ℕ) → ends_at order text ≡ false → 4 ≤ length text
-room order text more = ltb-false (length text) 4 (false_first (nat_lt (length text) 4) _ more)
+room order text more = ltb-false _ 4 (false_first _ _ more)
 
 pub options_in-end : (order : Order) (text : List ℕ) → ends_at order text ≡ true → options_in order text ≡ []
 unfolding options_in options_within
@@ -36,16 +36,14 @@ enough zero (suc m) order (b ∷ bytes) upper_bound less = absurd (omega arith)
 enough (suc n) zero order [] upper_bound less = refl
 enough (suc n) zero order (b ∷ bytes) upper_bound less = absurd (omega arith)
 enough (suc n) (suc m) order text upper_bound less =
-    same_by (ends_at order text) (fits_at order text) _ _ _ _
+    same_by _ (fits_at order text) _ _ _ _
     (λ more. let shorter = after_shorter order text (room order text more) in enough n m order _ (omega arith) (omega arith))
 
 pub options_in-more : (order : Order) (text : List ℕ) → ends_at order text ≡ false → fits_at order text ≡ true
     → options_in order text ≡ Ok (option_at order text) ∷ options_in order (drop (padded_length (option_size order text)) text)
 unfolding options_in options_within
 options_in-more order [] more fits = (cc)
-options_in-more order (b ∷ bytes) more fits =
-    let shorter = after_shorter order (b ∷ bytes) (room order (b ∷ bytes) more) in
-    rw (more, fits) (ap (λ t. Ok (option_at order (b ∷ bytes)) ∷ t) (enough (length bytes) _ order _ (omega arith) (omega arith)))
+options_in-more order (b ∷ bytes) more fits = grind (arith, after_shorter, room, enough)
 
 drop_least : (n : ℕ) (text : List ℕ) → drop (min (length text) n) text ≡ drop n text
 drop_least n text = ap (λ k. drop k text) (omega arith) ∙ drop_min n text
@@ -57,44 +55,33 @@ or_true true b is = refl
 or_true false b is = is
 
 pub options_in-short : (order : Order) (text : List ℕ) → length text < 4 → options_in order text ≡ []
-options_in-short order text short = options_in-end order text (rw (lt-ltb (length text) 4 short) refl)
+options_in-short order text short = simp (options_in-end, lt-ltb)
 
 pub options_in-code_end : (order : Order) (text : List ℕ) → u16_in order text 0 ≡ 0 → options_in order text ≡ []
-options_in-code_end order text code =
-    options_in-end order text (or_true (nat_lt (length text) 4) _ (eq-eqb (u16_in order text 0) 0 code))
+options_in-code_end order text code = simp (options_in-end, or_true, eq-eqb)
 
 pub goes_on : (order : Order) (text : List ℕ) → 4 ≤ length text → u16_in order text 0 ≢ 0 → ends_at order text ≡ false
-goes_on order text there code = rw (le-ltb (length text) 4 there, ne_eqb (u16_in order text 0) 0 code) refl
+goes_on order text there code = rw (le-ltb, ne_eqb) refl
 
 pub options_in-past : (order : Order) (text : List ℕ) → 4 ≤ length text → u16_in order text 0 ≢ 0 → length text < option_size order text
     → options_in order text ≡ Err BadOption ∷ []
 unfolding options_in options_within
 options_in-past order [] there code past = absurd (omega arith)
-options_in-past order (b ∷ bytes) there code past =
-    rw (goes_on order (b ∷ bytes) there code, lt-leb (option_size order (b ∷ bytes)) (length (b ∷ bytes)) past) refl
+options_in-past order (b ∷ bytes) there code past = rw (goes_on, lt-leb) refl
 
 -- as the code finds the code, the value and the rest
 pub options_in-next : (order : Order) (text : List ℕ) (code len following : ℕ) → code ≡ u16_in order text 0 → len ≡ u16_in order text 2
     → 4 ≤ length text → code ≢ 0 → 4 + len ≤ length text → following ≡ min (length text) (padded_length (4 + len))
     → options_in order text ≡ Ok (record { code = code; value = take (4 + len - 4) (drop 4 text) })
     ∷ options_in order (take (length text - following) (drop following text))
-options_in-next order text code len following code_is len_is there more within is =
-    let size : 4 + len - 4 ≡ u16_in order text 2 = omega arith in
-    let rest : drop (padded_length (option_size order text)) text ≡ take (length text - following) (drop following text) =
-    sym (drop_least (padded_length (option_size order text)) text)
-    ∙ ap (λ n. drop n text) (sym (is ∙ ap (λ n. min (length text) (padded_length (4 + n))) len_is))
-    ∙ sym (take_rest text following) in
-    let value : CodedValue = record { code = code; value = take (4 + len - 4) (drop 4 text) } in
-    let same : option_at order text ≡ value = ap₂ (λ (c n : ℕ). record { code = c; value = take n (drop 4 text) }) (sym code_is) (sym size) in
-    options_in-more order text (goes_on order text there (λ none. more (code_is ∙ none))) (le-leb (option_size order text) (length text) (omega arith))
-    ∙ ap₂ (λ (o : CodedValue) (t : List ℕ). Ok o ∷ options_in order t) same rest
+options_in-next order text code len following code_is len_is there more within is = grind (arith, drop_least, take_rest, options_in-more, goes_on)
 
 pub options_in-none : (order : Order) → options_in order [] ≡ []
 options_in-none order = options_in-short order [] (lit< tt)
 
 -- one item fewer remains
 pub shorter_by : {X : Type 0} (x : X) (all rest : List X) → all ≡ x ∷ rest → length rest < length all
-shorter_by x all rest is = let e : length all ≡ length rest + 1 = ap length is ∙ omega arith in omega arith
+shorter_by x all rest is = grind arith
 
 -- ---- the end at a value that doesn't fit
 
@@ -107,10 +94,10 @@ misfit_by false false o later rest fault is = (cc)
 misfit-last : (order : Order) (text : List ℕ) (rest : List (Result CodedValue Fault)) (fault : Fault) → options_in order text ≡ Err fault ∷ rest → rest ≡ []
 unfolding options_in options_within
 misfit-last order [] rest fault is = (cc)
-misfit-last order (b ∷ bytes) rest fault is = misfit_by (ends_at order (b ∷ bytes)) (fits_at order (b ∷ bytes)) _ _ rest fault is
+misfit-last order (b ∷ bytes) rest fault is = misfit_by _ _ _ _ rest fault is
 
 -- no option is given from a value on that doesn't fit
 pub misfit-fitting_options : (order : Order) (text : List ℕ) (rest : List (Result CodedValue Fault)) (item : Result BlockOption Fault) → IsErr item
     → options_in order text ≡ item_of item ∷ rest → fitting_options (options_in order text) ≡ []
 misfit-fitting_options order text rest (Ok o) misfit is = (cc)
-misfit-fitting_options order text rest (Err fault) misfit is = ap fitting_options is ∙ ap fitting_options (misfit-last order text rest fault is)
+misfit-fitting_options order text rest (Err fault) misfit is = grind (arith, misfit-last)

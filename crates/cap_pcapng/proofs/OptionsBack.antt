@@ -56,11 +56,11 @@ options_back (b ∷ bytes) short =
 
 checks_back : (name : List ℕ) → length name ≤ 255 → first_failing (list_checks [] (items_back name)) ≡ None
 checks_back [] short = refl
-checks_back (b ∷ bytes) short = rw (le-leb (length (b ∷ bytes)) 255 short) refl
+checks_back (b ∷ bytes) short = rw le-leb refl
 
 pub options_pass : (name : List ℕ) → length name ≤ 255
     → first_failing (list_checks [] (options_in Little (name_text name ++ resolution_text ++ end_text))) ≡ None
-options_pass name short = ap (λ items. first_failing (list_checks [] items)) (options_back name short) ∙ checks_back name short
+options_pass name short = simp (options_back, checks_back)
 
 described_back : (link snap : ℕ) (name : List ℕ) → described_by link snap Little (fitting_options (items_back name)) ≡ written_interface link snap name
 described_back link snap [] = refl
@@ -68,12 +68,11 @@ described_back link snap (b ∷ bytes) = refl
 
 pub options_describe : (link snap : ℕ) (name : List ℕ) → length name ≤ 255
     → described_in link snap Little (name_text name ++ resolution_text ++ end_text) ≡ written_interface link snap name
-options_describe link snap name short =
-    ap (λ items. described_by link snap Little (fitting_options items)) (options_back name short) ∙ described_back link snap name
+options_describe link snap name short = simp (options_back, described_back)
 
 -- a comment
 pub comment_back : (comment : List ℕ) → length comment ≤ 65535 → comment_in Little (comment_text comment) ≡ comment
-comment_back [] short = ap (λ items. unwrap_or (first_value comment_code (fitting_options items)) []) (options_in-none Little)
+comment_back [] short = simp options_in-none
 comment_back (b ∷ bytes) short =
     ap (λ items. unwrap_or (first_value comment_code (fitting_options items)) [])
     (options_in-option comment_code (b ∷ bytes) end_text (omega arith) (λ is. absurd (omega arith)) (omega arith))

@@ -1,10 +1,10 @@
 -- Blocks that were written read back.
-use Rattle.cap_pcapng.proofs.Common.{◌≡◌, ℕ, ◌+◌, ◌-◌, ◌*◌, ◌/◌, ◌%◌, ◌^◌, ◌<◌, ◌≤◌, false, List, [], ◌∷◌, ◌++◌, length, take, drop, replicate, refl, sym, ap}
+use Rattle.cap_pcapng.proofs.Common.{◌≡◌, ℕ, ◌+◌, ◌-◌, ◌*◌, ◌/◌, ◌%◌, ◌^◌, ◌<◌, ◌≤◌, false, List, [], ◌∷◌, ◌++◌, length, take, drop, refl, sym, ap}
 use Rattle.cap_pcapng.proofs.Common.{ap₂, ◌∙◌, arith, append_assoc, length-append, Some, None, le-leb, leb-true, lt-ltb, eq-eqb, lit≤, pos, ◌==◌, slice_get}
 use Rattle.cap_pcapng.proofs.Common.{option_to_list, length-replicate, take_at, drop_at, little_bytes, all_met, first_failing, u16_in, u32_in, Little}
 use Rattle.cap_pcapng.proofs.Common.{EnhancedParts, InterfaceParts, Parts, block_checks, body_checks, body_in, parts_in, parts_in_body, comment_in}
 use Rattle.cap_pcapng.proofs.Common.{frame_checks, frame_in, most_block, section_type, type_of_block, Captured, Described, most_interfaces, InterfaceBack}
-use Rattle.cap_pcapng.proofs.Common.{PacketBack, SectionBack, ReadsAs, written_interface, written_section, padded_length, time_by, representable_time}
+use Rattle.cap_pcapng.proofs.Common.{PacketBack, SectionBack, ReadsAs, written_interface, written_section, padded_length, representable_time}
 use Rattle.cap_pcapng.proofs.Common.{checks_among, packet_by, section_by, block_size, block_text, comment_text, end_text, block_fit_checks, interface_body}
 use Rattle.cap_pcapng.proofs.Common.{name_text, packet_body, padded_text, resolution_text, Frame}
 use Rattle.cap_pcapng.proofs.Numerals.{number_at}
@@ -17,11 +17,7 @@ use Rattle.cap_octet.specs.{Date.NANOS_PER_SECOND, Number.number_in}
 
 pub section_back : SectionBack
 unfolding number_in
-section_back before = record {
-  is_block = record { passes = refl; whole = refl };
-  declares = refl;
-  holds = refl;
-}
+section_back before = grind arith
 
 -- ---- a block of any type
 
@@ -41,8 +37,7 @@ pub block_written : (type : ℕ) (body : List ℕ) → type < 2 ^ 32 → (type =
 block_written type body upper_bound other whole most =
     let size : ℕ = 12 + length body in
     let text : List ℕ = block_text type body in
-    let type_is : u32_in Little text 0 ≡ type =
-    number_at 4 text 0 type (little_bytes 4 size ++ body ++ little_bytes 4 size) refl upper_bound in
+    let type_is : u32_in Little text 0 ≡ type = number_at 4 text 0 type (little_bytes 4 size ++ body ++ little_bytes 4 size) refl upper_bound in
     let size_is : u32_in Little text 4 ≡ size = number_at 4 text 4 size (body ++ little_bytes 4 size) refl (omega arith) in
     let no_section : (u32_in Little text 0 == section_type) ≡ false = ap (λ n. n == section_type) type_is ∙ other in
     record {
@@ -104,44 +99,31 @@ packet_parts number p number_fits time_fits orig_fits upper_bound =
 
 -- nanoseconds are the time itself
 nanoseconds_back : (time : ℕ) → time < 2 ^ 63 → representable_time time NANOS_PER_SECOND (pos 0) ≡ Some time
-nanoseconds_back time upper_bound =
-    let same : time * NANOS_PER_SECOND / NANOS_PER_SECOND + 0 ≡ time = omega arith in
-    ap (λ n. time_by (pos n)) same ∙ (rw (lt-ltb time (2 ^ 63) upper_bound) refl)
+nanoseconds_back time upper_bound = grind (arith, lt-ltb)
 
 padded_size : (bytes : List ℕ) → length (padded_text bytes) ≡ padded_length (length bytes)
 padded_size bytes = simp (length-append, length-replicate) (omega arith)
 
 padded_fits : (bytes more : List ℕ) → padded_length (length bytes) ≤ length (padded_text bytes ++ more)
-padded_fits bytes more = omega (arith, length-append (padded_text bytes) more, padded_size bytes)
+padded_fits bytes more = grind (arith, length-append, padded_size)
 
 packet_among : (interfaces : List Described) (number : ℕ) (p : Captured) → slice_get interfaces number ≡ Some (written_interface p.link p.snap p.name)
     → p.time < 2 ^ 63 → first_failing
     (checks_among interfaces (EnhancedParts number p.time (length p.bytes) p.orig Little (padded_text p.bytes ++ comment_text p.comment))) ≡ None
-packet_among interfaces number p known upper_bound =
-    rw (
-      known,
-      le-leb (padded_length (length p.bytes)) (length (padded_text p.bytes ++ comment_text p.comment))
-          (padded_fits p.bytes (comment_text p.comment)),
-      nanoseconds_back p.time upper_bound,
-    ) refl
+packet_among interfaces number p known upper_bound = grind (arith, le-leb, padded_fits, nanoseconds_back)
 
 -- the data and the comment of a body
 data_back : (bytes more : List ℕ) → take (length bytes) (padded_text bytes ++ more) ≡ bytes
-data_back bytes more =
-    let zeros : List ℕ = replicate (padded_length (length bytes) - length bytes) 0 in
-    ap (λ t. take (length bytes) t) (append_assoc bytes zeros more) ∙ take_at bytes (zeros ++ more) (length bytes) refl
+data_back bytes more = simp (append_assoc, take_at)
 
 comment_after : (bytes comment : List ℕ) → length comment ≤ 65535
     → comment_in Little (drop (padded_length (length bytes)) (padded_text bytes ++ comment_text comment)) ≡ comment
-comment_after bytes comment short =
-    ap (λ t. comment_in Little t) (drop_at (padded_text bytes) (comment_text comment) (padded_length (length bytes)) (padded_size bytes))
-    ∙ comment_back comment short
+comment_after bytes comment short = simp (drop_at, padded_size, comment_back)
 
 packet_held : (interfaces : List Described) (number : ℕ) (p : Captured) → slice_get interfaces number ≡ Some (written_interface p.link p.snap p.name)
     → p.time < 2 ^ 63 → length p.comment ≤ 65535
     → packet_by interfaces (EnhancedParts number p.time (length p.bytes) p.orig Little (padded_text p.bytes ++ comment_text p.comment)) ≡ Some p
-packet_held interfaces number p known upper_bound short =
-    rw (known, nanoseconds_back p.time upper_bound, data_back p.bytes (comment_text p.comment), comment_after p.bytes p.comment short) refl
+packet_held interfaces number p known upper_bound short = rw (known, nanoseconds_back, data_back, comment_after) refl
 
 pub packet_back : PacketBack
 packet_back interfaces number p known number_fits time_fits orig_fits short fits =

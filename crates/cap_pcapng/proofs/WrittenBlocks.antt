@@ -1,27 +1,24 @@
 -- A block that is written is its parts, joined.
 use Rattle.cap_pcapng.proofs.Common.{◌≡◌, ℕ, ◌+◌, ◌-◌, ◌<◌, ◌≤◌, List, [], ◌∷◌, ◌++◌, length, take, drop, replicate, refl, sym, ap, ap₂, ◌∙◌, arith}
-use Rattle.cap_pcapng.proofs.Common.{append_assoc, length-append, ne_eqb, ◌/◌, ◌%◌, ◌^◌, ◌==◌, false, true, false≢true, append-nil, drop_at, length-replicate}
+use Rattle.cap_pcapng.proofs.Common.{append_assoc, length-append, ne_eqb, ◌%◌, ◌==◌, false, true, false≢true, append-nil, drop_at, length-replicate}
 use Rattle.cap_pcapng.proofs.Common.{replicate-append-replicate, take_all, little_bytes, Captured, padded_length, comment_text, end_text, interface_body}
-use Rattle.cap_pcapng.proofs.Common.{interface_header, interface_text, name_text, packet_body, packet_header, packet_block, padded_text, resolution_text}
+use Rattle.cap_pcapng.proofs.Common.{interface_header, interface_text, name_text, packet_body, packet_header, packet_block, resolution_text}
 
 -- the last zeros before other bytes, and these
 block_end : (k zeros n : ℕ) (more end : List ℕ) → zeros ≤ k → end ≡ replicate k 0 ++ more → n ≡ k + length more
     → take (n - (k - zeros)) (drop (k - zeros) end) ≡ replicate zeros 0 ++ more
 block_end k zeros n more end upper_bound is size =
     let split : k ≡ k - zeros + zeros = omega arith in
-    let parts : end ≡ replicate (k - zeros) 0 ++ (replicate zeros 0 ++ more) =
-    is ∙ ap (λ (m : ℕ). replicate m 0 ++ more) split
-    ∙ ap (λ (l : List ℕ). l ++ more) (sym (replicate-append-replicate (k - zeros) zeros 0))
-    ∙ append_assoc (replicate (k - zeros) 0) (replicate zeros 0) more in
-    ap (λ (l : List ℕ). take (n - (k - zeros)) (drop (k - zeros) l)) parts
-    ∙ ap (λ (l : List ℕ). take (n - (k - zeros)) l) (drop_at (replicate (k - zeros) 0) (replicate zeros 0 ++ more) (k - zeros) (length-replicate (k - zeros) 0))
-    ∙ take_all (n - (k - zeros)) (replicate zeros 0 ++ more) (simp (length-append, length-replicate) (omega arith))
+    let parts =
+    is ∙ ap (λ m. replicate m 0 ++ more) split
+    ∙ ap (λ l. l ++ more) (sym (replicate-append-replicate _ zeros 0))
+    ∙ append_assoc _ _ more in
+    ap (λ l. take (n - (k - zeros)) (drop (k - zeros) l)) parts
+    ∙ ap (λ l. take (n - (k - zeros)) l) (drop_at _ _ (k - zeros) (length-replicate _ 0))
+    ∙ take_all _ _ (simp (length-append, length-replicate) (omega arith))
 
 pub length-packet_body : (number : ℕ) (p : Captured) → length (packet_body number p) ≡ 20 + padded_length (length p.bytes) + length (comment_text p.comment)
-length-packet_body number p =
-    length-append (little_bytes 4 number ++ little_bytes 4 (p.time / 2 ^ 32) ++ little_bytes 4 (p.time % 2 ^ 32) ++ little_bytes 4 (length p.bytes)
-    ++ little_bytes 4 p.orig ++ padded_text p.bytes) (comment_text p.comment)
-    ∙ ap (λ (n : ℕ). n + length (comment_text p.comment)) (simp (length-append, length-replicate) (omega arith))
+length-packet_body number p = grind (arith, length-append, length-replicate)
 
 -- the length of a comment with the end of the options is a multiple of four
 pub length-comment_text : (comment : List ℕ) → (length comment == 0) ≡ false → length (comment_text comment) ≡ 8 + padded_length (length comment)
@@ -30,17 +27,15 @@ length-comment_text (b ∷ bytes) some = simp (length-append, length-replicate) 
 
 pub comment_text-whole : (comment : List ℕ) → length (comment_text comment) % 4 ≡ 0
 comment_text-whole [] = refl
-comment_text-whole (b ∷ bytes) = let size : length (comment_text (b ∷ bytes)) ≡ 8 + padded_length (length (b ∷ bytes)) =
-    length-comment_text (b ∷ bytes) (ne_eqb (length (b ∷ bytes)) 0 (λ is. absurd (omega arith))) in omega arith
+comment_text-whole (b ∷ bytes) = let size =
+    length-comment_text (b ∷ bytes) (ne_eqb _ 0 (λ is. absurd (omega arith))) in omega arith
 
 -- ---- what is after a packet's data: padding and a comment
 
 pub plain_after : (padding : ℕ) (bytes comment : List ℕ) → (length comment == 0) ≡ true → length bytes + padding ≡ padded_length (length bytes)
     → comment ++ replicate padding 0 ≡ replicate (padded_length (length bytes) - length bytes) 0 ++ comment_text comment
-plain_after padding bytes [] none padding_is =
-    let zeros : padding ≡ padded_length (length bytes) - length bytes = omega arith in
-    ap (λ (n : ℕ). replicate n 0) zeros ∙ sym (append-nil (replicate (padded_length (length bytes) - length bytes) 0))
-plain_after padding bytes (b ∷ more) none padding_is = absurd (false≢true (sym (ne_eqb (length (b ∷ more)) 0 (λ is. absurd (omega arith))) ∙ none))
+plain_after padding bytes [] none padding_is = grind (arith, append-nil)
+plain_after padding bytes (b ∷ more) none padding_is = grind (arith, ne_eqb)
 
 commented : (zeros head comment more end : List ℕ) → (zeros ++ head) ++ (comment ++ (more ++ end)) ≡ zeros ++ (head ++ (comment ++ more) ++ end)
 commented zeros head comment more end = simp append_assoc
@@ -52,14 +47,14 @@ pub comment_after : (padding following : ℕ) (bytes comment option : List ℕ) 
     ≡ replicate (padded_length (length bytes) - length bytes) 0 ++ comment_text comment
 comment_after padding following bytes [] option some upper_bound padding_is after_is option_is = absurd (false≢true (sym some))
 comment_after padding following bytes (b ∷ rest) option some upper_bound padding_is after_is option_is =
-    let comment : List ℕ = b ∷ rest in
-    let head : List ℕ = little_bytes 2 1 ++ little_bytes 2 (length comment) in
+    let comment = b ∷ rest in
+    let head = little_bytes 2 1 ++ little_bytes 2 _ in
     let zeros : padding ≡ padded_length (length bytes) - length bytes = omega arith in
     let more : following ≡ padded_length (length comment) - length comment = omega arith in
-    ap₂ (λ (o z : List ℕ). o ++ (comment ++ z)) (block_end 3 padding 7 head option (omega arith) option_is refl)
-    (sym (replicate-append-replicate following 4 0))
-    ∙ commented (replicate padding 0) head comment (replicate following 0) end_text
-    ∙ ap₂ (λ (n m : ℕ). replicate n 0 ++ (head ++ (comment ++ replicate m 0) ++ end_text)) zeros more
+    ap₂ (λ o z. o ++ (comment ++ z)) (block_end 3 _ 7 head option (omega arith) option_is refl)
+    (sym (replicate-append-replicate _ 4 0))
+    ∙ commented _ head comment _ _
+    ∙ ap₂ (λ n m. replicate n 0 ++ (head ++ (comment ++ replicate m 0) ++ end_text)) zeros more
 
 pieces : (bytes option comment zeros size : List ℕ)
     → bytes ++ (option ++ (comment ++ ((zeros ++ size) ++ []))) ≡ bytes ++ (option ++ (comment ++ zeros)) ++ size
@@ -72,21 +67,21 @@ pub packet_joined : (number zeros : ℕ) (p : Captured) (head option end : List 
     → end ≡ replicate 7 0 ++ little_bytes 4 (32 + length p.bytes + length option + length p.comment + zeros)
     → head ++ (p.bytes ++ (option ++ (p.comment ++ (take (11 - (7 - zeros)) (drop (7 - zeros) end) ++ [])))) ≡ packet_block number p
 packet_joined number zeros p head option end upper_bound following head_is end_is =
-    let size : ℕ = 32 + length p.bytes + length option + length p.comment + zeros in
-    let padding : List ℕ = replicate (padded_length (length p.bytes) - length p.bytes) 0 in
+    let size : ℕ = 32 + length _ + length option + length p.comment + zeros in
+    let padding : List ℕ = replicate _ 0 in
     let sizes = simp (length-append, length-replicate) at (ap length following) in
-    let whole : size ≡ 12 + length (packet_body number p) = omega (arith, sizes, length-packet_body number p) in
-    ap₂ (λ (h t : List ℕ). h ++ (p.bytes ++ (option ++ (p.comment ++ (t ++ []))))) head_is
+    let whole : size ≡ 12 + length (packet_body number p) = omega (arith, length-packet_body number p) in
+    ap₂ (λ h t. h ++ (p.bytes ++ (option ++ (p.comment ++ (t ++ []))))) head_is
     (block_end 7 zeros 11 (little_bytes 4 size) end upper_bound end_is refl)
-    ∙ ap (λ (t : List ℕ). packet_header size number p ++ t)
-    (pieces p.bytes option p.comment (replicate zeros 0) (little_bytes 4 size)
-    ∙ ap (λ (t : List ℕ). p.bytes ++ t ++ little_bytes 4 size) following
-    ∙ ap (λ (t : List ℕ). t ++ little_bytes 4 size) (sym (append_assoc p.bytes padding (comment_text p.comment))))
+    ∙ ap (λ t. packet_header size number p ++ t)
+    (pieces p.bytes option p.comment _ _
+    ∙ ap (λ t. p.bytes ++ t ++ little_bytes 4 size) following
+    ∙ ap (λ t. t ++ little_bytes 4 size) (sym (append_assoc p.bytes padding (comment_text p.comment))))
     ∙ ap (λ (s : ℕ). little_bytes 4 6 ++ little_bytes 4 s ++ packet_body number p ++ little_bytes 4 s) whole
 
 empty : (bytes : List ℕ) → (length bytes == 0) ≡ true → bytes ≡ []
 empty [] none = refl
-empty (b ∷ bytes) none = absurd (false≢true (sym (ne_eqb (length (b ∷ bytes)) 0 (λ is. absurd (omega arith))) ∙ none))
+empty (b ∷ bytes) none = grind (arith, ne_eqb)
 
 -- the block of a packet without a comment
 pub plain_joined : (number zeros : ℕ) (p : Captured) (head end : List ℕ) → (length p.comment == 0) ≡ true → zeros < 4 → length p.bytes + zeros ≡
@@ -95,11 +90,11 @@ pub plain_joined : (number zeros : ℕ) (p : Captured) (head end : List ℕ) →
     → end ≡ replicate 7 0 ++ little_bytes 4 (32 + length p.bytes + zeros)
     → head ++ (p.bytes ++ (take (11 - (7 - zeros)) (drop (7 - zeros) end) ++ [])) ≡ packet_block number p
 plain_joined number zeros p head end none upper_bound padding_is head_is end_is =
-    let comment_is : p.comment ≡ [] = empty p.comment none in
+    let comment_is = empty _ none in
     let size : 32 + length p.bytes + zeros ≡ 32 + length p.bytes + 0 + length p.comment + zeros = omega (arith, ap length comment_is) in
-    ap (λ (c : List ℕ). head ++ (p.bytes ++ (c ++ (take (11 - (7 - zeros)) (drop (7 - zeros) end) ++ [])))) (sym comment_is)
-    ∙ packet_joined number zeros p head [] end (omega arith) (plain_after zeros p.bytes p.comment none padding_is)
-    (head_is ∙ ap (λ (s : ℕ). packet_header s number p) size) (end_is ∙ ap (λ (s : ℕ). replicate 7 0 ++ little_bytes 4 s) size)
+    ap (λ c. head ++ (p.bytes ++ (c ++ (take (11 - (7 - zeros)) (drop (7 - zeros) end) ++ [])))) (sym comment_is)
+    ∙ packet_joined number zeros p head [] end (omega arith) (plain_after zeros _ _ none padding_is)
+    (head_is ∙ ap (λ s. packet_header s number p) size) (end_is ∙ ap (λ s. replicate 7 0 ++ little_bytes 4 s) size)
 
 -- ---- an interface
 
@@ -108,16 +103,14 @@ length-interface_body link snap b bytes = simp (length-append, length-replicate)
 
 pub unnamed : (padding : ℕ) (name : List ℕ) → (length name == 0) ≡ true → length name + padding ≡ padded_length (length name) → name
     ++ replicate padding 0 ≡ name_text name
-unnamed padding [] none padding_is = let zero_is : padding ≡ 0 = omega arith in ap (λ (n : ℕ). replicate n 0) zero_is
-unnamed padding (b ∷ bytes) none padding_is = absurd (false≢true (sym (ne_eqb (length (b ∷ bytes)) 0 (λ is. absurd (omega arith))) ∙ none))
+unnamed padding [] none padding_is = grind arith
+unnamed padding (b ∷ bytes) none padding_is = grind (arith, ne_eqb)
 
 pub named : (padding : ℕ) (name option : List ℕ) → (length name == 0) ≡ false → length name + padding ≡ padded_length (length name)
     → option ≡ replicate 3 0 ++ (little_bytes 2 2 ++ little_bytes 2 (length name))
     → take (7 - 3) (drop 3 option) ++ (name ++ replicate padding 0) ≡ name_text name
 named padding [] option some padding_is option_is = absurd (false≢true (sym some))
-named padding (b ∷ bytes) option some padding_is option_is =
-    let zeros : padding ≡ padded_length (length (b ∷ bytes)) - length (b ∷ bytes) = omega arith in
-    ap₂ (λ (o : List ℕ) (n : ℕ). o ++ ((b ∷ bytes) ++ replicate n 0)) (block_end 3 0 7 _ option (omega arith) option_is refl) zeros
+named padding (b ∷ bytes) option some padding_is option_is = grind (arith, block_end)
 
 regrouped : (option name zeros r e s : List ℕ)
     → option ++ (name ++ ((zeros ++ (r ++ e ++ s)) ++ [])) ≡ (option ++ (name ++ zeros)) ++ r ++ e ++ s
@@ -129,11 +122,11 @@ pub interface_joined : (link snap padding : ℕ) (name head option end : List �
     → end ≡ replicate 3 0 ++ (resolution_text ++ end_text ++ little_bytes 4 (32 + length option + length name + padding))
     → head ++ (option ++ (name ++ (take (19 - (3 - padding)) (drop (3 - padding) end) ++ []))) ≡ interface_text link snap name
 interface_joined link snap padding name head option end upper_bound name_is head_is end_is =
-    let size : ℕ = 32 + length option + length name + padding in
+    let size = 32 + length option + length name + padding in
     let sizes = simp (length-append, length-replicate) at (ap length name_is) in
-    let body : length (interface_body link snap name) ≡ length (name_text name) + 20 = simp (length-append) (omega arith) in
-    let whole : size ≡ 12 + length (interface_body link snap name) = omega (arith, sizes, body) in
-    ap₂ (λ (h t : List ℕ). h ++ (option ++ (name ++ (t ++ [])))) head_is (block_end 3 padding 19 _ end (omega arith) end_is refl)
-    ∙ ap (λ (t : List ℕ). interface_header size link snap ++ t) (regrouped option name (replicate padding 0) resolution_text end_text (little_bytes 4 size))
-    ∙ ap (λ (t : List ℕ). interface_header size link snap ++ (t ++ resolution_text ++ end_text ++ little_bytes 4 size)) name_is
-    ∙ ap (λ (s : ℕ). little_bytes 4 1 ++ little_bytes 4 s ++ interface_body link snap name ++ little_bytes 4 s) whole
+    let body : length (interface_body link snap name) ≡ length (name_text name) + 20 = simp length-append (omega arith) in
+    let whole : size ≡ 12 + length (interface_body link snap name) = omega arith in
+    ap₂ (λ h t. h ++ (option ++ (name ++ (t ++ [])))) head_is (block_end 3 _ 19 _ end (omega arith) end_is refl)
+    ∙ ap (λ t. interface_header size link snap ++ t) (regrouped option name _ _ _ _)
+    ∙ ap (λ t. interface_header size link snap ++ (t ++ resolution_text ++ end_text ++ little_bytes 4 size)) name_is
+    ∙ ap (λ s. little_bytes 4 1 ++ little_bytes 4 s ++ interface_body link snap name ++ little_bytes 4 s) whole

@@ -1,8 +1,8 @@
 -- Numbers in digits: leading zeros, groups of IPv6 addresses, and decimal numbers two digits at a
 -- time.
-use Rattle.std.proofs.Common.{◌≡◌, ◌≢◌, ℕ, suc, ◌+◌, ◌-◌, ◌<◌, List, ◌∷◌, length, drop, get_or, refl, sym, ap, ◌∙◌, arith, rules, ◌/◌, ◌%◌, ◌≤◌, [], ◌^◌, ◌++◌}
+use Rattle.std.proofs.Common.{◌≡◌, ◌≢◌, ℕ, suc, ◌+◌, ◌-◌, ◌<◌, List, ◌∷◌, length, drop, get_or, refl, arith, rules, ◌/◌, ◌%◌, ◌≤◌, [], ◌^◌, ◌++◌}
 use Rattle.std.proofs.Common.{append_assoc, decimal}
-use Rattle.std.proofs.lemmas.{Bool.Decides.nat_tests, Fmt.decimal_digit, Fmt.decimal_step, List.drop_more}
+use Rattle.std.proofs.lemmas.{Fmt.decimal_digit, Fmt.decimal_step, List.drop_more}
 use Rattle.cap_print.specs.Hexadecimal.{without_zeros, hex_digit, hex_four, hex_group}
 use Rattle.cap_octet.specs.Date.{digits}
 
@@ -20,56 +20,41 @@ zeros-more digits most i less within is =
 pub zeros-end : (digits : List ℕ) (most i : ℕ) → i < most → i < length digits → get_or digits i 0 ≢ 48
     → drop i digits ≡ without_zeros (most - i) (drop i digits)
 zeros-end digits most i less within isnt =
-    let one : most - i ≡ suc (most - (i + 1)) = omega arith in
-    rw (one, drop_more digits i 0 within) (sym (other-stays (most - (i + 1)) (get_or digits i 0) (drop (i + 1) digits) isnt))
+    grind (arith, drop_more, other-stays)
 
 digit_shows : (d : ℕ) → 0 < d → hex_digit d ≢ 48
-digit_shows d some = grind (arith, nat_tests)
+digit_shows d some = grind arith
 
 pub group_of_one : (n : ℕ) → n < 16 → hex_group n ≡ hex_digit (n % 16) ∷ []
 unfolding hex_group hex_four
 group_of_one n less =
-    let a : n / 4096 ≡ 0 = omega arith in
-    let b : n / 256 % 16 ≡ 0 = omega arith in
-    let c : n / 16 % 16 ≡ 0 = omega arith in
-    rw (a, b, c) refl
+    grind arith
 
 pub group_of_two : (n : ℕ) → 16 ≤ n → n < 256 → hex_group n ≡ hex_digit (n / 16 % 16) ∷ hex_digit (n % 16) ∷ []
 unfolding hex_group hex_four
 group_of_two n more less =
-    let a : n / 4096 ≡ 0 = omega arith in
-    let b : n / 256 % 16 ≡ 0 = omega arith in
-    rw (a, b) (other-stays 0 (hex_digit (n / 16 % 16)) (hex_digit (n % 16) ∷ []) (digit_shows (n / 16 % 16) (omega arith)))
+    grind (arith, other-stays, digit_shows)
 
 pub group_of_three : (n : ℕ) → 256 ≤ n → n < 4096
     → hex_group n ≡ hex_digit (n / 256 % 16) ∷ hex_digit (n / 16 % 16) ∷ hex_digit (n % 16) ∷ []
 unfolding hex_group hex_four
 group_of_three n more less =
-    let a : n / 4096 ≡ 0 = omega arith in
-    rw a
-    (other-stays 1 (hex_digit (n / 256 % 16)) (hex_digit (n / 16 % 16) ∷ hex_digit (n % 16) ∷ []) (digit_shows (n / 256 % 16) (omega arith)))
+    grind (arith, other-stays, digit_shows)
 
 pub group_of_four : (n : ℕ) → 4096 ≤ n → hex_group n ≡ hex_four n
 unfolding hex_group hex_four
 group_of_four n more =
-    other-stays 2 (hex_digit (n / 4096)) (hex_digit (n / 256 % 16) ∷ hex_digit (n / 16 % 16) ∷ hex_digit (n % 16) ∷ [])
-    (digit_shows (n / 4096) (omega arith))
+    grind (arith, other-stays, digit_shows)
 
 pub decimal_two : (n : ℕ) → 10 ≤ n → n < 100 → decimal n ≡ digits 2 n
 decimal_two n low high =
-    let tens : n / 10 % 10 ≡ n / 10 = omega arith in
-    rw (decimal_step n low (omega arith), decimal_digit (n / 10) (omega arith), tens) refl
+    grind (arith, decimal_step, decimal_digit)
 
 pub decimal_pair : (n : ℕ) → 100 ≤ n → n < 2 ^ 32 → decimal n ≡ decimal (n / 100) ++ digits 2 (n % 100)
 decimal_pair n low high =
-    let hundreds : n / 10 / 10 ≡ n / 100 = omega arith in
-    let tens : n / 10 % 10 ≡ n % 100 / 10 % 10 = omega arith in
-    let ones : n % 10 ≡ n % 100 % 10 = omega arith in
-    rw (decimal_step n (omega arith) (omega arith), decimal_step (n / 10) (omega arith) (omega arith), append_assoc, hundreds, tens, ones) refl
+    grind (arith, decimal_step, append_assoc)
 
 pub decimal_two_pairs : (n : ℕ) → 10000 ≤ n → n < 2 ^ 32
     → decimal n ≡ decimal (n / 10000) ++ digits 2 (n / 100 % 100) ++ digits 2 (n % 100)
 decimal_two_pairs n low high =
-    let front : n / 100 / 100 ≡ n / 10000 = omega arith in
-    decimal_pair n (omega arith) high
-    ∙ ap (λ (x : List ℕ). x ++ digits 2 (n % 100)) (rw front at (decimal_pair (n / 100) (omega arith) (omega arith)))
+    grind (arith, decimal_pair)

@@ -8,7 +8,7 @@ use Rattle.cap_print.specs.{Dump.link_payload, Dump.rows, Dump.first_rows, Dump.
 
 pub printed-alone : (options : Options) (p : Captured) → options.bytes ≡ false → printed_text options p ≡ line options.link p
 unfolding printed_text
-printed-alone options p none = rw (none, append-nil (line options.link p)) refl
+printed-alone options p none = rw (none, append-nil) refl
 
 pub printed-with_rows : (options : Options) (p : Captured) → options.bytes ≡ true
     → printed_text options p ≡ line options.link p ++ rows (link_payload p.link p.bytes)
@@ -20,17 +20,17 @@ pub stops-in_line : (options : Options) (p : Captured) (old new : List ℕ) (sto
     → stopped.written < length (line options.link p) → WritesAll old (line options.link p) (Err stopped) new → Stops old (printed_text options p) new
 unfolding printed_text
 stops-in_line options p old new stopped less writes =
-    stops-part old old new [] (line options.link p) _ stopped (sym (append-nil old)) less writes
+    stops-part old old new [] _ _ _ (sym (append-nil old)) less writes
 
 -- what follows some bytes is appended, or a prefix of it
 pub appends-following : {E : Type 0} (r : Result (Unit {0}) E) (old done part mid new : List ℕ) → mid ≡ old ++ done
     → AppendsOrStops r mid part new → AppendsOrStops r old (done ++ part) new
 appends-following (Ok value) old done part mid new first appends = rw (appends, first, append_assoc) refl
 appends-following (Err fault) old done part mid new first stops =
-    let less : stops.0 < length part = stops.1 in (
+    let less = stops.1 in (
       length done + stops.0,
-      omega (arith, less, length-append done part),
-      rw (stops.2, first, append_assoc, take-append-add done part stops.0) refl,
+      omega (arith, length-append done part),
+      rw (stops.2, first, append_assoc, take-append-add) refl,
     )
 
 -- the rows from the one after k others, that many
@@ -39,14 +39,14 @@ rows_from bytes k zero = []
 rows_from bytes k (suc n) = rows_from bytes k n ++ row bytes (k + n)
 
 rows-split : (bytes : List ℕ) (k n : ℕ) → first_rows bytes (k + n) ≡ first_rows bytes k ++ rows_from bytes k n
-rows-split bytes k zero = let e : k + 0 ≡ k = omega arith in rw (e, append-nil (first_rows bytes k)) refl
+rows-split bytes k zero = grind (arith, append-nil)
 rows-split bytes k (suc n) =
     let e : k + suc n ≡ suc (k + n) = omega arith in
     rw (e, rows-split bytes k n, append_assoc) refl
 
 -- a first row and those after it
 rows_from-first : (bytes : List ℕ) (k n : ℕ) → rows_from bytes k (suc n) ≡ row bytes k ++ rows_from bytes (k + 1) n
-rows_from-first bytes k zero = let e : k + 0 ≡ k = omega arith in rw (e, append-nil (row bytes k)) refl
+rows_from-first bytes k zero = grind (arith, append-nil)
 rows_from-first bytes k (suc n) =
     let e : k + suc n ≡ k + 1 + n = omega arith in
     rw (rows_from-first bytes k n, append_assoc, e) refl
@@ -56,5 +56,5 @@ pub rows-among : (bytes : List ℕ) (k n : ℕ) → k < n → first_rows bytes n
 rows-among bytes k n below =
     let e : n ≡ k + suc (n - k - 1) = omega arith in
     ap (first_rows bytes) e
-    ∙ rows-split bytes k (suc (n - k - 1))
-    ∙ ap (λ (x : List ℕ). first_rows bytes k ++ x) (rows_from-first bytes k (n - k - 1))
+    ∙ rows-split bytes k _
+    ∙ ap (λ x. first_rows bytes k ++ x) (rows_from-first bytes k (n - k - 1))
