@@ -15,8 +15,8 @@ pub fn items_back()
     ensures { ItemsBack }
 {}
 
-/// What a sink does with one more packet, which it decides by its state and its interfaces alone, is
-/// what all packets before it decide; and that packet only adds bytes to the text of those before.
+/// What a sink does with one more packet is what all packets before it decide, though the sink keeps
+/// only a state and interfaces; and that packet only adds bytes to the text of those before.
 pub fn put_extends_text()
     ensures by_packets { EachPutGoesByPackets }
     ensures text { PutExtendsText }
