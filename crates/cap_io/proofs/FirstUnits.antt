@@ -11,7 +11,8 @@ use Rattle.cap_io.proofs.Common.{is_section, frame_checks-append, frame_in-appen
 use Rattle.cap_io.proofs.Common.{interfaces_before, order_before, packets_in, parts_after, parts_in, parts_in-append, unit_fault, unit_fault-frame}
 use Rattle.cap_io.proofs.Common.{unit_fault-short, Frame, PacketSpans, IsBlockFault, section_of, FileState, Declared, Nothing, PcapFile, PcapngFile, Whole}
 use Rattle.cap_io.proofs.Common.{NoUnit, IsUnit, a_pcap_header, a_pcap_record, a_first_block, a_block, file_after, first_link_after, front_of, is_pcapng}
-use Rattle.cap_io.proofs.Common.{declared_by, packet_in_unit, known_first_link, known_order, section_before, HasInterface, IsConsistent, BeginsWithPacket, PacketCame, append_assoc}
+use Rattle.cap_io.proofs.Common.{declared_by, packet_in_unit, known_first_link, known_order, section_before, HasInterface, IsConsistent}
+use Rattle.cap_io.proofs.Common.{BeginsWithPacket, PacketCame, append_assoc}
 use Rattle.cap_io.proofs.Common.{record_spans}
 use Rattle.cap_io.proofs.Fronts.{block_unless, front_of-following, front_of-pcapng, front_of-no_header, front_of-no_record}
 use Rattle.cap_io.proofs.Fronts.{front_of_block-none, is_pcapng-append}
@@ -325,12 +326,7 @@ packet-first file after interfaces bytes size spans consistent b =
     let is = front_of-is declared bytes size b.packets (declared_by after interfaces) b.front in
     let stays : declared_by after interfaces ≡ declared = kept p.packet is.unit p.only (exact file interfaces consistent) in
     let block : take size bytes ≡ take spans.size bytes = ap (λ n. take n bytes) (sym p.whole) in
-    let D : Declared → Type 0 = λ d. packet_in_unit d spans (take size bytes) ≡ Some p.packet in
-    let B : List ℕ → Type 0 = λ t. packet_in_unit declared spans t ≡ Some p.packet in
-    let U : Declared → Type 0 = λ d. IsUnit declared (take size bytes) b.packets d in
-    let V : List Captured → Type 0 = λ qs. IsUnit declared (take size bytes) qs declared in
-    let W : List ℕ → Type 0 = λ t. IsUnit declared t (p.packet ∷ []) declared in
-    let lent : packet_in_unit declared spans (take size bytes) ≡ Some p.packet = subst D stays p.is_lent in
+    let lent : packet_in_unit declared spans (take spans.size bytes) ≡ Some p.packet = rw (stays, block) at p.is_lent in
     record {
       lies = record {
         bytes = omega (arith, p.whole, p.bytes);
@@ -340,11 +336,11 @@ packet-first file after interfaces bytes size spans consistent b =
         small = omega (arith, p.whole, b.small);
         time = p.time;
       };
-      known = has-interface declared spans (take size bytes) p.packet lent;
+      known = has-interface declared spans (take spans.size bytes) p.packet lent;
       came = record {
         packet = p.packet;
-        is_lent = subst B block lent;
-        unit = subst W block (subst V p.only (subst U stays is.unit));
+        is_lent = lent;
+        unit = rw (stays, p.only, block) at is.unit;
         same = refl;
         splits = sym (take-append-drop spans.size bytes);
       };

@@ -14,7 +14,8 @@ returns-in-Err-clause-err c =
 pub returns-then-bytes-spans-clause-err : goal.returns-then-bytes-spans-clause-err
 returns-then-bytes-spans-clause-err c =
     let first = c.in-Some.ensures.cases in
-    record-cut c.args.head.now c.args.bytes.now c.in-Some.front.now c.in-Ok.record first.enough first.same c.in-Ok.ensures.answer (rw c.record_spans-spans.ensures at c.if-bytes-spans.true)
+    record-cut c.args.head.now c.args.bytes.now c.in-Some.front.now c.in-Ok.record first.enough first.same c.in-Ok.ensures.answer
+    (rw c.record_spans-spans.ensures at c.if-bytes-spans.true)
 
 pub returns-clause-ok : goal.returns-clause-ok
 returns-clause-ok c =
