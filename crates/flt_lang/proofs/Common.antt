@@ -1,10 +1,10 @@
 -- Re-exports the names that most proofs of this crate cite; declares nothing.
 pub use Rattle.std.proofs.Common.{◌≡◌, ℕ, suc, ◌-◌, ◌<◌, ◌≤◌, List, ◌∷◌, length, drop, refl, ap, ◌∙◌, arith, Some, None, Bool, true, false, zero, inl, [], sym}
 pub use Rattle.std.proofs.Common.{subst, Option, nat_le, zero-le, ◌≢◌, ◌+◌, ◌⊎◌, inr, ⊎_elim, lit≤, sum_by, fold, max, ◌||◌, not, ◌&&◌, is_some, unwrap_or, map}
-pub use Rattle.std.proofs.Common.{take, get_or, one-add, reverse, ◌↔◌, IsTrue, cond, nat_lt, if◌then◌else◌, ◌++◌, ◌*◌, below_more, count_by}
-pub use Rattle.std.proofs.lemmas.Bool.{false≢true, lt-ltb, ltb-false, ltb-true, le-leb, leb-true, or_parts, or_from}
-pub use Rattle.std.proofs.lemmas.List.{take_rest, drop_more, drop-map, drop-drop, length-drop}
-pub use Rattle.std.specs.List.{list_all, list_any}
+pub use Rattle.std.proofs.Common.{take, get_or, one-add, reverse, if◌then◌else◌, ◌++◌, ◌*◌, below_more, count_by}
+pub use Rattle.std.proofs.lemmas.Bool.{false≢true, le-leb, leb-true, or_parts, or_from}
+pub use Rattle.std.proofs.lemmas.List.{take_rest, drop-map, drop-drop, length-drop}
+pub use Rattle.std.specs.List.{list_any}
 pub use Rattle.flt_ast.specs.Counts.{number_tests, truth_tests, tests_of, number_size, truth_size, nodes_of, number_words, truth_words, words_of, node_tests}
 pub use Rattle.flt_ast.specs.Counts.{node_size}
 pub use Rattle.flt_ast.specs.Filled.{type_or_host, completed_qualifiers, latest, with_inherited, complete, only_host, expr_inherited, fill_expression}
@@ -24,7 +24,7 @@ pub use Rattle.flt_ast.proofs.NodesBack.{expr_turned, same_nodes}
 pub use Rattle.flt_lang.specs.Grammar.{is_accessor, stands_alone, has_casts, of_len, of_name, Truth, of_check, of_cast, of_protocol_cast, of_sized, of_valued}
 pub use Rattle.flt_lang.specs.Grammar.{of_bare, level, Number, of_literal, enclosed, of_load, of_sized_load, minus, single, chain, relation, denial}
 pub use Rattle.flt_lang.specs.Grammar.{enclosed_truth, term, terms, IsReadAs, no_tokens, all_tokens, kinds_of}
-pub use Rattle.flt_lang.specs.Nesting.{HasLongPrefix, is_prefix_operator, BeginsWithLongPrefix, is_opening, is_closing}
+pub use Rattle.flt_lang.specs.Nesting.{BeginsWithLongPrefix, is_opening, is_closing}
 pub use Rattle.flt_lang.specs.Values.{ReadsValue, is_written, no_mask, prefix, dotted_mask, number, dotted, ip6, ip6_prefix, mac, range, ReadsProtocol}
 pub use Rattle.flt_lang.specs.Values.{no_protocol, protocol, ReadsDirection, no_direction, one_side, source_first, destination_first, ReadsType, no_type}
 pub use Rattle.flt_lang.specs.Values.{of_type, ReadsQualifiers, qualifiers, ReadsMask}

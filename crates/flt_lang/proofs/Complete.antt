@@ -1,10 +1,10 @@
 -- The parser reads whatever the grammar reads.
-use Rattle.flt_lang.proofs.Common.{◌≡◌, ◌≢◌, ℕ, ◌+◌, ◌<◌, ◌≤◌, List, [], ◌∷◌, refl, sym, ap, ◌∙◌, subst, ◌⊎◌, inl, inr, ⊎_elim, arith, Option, Some, None, true}
+use Rattle.flt_lang.proofs.Common.{◌≡◌, ◌≢◌, ℕ, ◌+◌, ◌<◌, ◌≤◌, List, [], ◌∷◌, refl, sym, ◌∙◌, subst, ◌⊎◌, inl, inr, ⊎_elim, arith, Some, None, true}
 use Rattle.flt_lang.proofs.Common.{lit≤, Protocol, Operator, Divide, Join, TokenKind, Value, Node, Frame, Operand, NumberTree, literal, TruthTree, bare}
 use Rattle.flt_lang.proofs.Common.{Expression, no_mask, prefix, ReadsValue, number, level, is_accessor, stands_alone, has_casts, Number, of_literal, of_len}
 use Rattle.flt_lang.proofs.Common.{of_name, enclosed, of_load, of_sized_load, minus, single, chain, Truth, of_check, of_cast, of_protocol_cast, of_sized}
-use Rattle.flt_lang.proofs.Common.{of_valued, of_bare, relation, denial, enclosed_truth, term, terms, IsReadAs, no_tokens, all_tokens, ◌>>=◌, precedence}
-use Rattle.flt_lang.proofs.Common.{operand_precedence, token_precedence, next_precedence, as_number, as_truth, as_sort, fill_frame, run, nodes_of_tokens}
+use Rattle.flt_lang.proofs.Common.{of_valued, of_bare, relation, denial, enclosed_truth, term, terms, IsReadAs, no_tokens, all_tokens, precedence}
+use Rattle.flt_lang.proofs.Common.{operand_precedence, next_precedence, as_number, as_truth, as_sort, fill_frame, run, nodes_of_tokens}
 use Rattle.flt_lang.proofs.Common.{enclosed_operand, number_with_prefix, next_of, after_operand, IsLoose, number_onto, truth_onto, expr_onto}
 use Rattle.flt_lang.proofs.Reducing.{le_true, le_false, reduce_stays}
 use Rattle.flt_lang.proofs.Valued.{IsNoMask, no_mask_at, plain_runs, value_runs, valued_runs}
@@ -25,15 +25,14 @@ tight_operand _ fs h = absurd (omega arith)
 -- after a frame that the next token makes took its operand, no value continues it
 no_prefix : (x : Operand) (ts : List TokenKind) (f : Frame) (fs : List Frame) (d : List Node) → precedence f ≤ next_precedence ts
     → after_operand ts (f ∷ fs) x d ≡ next_of ts (f ∷ fs) x d
-no_prefix (operand.Plain n) (token.Operator Divide ∷ token.Number m ∷ ts) f fs d h = rw (le_false 1 (operand_precedence (f ∷ fs)) (tight_operand f fs h)) refl
+no_prefix (operand.Plain n) (token.Operator Divide ∷ token.Number m ∷ ts) f fs d h = search (arith, le_false, tight_operand)
 no_prefix _ _ f fs d h = refl
 
 -- a frame that binds as tightly as the next token takes the operand
 take_frame : (f : Frame) (fs : List Frame) (x y : Operand) (d e : List Node) (ts : List TokenKind) → precedence f ≤ next_precedence ts
     → fill_frame f x d ≡ Some (y, e) → number_with_prefix y ts ≡ None → run ts 0 (f ∷ fs) (Some x) d ≡ run ts 0 fs (Some y) e
 take_frame f fs x y d e [] h filled other = rw (le_true (precedence f) 8 h, filled)
-take_frame f fs x y d e (t ∷ ts) h filled other =
-    ap (λ r. r >>= λ r. run ts r.0 r.1.0 r.1.1 r.1.2) (no_prefix x (t ∷ ts) f fs d h) ∙ rw (le_true (precedence f) (token_precedence t) h, filled, other) refl
+take_frame f fs x y d e (t ∷ ts) h filled other = search (arith, no_prefix, le_true)
 
 -- frames with room for an operand as loose as m are looser; no token is as loose as a denial
 loose : (m : ℕ) (fs : List Frame) → 1 ≤ m → m ≢ 6 → m ≤ operand_precedence fs → IsLoose m fs
@@ -44,9 +43,7 @@ loose m _ some other h = omega arith
 operator_step : (o : Operator) (ts : List TokenKind) (fs : List Frame) (x : Operand) (d e : List Node) → level o + 1 ≤ operand_precedence fs
     → as_number x d ≡ Some e → number_with_prefix x (token.Operator o ∷ ts) ≡ None → run (token.Operator o ∷ ts) 0 fs (Some x) d ≡ run ts 0
     (frame.Apply o ∷ fs) None e
-operator_step o ts fs x d e h is_num other =
-    let is_loose = loose (level o + 1) fs (omega arith) (λ e. absurd (omega (arith, level_small o))) h in
-    rw (other, reduce_stays (level o + 1) fs x d is_loose, le_true (level o + 1) (operand_precedence fs) h, is_num)
+operator_step o ts fs x d e h is_num other = search (arith, loose, level_small, reduce_stays, le_true)
 
 -- only an operator makes a value go on
 abbrev IsNoOperator : TokenKind → Type 0
@@ -60,23 +57,11 @@ no_prefix_at t ts _ h = refl
 
 comparison_step : (c : Comparison) (ts : List TokenKind) (fs : List Frame) (x : Operand) (d e : List Node) → 6 ≤ operand_precedence fs
     → as_number x d ≡ Some e → run (token.Comparison c ∷ ts) 0 fs (Some x) d ≡ run ts 0 (frame.Compare c ∷ fs) None e
-comparison_step c ts fs x d e h is_num =
-    rw (
-      no_prefix_at (token.Comparison c) ts x tt,
-      reduce_stays 5 fs x d (loose 5 fs (lit≤ tt) (λ e. absurd (omega arith)) (omega arith)),
-      le_true 5 (operand_precedence fs) (omega arith),
-      is_num,
-    )
+comparison_step c ts fs x d e h is_num = search (arith, no_prefix_at, reduce_stays, loose, le_true)
 
 join_step : (j : Join) (ts : List TokenKind) (fs : List Frame) (x : Operand) (d e : List Node) → 7 ≤ operand_precedence fs → as_truth x d ≡ Some e
     → run (token.Join j ∷ ts) 0 fs (Some x) d ≡ run ts 0 (frame.Join j ∷ fs) None e
-join_step j ts fs x d e h truth =
-    rw (
-      no_prefix_at (token.Join j) ts x tt,
-      reduce_stays 7 fs x d (loose 7 fs (lit≤ tt) (λ e. absurd (omega arith)) h),
-      le_true 7 (operand_precedence fs) h,
-      truth,
-    )
+join_step j ts fs x d e h truth = search (arith, no_prefix_at, reduce_stays, loose, le_true)
 
 -- the machine comes from the tokens ts with nothing read to rest with an operand that is the
 -- number, or the truth
@@ -102,7 +87,7 @@ bracket_step p ts fs x d e is_num = rw (no_prefix_at token.CloseBracket ts x tt,
 
 colon_step : (p : Protocol) (n : ℕ) (ts : List TokenKind) (fs : List Frame) (x : Operand) (d e : List Node) → as_number x d ≡ Some e
     → run (token.Colon ∷ token.Number n ∷ token.CloseBracket ∷ ts) 0 (frame.Load p ∷ fs) (Some x) d ≡ run ts 0 fs (Some operand.Number) (node.Load p n ∷ e)
-colon_step p n ts fs x d e is_num = rw (no_prefix_at token.Colon (token.Number n ∷ token.CloseBracket ∷ ts) x tt, is_num)
+colon_step p n ts fs x d e is_num = search (arith, no_prefix_at)
 
 -- where a bracket may follow
 load_step : (p : Protocol) (ts : List TokenKind) (fs : List Frame) (d : List Node) → is_accessor p ≡ true
@@ -119,7 +104,7 @@ record IsPrefix (o : Operator) (ts : List TokenKind) (x : Operand) : Type 0 wher
   plain : x ≡ operand.Plain number
 
 prefix_or_not : (o : Operator) (ts : List TokenKind) (x : Operand) → IsPrefix o ts x ⊎ (number_with_prefix x (token.Operator o ∷ ts) ≡ None)
-prefix_or_not Divide (token.Number m ∷ ts) (operand.Plain n) = inl (record { number = n; len_of = m; rest = ts; divides = refl; tokens = refl; plain = refl })
+prefix_or_not Divide (token.Number m ∷ ts) (operand.Plain n) = search (arith, inl)
 prefix_or_not _ _ (operand.Plain n) = inr refl
 prefix_or_not _ _ _ = inr refl
 
@@ -143,21 +128,7 @@ prefix_step n m ts fs d h = rw (le_true 1 (operand_precedence fs) h)
 as_prefix : (o : Operator) (ts mid rest : List TokenKind) (fs : List Frame) (d e nodes : List Node) (x : Operand) (b : NumberTree)
     → run ts 0 fs None d ≡ run (token.Operator o ∷ mid) 0 fs (Some x) nodes → as_number x nodes ≡ Some e → Number (level o) mid b rest
     → 1 ≤ operand_precedence fs → IsPrefix o mid x → Reaches Sort.Number ts fs d (node.Apply o ∷ number_onto b e) rest
-as_prefix o ts mid rest fs d e nodes x b runs is_num right roomy is =
-    let unary : level o ≡ 0 = ap level is.divides in
-    let lit = literal_first right is.len_of is.rest unary is.tokens in
-    let here : run (token.Operator o ∷ mid) 0 fs (Some x) nodes ≡ run (token.Operator Divide ∷ token.Number is.len_of ∷ is.rest) 0 fs
-    (Some (operand.Plain is.number)) nodes = cc (is.divides, is.tokens, is.plain) in
-    let there : run is.rest 0 fs (Some (operand.Either is.number (Some is.len_of))) nodes ≡ run rest 0 fs
-    (Some (operand.Either is.number (Some is.len_of))) nodes = cc (lit.left) in
-    let front : ◌≡◌ {A = Option (List Node)} (Some (node.Literal is.number ∷ nodes)) (Some e) = ap (λ y. as_number y nodes) (sym is.plain) ∙ is_num in
-    let whole : number_onto (literal is.len_of) e ≡ number_onto b e = ap (λ t. number_onto t e) (sym lit.tree) in
-    record {
-      operand = operand.Either is.number (Some is.len_of);
-      nodes = nodes;
-      runs = runs ∙ here ∙ prefix_step is.number is.len_of is.rest fs nodes roomy ∙ there;
-      value = cc (front, whole, is.divides);
-    }
+as_prefix o ts mid rest fs d e nodes x b runs is_num right roomy is = search (arith, literal_first, literal, prefix_step)
 
 reads_number : {k : ℕ} {ts rest : List TokenKind} {a : NumberTree} → Number k ts a rest → (fs : List Frame) (d : List Node) → k ≤ operand_precedence
     fs → k ≤ next_precedence rest → IsNoMask rest → Reaches Sort.Number ts fs d (number_onto a d) rest
@@ -166,30 +137,11 @@ reads_number (of_literal {n = n} {rest = rest}) fs d roomy reaches unmasked =
 reads_number of_len fs d roomy reaches unmasked = record { operand = operand.Number; nodes = node.Len ∷ d; runs = refl; value = refl }
 reads_number of_name fs d roomy reaches unmasked = record { operand = operand.Number; nodes = node.Named _ ∷ d; runs = refl; value = refl }
 reads_number (enclosed {rest = rest} inner) fs d roomy reaches unmasked =
-    let r = reads_number inner (frame.Open ∷ fs) d (lit≤ tt) (lit≤ tt) tt in
-    record {
-      operand = enclosed_operand r.operand;
-      nodes = r.nodes;
-      runs = r.runs ∙ close_step rest fs r.operand r.nodes;
-      value =
-          enclosed_value Sort.Number r.operand r.nodes ∙ r.value;
-    }
+    search (arith, close_step, enclosed_value, (reads_number inner (frame.Open ∷ fs) d (lit≤ tt) (lit≤ tt) tt))
 reads_number (of_load {p = p} {ts = ts} {rest = rest} accessor inner) fs d roomy reaches unmasked =
-    let r = reads_number inner (frame.Load p ∷ fs) d (lit≤ tt) (lit≤ tt) tt in
-    record {
-      operand = operand.Number;
-      nodes = _;
-      runs = load_step p ts fs d accessor ∙ r.runs ∙ bracket_step p rest fs r.operand r.nodes _ r.value;
-      value = refl;
-    }
+    search (arith, load_step, bracket_step, (reads_number inner (frame.Load p ∷ fs) d (lit≤ tt) (lit≤ tt) tt))
 reads_number (of_sized_load {p = p} {n = n} {ts = ts} {rest = rest} accessor inner) fs d roomy reaches unmasked =
-    let r = reads_number inner (frame.Load p ∷ fs) d (lit≤ tt) (lit≤ tt) tt in
-    record {
-      operand = operand.Number;
-      nodes = _;
-      runs = load_step p ts fs d accessor ∙ r.runs ∙ colon_step p n rest fs r.operand r.nodes _ r.value;
-      value = refl;
-    }
+    search (arith, load_step, colon_step, (reads_number inner (frame.Load p ∷ fs) d (lit≤ tt) (lit≤ tt) tt))
 reads_number (minus inner) fs d roomy reaches unmasked =
     let r = reads_number inner (frame.Negate ∷ fs) d (lit≤ tt) reaches unmasked in
     record { operand = operand.Number; nodes = _; runs = r.runs ∙ take_frame frame.Negate fs _ _ _ _ _ reaches (rw r.value refl) refl; value = refl }
@@ -230,7 +182,7 @@ not_step ts fs d h = rw (le_true 6 (operand_precedence fs) h)
 
 whole_truth : {ts rest : List TokenKind} {fs : List Frame} {d e : List Node} → run ts 0 fs None d ≡ run rest 0 fs (Some operand.Truth) e
     → Reaches Sort.Truth ts fs d e rest
-whole_truth runs = record { operand = operand.Truth; nodes = _; runs = runs; value = refl }
+whole_truth runs = search arith
 
 reads_bare : {ts rest : List TokenKind} {v : Value} → ReadsValue ts v rest → (fs : List Frame) (d : List Node) → 6 ≤ operand_precedence fs
     → 6 ≤ next_precedence rest → Reaches Sort.Truth ts fs d (truth_onto (bare v) d) rest
@@ -273,14 +225,7 @@ reads_truth (denial {ts = ts} {rest = rest} {a = a} inner) fs d roomy reaches =
       value = refl;
     }
 reads_truth (enclosed_truth {rest = rest} inner) fs d roomy reaches =
-    let r = reads_truth inner (frame.Open ∷ fs) d (lit≤ tt) (lit≤ tt) in
-    record {
-      operand = enclosed_operand r.operand;
-      nodes = r.nodes;
-      runs = r.runs ∙ close_step rest fs r.operand r.nodes;
-      value =
-          enclosed_value Sort.Truth r.operand r.nodes ∙ r.value;
-    }
+    search (arith, close_step, enclosed_value, (reads_truth inner (frame.Open ∷ fs) d (lit≤ tt) (lit≤ tt)))
 reads_truth (term inner) fs d roomy reaches = reads_truth inner fs d (omega arith) (omega arith)
 reads_truth (terms {mid = mid} {rest = rest} {a = a} {b = b} {j = j} left right) fs d roomy reaches =
     let l = reads_truth left fs d roomy (lit≤ tt) in

@@ -1,7 +1,7 @@
 -- Completing the qualifiers of the nodes completes those of the tree, and a fault of a node is a
 -- fault of a primitive.
-use Rattle.flt_lang.proofs.Common.{◌≡◌, ℕ, List, [], ◌∷◌, refl, sym, ap, ◌∙◌, Bool, true, false, not, ◌||◌, list_any, Protocol, Operator, Node, NumberTree}
-use Rattle.flt_lang.proofs.Common.{literal, len, named, load, negated, applied, TruthTree, valued, qualified, compared, denied, joined, Expression, empty}
+use Rattle.flt_lang.proofs.Common.{◌≡◌, List, [], ◌∷◌, refl, sym, ap, ◌∙◌, Bool, true, false, not, ◌||◌, list_any, Node, NumberTree}
+use Rattle.flt_lang.proofs.Common.{load, negated, applied, TruthTree, valued, qualified, compared, denied, joined, Expression, empty}
 use Rattle.flt_lang.proofs.Common.{truth, number_nodes, truth_nodes, expr_nodes, is_size, has_wrong_size, is_misfit, is_out_of_range, has_bits_past_mask}
 use Rattle.flt_lang.proofs.Common.{any_primitive, some_primitive, tree_fault, is_misfit_node, is_out_of_range_node, has_bits_past_mask_node, nodes_fault, map}
 use Rattle.flt_lang.proofs.Common.{Qualifiers, tree_of, tree_back, IsTree, latest, with_inherited, complete, only_host, expr_inherited, fill_expression}
@@ -36,32 +36,29 @@ some_node : (g : Node → Bool) (f : TruthTree → Bool) → Agrees g f → (e :
 some_node g f s empty = refl
 some_node g f s (truth a) = any_nodes g f s a [] ∙ or-false (any_primitive f a)
 
--- no number has a fault
-number_free : (g : Node → Bool) → ((n : ℕ) → g (node.Literal n) ≡ false) → ((n : ℕ) → g (node.Named n) ≡ false) → g node.Len ≡ false
-    → ((p : Protocol) (z : ℕ) → g (node.Load p z) ≡ false) → g node.Negate ≡ false → ((o : Operator) → g (node.Apply o) ≡ false)
-    → (a : NumberTree) (rest : List Node) → list_any g (number_nodes a rest) ≡ list_any g rest
-number_free g l v m p n o (literal k) rest = rw (l k) refl
-number_free g l v m p n o len rest = rw m refl
-number_free g l v m p n o (named k) rest = rw (v k) refl
-number_free g l v m p n o (load q z a) rest = number_free g l v m p n o a (node.Load q z ∷ rest) ∙ rw (p q z) refl
-number_free g l v m p n o (negated a) rest = number_free g l v m p n o a (node.Negate ∷ rest) ∙ rw n refl
-number_free g l v m p n o (applied i a b) rest = number_free g l v m p n o a (number_nodes b (node.Apply i ∷ rest)) ∙ number_free g l v m p n o b
-    (node.Apply i ∷ rest) ∙ rw (o i) refl
+-- only a value is a misfit, and only a value has bits past its mask
+number_fits : (a : NumberTree) (rest : List Node) → list_any is_misfit_node (number_nodes a rest) ≡ list_any is_misfit_node rest
+number_fits (load q z a) rest = number_fits a _
+number_fits (negated a) rest = number_fits a _
+number_fits (applied i a b) rest = number_fits a _ ∙ number_fits b _
+number_fits _ rest = refl
 
 misfit_primitive : (a : TruthTree) (rest : List Node) → is_primitive a ≡ true → list_any is_misfit_node (truth_nodes a rest) ≡
     (is_misfit a || list_any is_misfit_node rest)
-misfit_primitive (compared c a b) rest h =
-    number_free is_misfit_node (λ _. refl) (λ _. refl) refl (λ _ _. refl) refl (λ _. refl) a (number_nodes b (node.Compare c ∷ rest))
-    ∙ number_free is_misfit_node (λ _. refl) (λ _. refl) refl (λ _ _. refl) refl (λ _. refl) b (node.Compare c ∷ rest)
+misfit_primitive (compared c a b) rest h = number_fits a _ ∙ number_fits b _
 misfit_primitive (denied a) rest h = cc
 misfit_primitive (joined j a b) rest h = cc
 misfit_primitive _ rest h = refl
 
+number_in_mask : (a : NumberTree) (rest : List Node) → list_any has_bits_past_mask_node (number_nodes a rest) ≡ list_any has_bits_past_mask_node rest
+number_in_mask (load q z a) rest = number_in_mask a _
+number_in_mask (negated a) rest = number_in_mask a _
+number_in_mask (applied i a b) rest = number_in_mask a _ ∙ number_in_mask b _
+number_in_mask _ rest = refl
+
 past_primitive : (a : TruthTree) (rest : List Node) → is_primitive a ≡ true → list_any has_bits_past_mask_node (truth_nodes a rest) ≡
     (has_bits_past_mask a || list_any has_bits_past_mask_node rest)
-past_primitive (compared c a b) rest h =
-    number_free has_bits_past_mask_node (λ _. refl) (λ _. refl) refl (λ _ _. refl) refl (λ _. refl) a (number_nodes b (node.Compare c ∷ rest))
-    ∙ number_free has_bits_past_mask_node (λ _. refl) (λ _. refl) refl (λ _ _. refl) refl (λ _. refl) b (node.Compare c ∷ rest)
+past_primitive (compared c a b) rest h = number_in_mask a _ ∙ number_in_mask b _
 past_primitive (denied a) rest h = cc
 past_primitive (joined j a b) rest h = cc
 past_primitive _ rest h = refl
@@ -73,15 +70,13 @@ number_sizes (load p s a) rest = number_sizes a (node.Load p s ∷ rest)
     ∙ sym (or_assoc (has_wrong_size a) (not (is_size s)) (list_any is_out_of_range_node rest))
 number_sizes (negated a) rest = number_sizes a (node.Negate ∷ rest)
 number_sizes (applied o a b) rest =
-    number_sizes a (number_nodes b (node.Apply o ∷ rest)) ∙ ap (λ r. has_wrong_size a || r) (number_sizes b (node.Apply o ∷ rest))
-    ∙ sym (or_assoc (has_wrong_size a) (has_wrong_size b) (list_any is_out_of_range_node rest))
+    search (number_nodes, has_wrong_size, or_assoc, list_any, is_out_of_range_node, (number_sizes a (number_nodes b (node.Apply o ∷ rest))), (number_sizes b
+    (node.Apply o ∷ rest)))
 number_sizes _ rest = refl
 
 range_primitive : (a : TruthTree) (rest : List Node) → is_primitive a ≡ true → list_any is_out_of_range_node (truth_nodes a rest) ≡
     (is_out_of_range a || list_any is_out_of_range_node rest)
-range_primitive (compared c a b) rest h =
-    number_sizes a (number_nodes b (node.Compare c ∷ rest)) ∙ ap (λ r. has_wrong_size a || r) (number_sizes b (node.Compare c ∷ rest))
-    ∙ sym (or_assoc (has_wrong_size a) (has_wrong_size b) (list_any is_out_of_range_node rest))
+range_primitive (compared c a b) rest h = search (number_sizes, number_nodes, has_wrong_size, or_assoc, list_any, is_out_of_range_node)
 range_primitive (denied a) rest h = cc
 range_primitive (joined j a b) rest h = cc
 range_primitive _ rest h = refl
@@ -103,7 +98,7 @@ number_inherited _ q rest = refl
 
 truth_inherited : (a : TruthTree) (q : Qualifiers) (rest : List Node) → inherited_nodes q (truth_nodes a rest) ≡ truth_nodes (with_inherited q a)
     (inherited_nodes (latest q a) rest)
-truth_inherited (compared c a b) q rest = number_inherited a q _ ∙ ap (number_nodes a) (number_inherited b q _)
+truth_inherited (compared c a b) q rest = search (number_inherited, number_nodes)
 truth_inherited (denied a) q rest = truth_inherited a q _
 truth_inherited (joined j a b) q rest = truth_inherited a q _ ∙ ap (truth_nodes (with_inherited q a)) (truth_inherited b (latest q a) _)
 truth_inherited _ q rest = refl

@@ -2,7 +2,7 @@
 -- tree.
 use Rattle.flt_lang.proofs.Common.{◌≡◌, ℕ, suc, zero, ◌-◌, length, drop, inl, List, [], ◌∷◌, refl, sym, ap, ◌∙◌, subst, Option, Some, None, true, nat_le}
 use Rattle.flt_lang.proofs.Common.{zero-le, Protocol, Subtract, TokenKind, Value, Qualifiers, Node, Frame, Operand, len, named, TruthTree, check, cast, sized}
-use Rattle.flt_lang.proofs.Common.{bare, valued, is_written, qualifiers_of, value_of, is_accessor, stands_alone, has_casts, of_len, of_name, Truth, of_check}
+use Rattle.flt_lang.proofs.Common.{bare, valued, is_written, qualifiers_of, value_of, stands_alone, has_casts, of_len, of_name, Truth, of_check}
 use Rattle.flt_lang.proofs.Common.{of_cast, of_protocol_cast, of_sized, of_valued, of_bare, truth_onto, operand_precedence, Begun, begin, valued_of, valued_or}
 use Rattle.flt_lang.proofs.Common.{check_of, primitive, bare_of, with_frames, ◌+◌, ◌≤◌, arith, Bool, false, if◌then◌else◌, lit≤, leb-true, Divide, literal}
 use Rattle.flt_lang.proofs.Common.{load, Expression, empty, truth, no_mask, prefix, number, level, Number, of_literal, enclosed, of_load, of_sized_load, single}
@@ -36,8 +36,7 @@ begun ts start r s b same = carried (λ r. After r start ts) b same
 truth_begun : (t : TokenKind) (ts : List TokenKind) (fs : List Frame) (d : List Node) (start : List TokenKind) (r : Begun) (k : ℕ) (n : Node)
     (a : TruthTree) → Stacked fs d start (t ∷ ts) → Truth 0 (t ∷ ts) a (drop k ts) → n ∷ d ≡ truth_onto a d → ◌≡◌ {A = Option Begun}
     (Some (k, (fs, Some operand.Truth, n ∷ d))) (Some r) → After r start ts
-truth_begun t ts fs d start r k n a stacked reads nodes h =
-    begun ts start (k, (fs, Some operand.Truth, n ∷ d)) r (d, (t ∷ ts), stacked, (a, inl reads, nodes)) h
+truth_begun t ts fs d start r k n a stacked reads nodes h = search (arith, begun, inl)
 
 check_sound : (t : TokenKind) (ts : List TokenKind) (fs : List Frame) (d : List Node) (start : List TokenKind) (r : Begun)
     → Stacked fs d start (t ∷ ts) → with_frames fs (check_of (t ∷ ts) d) ≡ Some r → After r start ts
@@ -65,12 +64,11 @@ primitive_or : (t : TokenKind) (ts : List TokenKind) (fs : List Frame) (d : List
     (o : Option (Qualifiers × Value × ℕ)) → valued_of (t ∷ ts) ≡ o → Stacked fs d start (t ∷ ts) → is_written (qualifiers_of (t ∷ ts)).0 ≡ true
     → with_frames fs (valued_or o (t ∷ ts) d) ≡ Some r → After r start ts
 primitive_or t ts fs d start r None e stacked w h = check_sound t ts fs d start r stacked h
-primitive_or t ts fs d start r (Some q) e stacked w h = begun ts start (q.2, (fs, Some operand.Truth, node.Valued q.0 q.1 ∷ d)) r
-    (valued_sound t ts fs d start q stacked w e) h
+primitive_or t ts fs d start r (Some q) e stacked w h = search (arith, begun, valued_sound)
 
 primitive_sound : (t : TokenKind) (ts : List TokenKind) (fs : List Frame) (d : List Node) (start : List TokenKind) (r : Begun)
     → Stacked fs d start (t ∷ ts) → is_written (qualifiers_of (t ∷ ts)).0 ≡ true → with_frames fs (primitive (t ∷ ts) d) ≡ Some r → After r start ts
-primitive_sound t ts fs d start r stacked w h = primitive_or t ts fs d start r (valued_of (t ∷ ts)) refl stacked w h
+primitive_sound t ts fs d start r stacked w h = search (arith, primitive_or)
 
 bare_sound : (t : TokenKind) (ts : List TokenKind) (fs : List Frame) (d : List Node) (start : List TokenKind) (r : Begun)
     → Stacked fs d start (t ∷ ts) → with_frames fs (bare_of (t ∷ ts) d) ≡ Some r → After r start ts
@@ -85,9 +83,7 @@ bare_sound t ts fs d start r stacked h =
 
 protocol_sound : (p : Protocol) (ts : List TokenKind) (fs : List Frame) (d : List Node) (start : List TokenKind) (r : Begun)
     → Stacked fs d start (token.Protocol p ∷ ts) → begin (token.Protocol p ∷ ts) fs d ≡ Some r → After r start ts
-protocol_sound p (token.OpenBracket ∷ ts) fs d start r stacked h =
-    let (allowed, is) = some_then (is_accessor p) (Some (1, (frame.Load p ∷ fs, None, d))) r h in
-    begun (token.OpenBracket ∷ ts) start (1, (frame.Load p ∷ fs, None, d)) r (allowed, stacked) is
+protocol_sound p (token.OpenBracket ∷ ts) fs d start r stacked h = search (arith, some_then, begun)
 protocol_sound p (token.Cast c ∷ ts) fs d start r stacked h =
     let (allowed, is) = some_then (has_casts p) (Some (1, (fs, Some operand.Truth, node.Cast (Some p) c ∷ d))) r h in
     truth_begun (token.Protocol p) (token.Cast c ∷ ts) fs d start r 1 (node.Cast (Some p) c) (cast (Some p) c) stacked (of_protocol_cast allowed) refl is
@@ -95,9 +91,8 @@ protocol_sound p ts fs d start r stacked h = primitive_sound (token.Protocol p) 
 
 number_sound : (n : ℕ) (ts : List TokenKind) (fs : List Frame) (d : List Node) (start : List TokenKind) (r : Begun)
     → Stacked fs d start (token.Number n ∷ ts) → begin (token.Number n ∷ ts) fs d ≡ Some r → After r start ts
-number_sound n (token.Mask ∷ token.Dotted a p ∷ ts) fs d start r stacked h = bare_sound (token.Number n) (token.Mask ∷ token.Dotted a p ∷ ts) fs d
-    start r stacked h
-number_sound n ts fs d start r stacked h = begun ts start (0, (fs, Some (operand.Plain n), d)) r (d, (token.Number n ∷ ts), stacked, (refl, refl)) h
+number_sound n (token.Mask ∷ token.Dotted a p ∷ ts) fs d start r stacked h = search (arith, bare_sound)
+number_sound n ts fs d start r stacked h = search (arith, begun)
 
 sized_sound : (s : Size) (ts : List TokenKind) (fs : List Frame) (d : List Node) (start : List TokenKind) (r : Begun)
     → Stacked fs d start (token.Size s ∷ ts) → begin (token.Size s ∷ ts) fs d ≡ Some r → After r start ts
@@ -108,7 +103,7 @@ sized_sound s _ fs d start r stacked h = cc
 pub begin_sound : (t : TokenKind) (ts : List TokenKind) (fs : List Frame) (d : List Node) (start : List TokenKind) (r : Begun)
     → Stacked fs d start (t ∷ ts) → begin (t ∷ ts) fs d ≡ Some r → After r start ts
 begin_sound (token.Protocol p) ts fs d start r stacked h = protocol_sound p ts fs d start r stacked h
-begin_sound (token.Side s) ts fs d start r stacked h = primitive_sound (token.Side s) ts fs d start r stacked (side_written s ts) h
+begin_sound (token.Side s) ts fs d start r stacked h = search (arith, primitive_sound, side_written)
 begin_sound (token.ValueType k) ts fs d start r stacked h = primitive_sound (token.ValueType k) ts fs d start r stacked refl h
 begin_sound (token.Cast c) ts fs d start r stacked h = truth_begun (token.Cast c) ts fs d start r 0 (node.Cast None c) (cast None c) stacked of_cast refl h
 begin_sound (token.Size s) ts fs d start r stacked h = sized_sound s ts fs d start r stacked h
@@ -121,8 +116,7 @@ begin_sound token.Len ts fs d start r stacked h = begun ts start (0, (fs, Some o
     (d, (token.Len ∷ ts), stacked, (0, len, zero-le, zero-le, zero-le, of_len, refl)) h
 begin_sound (token.Name n) ts fs d start r stacked h = begun ts start (0, (fs, Some operand.Number, node.Named n ∷ d)) r
     (d, (token.Name n ∷ ts), stacked, (0, named n, zero-le, zero-le, zero-le, of_name, refl)) h
-begin_sound token.Not ts fs d start r stacked h = begun ts start (0, (frame.Not ∷ fs, None, d)) r stacked
-    (some_then (nat_le 6 (operand_precedence fs)) (Some (0, (frame.Not ∷ fs, None, d))) r h).1
+begin_sound token.Not ts fs d start r stacked h = search (arith, begun, some_then)
 begin_sound (token.Operator Subtract) ts fs d start r stacked h = begun ts start (0, (frame.Negate ∷ fs, None, d)) r stacked h
 begin_sound token.Open ts fs d start r stacked h = begun ts start (0, (frame.Open ∷ fs, None, d)) r stacked h
 begin_sound _ ts fs d start r stacked h = cc
@@ -138,7 +132,7 @@ enclosed_between m r q (operand.Plain n) d e mid rest (is, nodes) =
     let reads_truth = subst (λ ts. Truth 0 ts (either_truth n None) (token.Close ∷ rest)) (sym is) (of_bare (number no_mask)) in
     (0, zero-le, zero-le, zero-le, enclosed (widened 0 4 mid (token.Close ∷ rest) (literal n) zero-le reads), enclosed_truth (term reads_truth), nodes)
 enclosed_between m r q (operand.Either n l) d e mid rest (k, in_reach, in_room, small, reads, reads_truth, nodes) =
-    (0, zero-le, zero-le, zero-le, enclosed (widened k 4 mid (token.Close ∷ rest) (either_number n l) small reads), enclosed_truth (term reads_truth), nodes)
+    search (arith, zero-le, enclosed, widened, enclosed_truth, term)
 
 -- the tokens after an operand
 place_sound : (t : TokenKind) (ts : List TokenKind) (fs : List Frame) (x : Operand) (e : List Node) (start : List TokenKind) (r : Begun)
@@ -175,14 +169,7 @@ place_sound (token.Join j) ts fs x e start r (d, mid, stacked, between) h =
     let (i, is_truth, is_rest) = some_first (as_truth x e) (λ i. Some (0, (frame.Join j ∷ fs, None, i))) r placed_is in
     let t = truth_between 7 (operand_precedence fs) x d e i mid (token.Join j ∷ ts) between is_truth in
     begun ts start (0, (frame.Join j ∷ fs, None, i)) r (d, mid, t.tree, stacked, t.nodes, chain_of t.reads, leb-true _ _ roomy) is_rest
-place_sound token.Close ts (frame.Open ∷ fs) x e start r (d, mid, stacked, between) h =
-    begun ts start (0, (fs, Some (enclosed_operand x), e)) r (
-      d,
-      (token.Open ∷ mid),
-      stacked,
-      enclosed_between 8 7 (operand_precedence fs) x d e mid
-          ts between,
-    ) h
+place_sound token.Close ts (frame.Open ∷ fs) x e start r (d, mid, stacked, between) h = search (arith, begun, enclosed_between)
 place_sound token.CloseBracket ts (frame.Load p ∷ fs) x e start r (d, mid, (allowed, stacked), between) h =
     let (i, is_number, is_rest) = some_first (as_number x e) (λ i. Some (0, (fs, Some operand.Number, node.Load p 1 ∷ i))) r h in
     let n = number_between 8 4 x d e i mid (token.CloseBracket ∷ ts) between is_number in
@@ -302,17 +289,10 @@ no_tree tokens h tree reads = let e = complete reads in cc
 -- where it gives nodes, they are those of a tree
 tree_found : (tokens : List TokenKind) (nodes : List Node) → nodes_of_tokens tokens ≡ Some nodes → (tree : Expression) × IsReadAs tokens tree
     × (reverse nodes ≡ expr_nodes tree)
-tree_found tokens nodes h =
-    let (tree, reads, same) = sound tokens nodes h in
-    (tree, reads, ap reverse same ∙ expr_turned tree)
+tree_found tokens nodes h = search (arith, sound, expr_turned)
 
 pub found_is_tree : (tokens : List TokenKind) (nodes : List Node) → nodes_of_tokens tokens ≡ Some nodes → IsTree (reverse nodes)
-found_is_tree tokens nodes h =
-    let (tree, reads, same) = tree_found tokens nodes h in
-    rw same (ap expr_nodes (tree_back tree))
+found_is_tree tokens nodes h = search (arith, tree_found, tree_back)
 
 pub found_reads : (tokens : List TokenKind) (nodes : List Node) → nodes_of_tokens tokens ≡ Some nodes → IsReadAs tokens (tree_of (reverse nodes))
-found_reads tokens nodes h =
-    let (tree, reads, same) = tree_found tokens nodes h in
-    let is : tree ≡ tree_of (reverse nodes) = sym (tree_back tree) ∙ ap tree_of (sym same) in
-    subst (IsReadAs tokens) is reads
+found_reads tokens nodes h = search (arith, tree_found, tree_back)

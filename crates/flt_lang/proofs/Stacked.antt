@@ -23,7 +23,7 @@ some_then false o z e = cc
 
 -- a number of one level is one of each looser level
 pub widened : (k j : ℕ) (ts rest : List TokenKind) (a : NumberTree) → k ≤ j → Number k ts a rest → Number j ts a rest
-widened k zero ts rest a h n = let same : k ≡ 0 = omega arith in subst (λ i. Number i ts a rest) same n
+widened k zero ts rest a h n = search arith
 widened k (suc j) ts rest a h n =
     ⊎_elim
     (λ below. single (widened k j ts rest a (omega arith) n))
@@ -73,8 +73,7 @@ pub record NumberBetween (m r : ℕ) (d e : List Node) (mid rest : List TokenKin
 pub number_between : (m r : ℕ) (x : Operand) (d e f : List Node) (mid rest : List TokenKind) → Between m r x d e mid rest → as_number x e ≡ Some f
     → NumberBetween m r d f mid rest
 number_between m r operand.Truth d e f mid rest b h = cc
-number_between m r operand.Number d e f mid rest (k, a, in_reach, in_room, small, reads, nodes) h =
-    record { precedence_of = k; tree = a; in_reach = in_reach; in_room = in_room; small = small; reads = reads; nodes = cc }
+number_between m r operand.Number d e f mid rest (k, a, in_reach, in_room, small, reads, nodes) h = search arith
 number_between m r (operand.Plain n) d e f mid rest (is, nodes) h =
     record {
       precedence_of = 0;
@@ -86,18 +85,8 @@ number_between m r (operand.Plain n) d e f mid rest (is, nodes) h =
           subst (λ ts. Number 0 ts (literal n) rest) (sym is) of_literal;
       nodes = cc;
     }
-number_between m r (operand.Either n None) d e f mid rest (k, in_reach, in_room, small, reads, reads_truth, nodes) h =
-    record { precedence_of = k; tree = literal n; in_reach = in_reach; in_room = in_room; small = small; reads = reads; nodes = cc }
-number_between m r (operand.Either n (Some l)) d e f mid rest (k, in_reach, in_room, small, reads, reads_truth, nodes) h =
-    record {
-      precedence_of = k;
-      tree = applied Divide (literal n) (literal l);
-      in_reach = in_reach;
-      in_room = in_room;
-      small = small;
-      reads = reads;
-      nodes = cc;
-    }
+number_between m r (operand.Either n None) d e f mid rest (k, in_reach, in_room, small, reads, reads_truth, nodes) h = search (arith, literal)
+number_between m r (operand.Either n (Some l)) d e f mid rest (k, in_reach, in_room, small, reads, reads_truth, nodes) h = search (arith, applied, literal)
 
 pub record TruthBetween (m r : ℕ) (d e : List Node) (mid rest : List TokenKind) : Type 0 where
   pub tree : TruthTree
@@ -110,8 +99,7 @@ truth_between m r operand.Number d e f mid rest b h = cc
 truth_between m r operand.Truth d e f mid rest (a, reads, nodes) h = record { tree = a; reads = reads; nodes = cc }
 truth_between m r (operand.Plain n) d e f mid rest (is, nodes) h =
     record { tree = either_truth n None; reads = inl (subst (λ ts. Truth 0 ts (either_truth n None) rest) (sym is) (of_bare (number no_mask))); nodes = cc }
-truth_between m r (operand.Either n l) d e f mid rest (k, in_reach, in_room, small, reads, reads_truth, nodes) h =
-    record { tree = either_truth n l; reads = inl reads_truth; nodes = cc }
+truth_between m r (operand.Either n l) d e f mid rest (k, in_reach, in_room, small, reads, reads_truth, nodes) h = search (arith, inl)
 
 -- a truth where a chain has no room is a term
 term_of : {m r : ℕ} {mid rest : List TokenKind} {a : TruthTree} → r ≤ 6 → Truth 0 mid a rest ⊎ ((7 ≤ m) × (7 ≤ r) × Truth 1 mid a rest) → Truth 0 mid a rest
@@ -215,13 +203,13 @@ reduce_one m f fs x e start rest s false is_loose b others h = carried (λ (s : 
 
 pub reduce_sound : (m : ℕ) (fs : List Frame) (x : Operand) (e : List Node) (start rest : List TokenKind) (s : Reduced) → Following m fs x e start rest
     → reduce m fs x e ≡ Some s → Following m s.0 s.1 s.2 start rest
-reduce_sound m [] x e start rest s b reduced = carried (λ (s : Reduced). Following m s.0 s.1 s.2 start rest) b reduced
+reduce_sound m [] x e start rest s b reduced = search (arith, carried)
 reduce_sound m (f ∷ fs) x e start rest s b reduced =
     reduce_one m f fs x e start rest s (nat_le (precedence f) m) refl b (λ y g c h. reduce_sound m fs y g start rest s c h) reduced
 
 pub loosened : (m r : ℕ) (x : Operand) (d e : List Node) (mid rest : List TokenKind) → 1 ≤ m → Between 1 r x d e mid rest → Between m r x d e mid rest
 loosened m r operand.Number d e mid rest h (k, a, in_reach, in_room, small, reads, nodes) = (k, a, omega arith, in_room, small, reads, nodes)
-loosened m r operand.Truth d e mid rest h (a, reads, nodes) = (a, ⊎_elim (λ t. inl t) (λ (h, _, _). absurd (omega arith)) reads, nodes)
+loosened m r operand.Truth d e mid rest h (a, reads, nodes) = search (arith, inl)
 loosened m r (operand.Plain n) d e mid rest h b = b
 loosened m r (operand.Either n l) d e mid rest h (k, in_reach, in_room, small, reads, reads_truth, nodes) =
     (k, omega arith, in_room, small, reads, reads_truth, nodes)

@@ -49,16 +49,12 @@ run_begins_on (u ∷ ts) t fs d k s h e = rw (one-add, ← drop-map) (run_begins
 pub runs_on : (ts : List Token) (at used : ℕ) (fs gs : List Frame) (x y : Option Operand) (d e : List Node) (all : Option (List Node))
     → run (kinds_of (take (length ts - at) (drop at ts))) 0 fs x d ≡ run (kinds_of (drop used (take (length ts - at) (drop at ts)))) 0 gs y e
     → run (kinds_of (drop at ts)) 0 fs x d ≡ all → run (kinds_of (drop (at + used) ts)) 0 gs y e ≡ all
-runs_on ts at used fs gs x y d e all step before =
-    let left : drop used (take (length ts - at) (drop at ts)) ≡ drop (at + used) ts = ap (drop used) (take_rest ts at) ∙ drop-drop used at ts in
-    ap (λ us. run (kinds_of us) 0 gs y e) (sym left) ∙ sym step ∙ ap (λ us. run (kinds_of us) 0 fs x d) (take_rest ts at) ∙ before
+runs_on ts at used fs gs x y d e all step before = search (arith, take_rest, drop-drop)
 
 -- a reader stops where one that it calls does
 pub failed : {A B C D : Type 0} {given : Option B} {made : A → B} {left : Option D} {kept : C → D} {e : ExprFault} (result : Result C ExprFault)
     → Reads given made (Err e) → IsErrAnd result (λ f. f ≡ e) → (given ≡ None → left ≡ None) → Reads left kept result
-failed result h is none =
-    let p = err_from_is_err_and result is in
-    rw (p.1, p.2) (record { ok = tt; none = λ n. none (h.none cc); err = h.err })
+failed result h is none = search (arith, err_from_is_err_and)
 
 -- the same is given
 pub same_given : {A B : Type 0} {given other : Option B} {made : A → B} {result : Result A ExprFault} → given ≡ other → Reads other made result
@@ -81,8 +77,7 @@ run_begins_none (u ∷ ts) t fs d h e = rw e
 -- a number takes the length of a prefix
 pub prefix_taken : (ts : List TokenKind) (fs : List Frame) (x : Operand) (d : List Node) (n m : ℕ) → number_with_prefix x ts ≡ Some (n, m)
     → 1 ≤ operand_precedence fs → Reads (after_operand ts fs x d) (λ (r : ℕ × Option Operand). (r.0, (fs, r.1, d))) (Ok (1, Some (Either n (Some m))))
-prefix_taken ts fs x d n m found h =
-    rw (found, le_true 1 (operand_precedence fs) h) (record { ok = refl; none = λ e. cc; err = tt })
+prefix_taken ts fs x d n m found h = search (arith, le_true)
 
 -- or doesn't
 prefix_left : (ts : List TokenKind) (fs : List Frame) (x : Operand) (d : List Node) (o : Option (ℕ × ℕ)) → (o ≡ None) ⊎ (operand_precedence fs < 1)
@@ -108,14 +103,12 @@ pub read_stops : {C : Type 0} (ts : List Token) (at : ℕ) (fs : List Frame) (x 
     (all : Option (List Node)) (left : List Node) (result : Result C ExprFault)
     → (◌≡◌ {A = Result (ℕ × Option Operand) ExprFault} (Err e) (Err ExprFault.NotAnExpression) → run (kinds_of (take (length ts - at) (drop at ts))) 0
     fs x d ≡ None) → IsReadFault e → run (kinds_of (drop at ts)) 0 fs x d ≡ all → IsErrAnd result (λ f. f ≡ e) → Reads all (λ _. left) result
-read_stops ts at fs x d e all left result none fault before is =
-    let p = err_from_is_err_and result is in
-    rw (p.1, p.2) (record { ok = tt; none = λ n. sym before ∙ ap (λ us. run (kinds_of us) 0 fs x d) (sym (take_rest ts at)) ∙ none cc; err = fault })
+read_stops ts at fs x d e all left result none fault before is = search (arith, err_from_is_err_and, take_rest)
 
 -- and ends after the last token
 pub run_ends : (ts : List Token) (at : ℕ) (fs : List Frame) (x : Option Operand) (d : List Node) (all : Option (List Node))
     → length ts ≤ at → run (kinds_of (drop at ts)) 0 fs x d ≡ all → all ≡ finish x fs d
-run_ends ts at fs x d all h before = sym before ∙ ap (λ us. run (kinds_of us) 0 fs x d) (drop_all at ts h)
+run_ends ts at fs x d all h before = search (arith, drop_all)
 
 -- the faults of the reader are among those of the parser, and none is of the nesting
 pub parse_fault : {A : Type 0} (r : Result A ExprFault) → IfErr r IsReadFault
@@ -142,12 +135,12 @@ two_kinds (v ∷ w ∷ ts) t u a b = (cc, omega arith)
 
 pub prefix_at : (ts : List Token) (n : ℕ) → slice_get (kinds_of ts) 0 ≡ Some (token.Operator Divide) → slice_get (kinds_of ts) 1 ≡ Some
     (token.Number n) → Takes (prefix_of (kinds_of ts)) ts (Some n, 2)
-prefix_at ts n a b = let are = two_kinds ts _ _ a b in rw are.0 (record { value = refl; rest = refl; within = are.1 })
+prefix_at ts n a b = search (arith, two_kinds)
 
 pub mask_prefix_at : (ts : List Token) (n : ℕ) → slice_get (kinds_of ts) 0 ≡ Some (token.Operator Divide) → slice_get (kinds_of ts) 1 ≡ Some
     (token.Number n) → Takes (mask_of (kinds_of ts)) ts (NetMask.Prefix n, 2)
-mask_prefix_at ts n a b = let are = two_kinds ts _ _ a b in rw are.0 (record { value = refl; rest = refl; within = are.1 })
+mask_prefix_at ts n a b = search (arith, two_kinds)
 
 pub mask_at : (ts : List Token) (address parts : ℕ) → slice_get (kinds_of ts) 0 ≡ Some token.Mask → slice_get (kinds_of ts) 1 ≡ Some
     (token.Dotted address parts) → Takes (mask_of (kinds_of ts)) ts (NetMask.Mask (record { address = address; parts = parts }), 2)
-mask_at ts address parts a b = let are = two_kinds ts _ _ a b in rw are.0 (record { value = refl; rest = refl; within = are.1 })
+mask_at ts address parts a b = search (arith, two_kinds)

@@ -1,11 +1,11 @@
 -- A value with its qualifiers, as tokens and as the parser reads it; a number by itself waits,
 -- since it may be arithmetic.
-use Rattle.flt_lang.proofs.Common.{◌≡◌, ℕ, suc, zero, ◌+◌, ◌-◌, ◌<◌, ◌≤◌, List, [], ◌∷◌, length, drop, refl, sym, ap, ◌∙◌, arith, is_some, ◌||◌, Option, Some}
+use Rattle.flt_lang.proofs.Common.{◌≡◌, ℕ, suc, zero, ◌+◌, ◌-◌, ◌<◌, ◌≤◌, List, [], ◌∷◌, length, drop, refl, ap, ◌∙◌, arith, is_some, Option, Some}
 use Rattle.flt_lang.proofs.Common.{None, Bool, true, false, drop-drop, Protocol, Divide, Side, Source, Destination, ValueType, TokenKind, Direction, Qualifiers}
 use Rattle.flt_lang.proofs.Common.{NetMask, Value, Node, Frame, Operand, ReadsProtocol, no_protocol, protocol, ReadsDirection, no_direction, one_side}
 use Rattle.flt_lang.proofs.Common.{source_first, destination_first, ReadsType, no_type, of_type, ReadsQualifiers, qualifiers, is_written, ReadsMask, no_mask}
 use Rattle.flt_lang.proofs.Common.{prefix, dotted_mask, ReadsValue, number, dotted, ip6, ip6_prefix, mac, range, starts_value, protocol_of, direction_of}
-use Rattle.flt_lang.proofs.Common.{type_of, qualifiers_of, mask_of, value_of, ◌>>=◌, next_precedence, State, begin, run, valued_of, valued_or, primitive}
+use Rattle.flt_lang.proofs.Common.{type_of, qualifiers_of, mask_of, value_of, next_precedence, State, begin, run, primitive}
 use Rattle.flt_lang.proofs.Common.{with_frames, bare_of}
 use Rattle.flt_lang.proofs.ValuesBack.{carried, type_back, direction_back, qualifiers_back, ends_protocol, value_back}
 use Rattle.flt_words.specs.declared.token.TokenKind.TheVariants as token
@@ -20,11 +20,7 @@ pub record IsSuffix (ts rest : List TokenKind) : Type 0 where
   pub long : length ts ≡ used + length rest
 
 joined_suffix : (ts mid rest : List TokenKind) → IsSuffix ts mid → IsSuffix mid rest → IsSuffix ts rest
-joined_suffix ts mid rest a b = record {
-  used = a.used + b.used;
-  drops = sym (drop-drop b.used a.used ts) ∙ ap (drop b.used) a.drops ∙ b.drops;
-  long = omega (arith, a.long, b.long);
-}
+joined_suffix ts mid rest a b = search (arith, drop-drop)
 
 protocol_suffix : {ts rest : List TokenKind} {p : Option Protocol} → ReadsProtocol ts p rest → IsSuffix ts rest
 protocol_suffix no_protocol = record { used = 0; drops = refl; long = omega arith }
@@ -53,7 +49,7 @@ value_suffix ip6_prefix = record { used = 3; drops = refl; long = omega arith }
 value_suffix _ = record { used = 1; drops = refl; long = omega arith }
 
 qualifiers_suffix : {ts mid : List TokenKind} {q : Qualifiers} → ReadsQualifiers ts q mid → IsSuffix ts mid
-qualifiers_suffix (qualifiers p d k) = joined_suffix _ _ _ (joined_suffix _ _ _ (protocol_suffix p) (direction_suffix d)) (type_suffix k)
+qualifiers_suffix (qualifiers p d k) = search (arith, joined_suffix, protocol_suffix, direction_suffix, type_suffix)
 
 pub whole_suffix : {ts mid rest : List TokenKind} {q : Qualifiers} {v : Value} → ReadsQualifiers ts q mid → ReadsValue mid v rest → IsSuffix ts rest
 whole_suffix qs v = joined_suffix _ _ _ (qualifiers_suffix qs) (value_suffix v)
@@ -111,13 +107,7 @@ runs_past {ts} {rest} s shorter fs d e x begun = run_begins ts fs d _ _ (omega (
 pub valued_runs : {ts mid rest : List TokenKind} {q : Qualifiers} {v : Value} → ReadsQualifiers ts q mid → is_written q ≡ true → ReadsValue mid v rest
     → (fs : List Frame) (d : List Node) → 6 ≤ next_precedence rest → run ts 0 fs None d ≡ run rest 0 fs (Some operand.Truth) (node.Valued q v ∷ d)
 valued_runs {ts = ts} {mid = mid} {rest = rest} {q = q} {v = v} qs w vs fs d h =
-    let value_is = value_back vs h in
-    let qualifiers_are = qualifiers_back qs value_is.1 in
-    let found : valued_of ts ≡ Some (q, v, length ts - length rest - 1) = ap (λ r. value_of r.1 >>= λ x. Some (r.0, x.0, length ts - length x.1 - 1))
-    qualifiers_are ∙ ap (λ o. o >>= λ x. Some (q, x.0, length ts - length x.1 - 1)) value_is.0 in
-    let begun : begin ts fs d ≡ Some (length ts - length rest - 1, (fs, Some operand.Truth, node.Valued q v ∷ d)) =
-    begin_front ts fs d (front qs w value_is.1) ∙ ap (λ o. with_frames fs (valued_or o ts d)) found in
-    runs_past (whole_suffix qs vs) (whole_some qs vs) fs d _ _ begun
+    search (arith, value_back, qualifiers_back, begin_front, front, runs_past, whole_suffix, whole_some)
 
 protocol_sound : (ts : List TokenKind) → ReadsProtocol ts (protocol_of ts).0 (protocol_of ts).1
 protocol_sound (token.Protocol p ∷ ts) = protocol
@@ -139,7 +129,7 @@ qualifiers_sound ts = qualifiers (protocol_sound ts) (direction_sound (protocol_
 
 value_moved : (ts : List TokenKind) (r s : Value × List TokenKind) → ReadsValue ts r.0 r.1 → ◌≡◌ {A = Option (Value × List TokenKind)} (Some r)
     (Some s) → ReadsValue ts s.0 s.1
-value_moved ts r s v same = carried (λ (r : Value × List TokenKind). ReadsValue ts r.0 r.1) v same
+value_moved ts r s v same = search (arith, carried)
 
 mask_sound : (ts : List TokenKind) → ReadsMask ts (mask_of ts).0 (mask_of ts).1
 mask_sound (token.Operator Divide ∷ token.Number m ∷ ts) = prefix
@@ -147,9 +137,8 @@ mask_sound (token.Mask ∷ token.Dotted a p ∷ ts) = dotted_mask
 mask_sound _ = no_mask
 
 pub value_sound : (ts : List TokenKind) (r : Value × List TokenKind) → value_of ts ≡ Some r → ReadsValue ts r.0 r.1
-value_sound (token.Number n ∷ ts) r h = value_moved _ (value.Number n (mask_of ts).0, (mask_of ts).1) r (number (mask_sound ts)) h
-value_sound (token.Dotted a p ∷ ts) r h = value_moved _ (value.Dotted (record { address = a; parts = p }) (mask_of ts).0, (mask_of ts).1) r
-    (dotted (mask_sound ts)) h
+value_sound (token.Number n ∷ ts) r h = search (arith, value_moved, number, mask_sound)
+value_sound (token.Dotted a p ∷ ts) r h = search (arith, value_moved, dotted, mask_sound)
 value_sound (token.Ip6 a ∷ token.Operator Divide ∷ token.Number m ∷ ts) r h = value_moved _ (value.Ip6 a (Some m), ts) r ip6_prefix h
 value_sound (token.Ip6 a ∷ ts) r h = value_moved _ (value.Ip6 a None, ts) r ip6 h
 value_sound (token.Mac a ∷ ts) r h = value_moved _ (value.Mac a, ts) r mac h
@@ -163,7 +152,7 @@ side_some Destination (token.Join j ∷ token.Side Source ∷ ts) = refl
 side_some Destination _ = refl
 
 pub side_written : (s : Side) (ts : List TokenKind) → is_written (qualifiers_of (token.Side s ∷ ts)).0 ≡ true
-side_written s ts = ap (λ b. b || is_some (type_of (direction_of (token.Side s ∷ ts)).1).0) (side_some s ts)
+side_written s ts = search (arith, side_some)
 
 -- the tokens after a qualified value
 pub left_after : (t : TokenKind) (ts mid rest : List TokenKind) (q : Qualifiers) (v : Value) → ReadsQualifiers (t ∷ ts) q mid → ReadsValue mid v rest
@@ -189,12 +178,7 @@ begin_value _ fs d h = cc
 -- such a value is read
 pub value_runs : {ts rest : List TokenKind} {v : Value} → ReadsValue ts v rest → is_value_front ts ≡ true → (fs : List Frame) (d : List Node)
     → 6 ≤ next_precedence rest → run ts 0 fs None d ≡ run rest 0 fs (Some operand.Truth) (node.Bare v ∷ d)
-value_runs {ts = ts} {rest = rest} {v = v} vs is fs d h =
-    let found : bare_of ts d ≡ Some (length ts - length rest - 1, Some operand.Truth, node.Bare v ∷ d) =
-    ap (λ o. o >>= λ r. Some (length ts - length r.1 - 1, Some operand.Truth, node.Bare r.0 ∷ d)) (value_back vs h).0 in
-    let begun : begin ts fs d ≡ Some (length ts - length rest - 1, (fs, Some operand.Truth, node.Bare v ∷ d)) = begin_value ts fs d is
-    ∙ ap (λ o. with_frames fs o) found in
-    runs_past (value_suffix vs) (value_some vs) fs d _ _ begun
+value_runs {ts = ts} {rest = rest} {v = v} vs is fs d h = search (arith, value_back, begin_value, runs_past, value_suffix, value_some)
 
 -- there is no mask here
 abbrev pub IsNoMask : List TokenKind → Type 0
@@ -213,6 +197,4 @@ plain_runs n _ fs d h = refl
 
 -- the tokens after a value
 pub value_left : (t : TokenKind) (ts rest : List TokenKind) (v : Value) → ReadsValue (t ∷ ts) v rest → drop (length (t ∷ ts) - length rest - 1) ts ≡ rest
-value_left t ts rest v vs =
-    let suffix = value_suffix vs in
-    ap (λ k. drop k (t ∷ ts)) (used_is suffix (value_some vs)) ∙ suffix.drops
+value_left t ts rest v vs = search (arith, value_suffix, value_some)

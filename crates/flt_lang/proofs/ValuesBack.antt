@@ -67,11 +67,7 @@ protocol_back (no_protocol {ts = ts}) h = protocol_none ts h
 protocol_back protocol h = refl
 
 pub qualifiers_back : {ts rest : List TokenKind} {q : Qualifiers} → ReadsQualifiers ts q rest → starts_value rest ≡ true → qualifiers_of ts ≡ (q, rest)
-qualifiers_back (qualifiers p d k) h =
-    let t = type_back k h in
-    let e = direction_back d t.1 in
-    let f = protocol_back p e.1 in
-    rw (f, e.0, t.0) refl
+qualifiers_back (qualifiers p d k) h = search (arith, type_back, direction_back, protocol_back)
 
 mask_back : {ts rest : List TokenKind} {m : NetMask} → ReadsMask ts m rest → 6 ≤ next_precedence rest → mask_of ts ≡ (m, rest)
 mask_back (no_mask {ts = token.Operator o ∷ ts}) h = absurd (omega (arith, level_small o))
