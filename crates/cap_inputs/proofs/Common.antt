@@ -10,9 +10,9 @@ pub use Rattle.std.specs.BinaryHeap.{IsUpperBound, lt_by_cmp, heap_items}
 pub use Rattle.std.specs.List.{slice_set, All, list_all, list_any, position_or_len, slice_get, AllByRecursion}
 pub use Rattle.std.specs.{List.Sorted.IsPermutation, declared.cmp.Reverse.Reverse}
 pub use Rattle.cap_inputs.specs.{Cursor.ordering_of, Fresh.fresh_view, Fresh.fresh_inputs}
-pub use Rattle.cap_inputs.specs.Inputs.{device_limits, limits_of, InputView, InputsView, InputPast, AreInputsAfter, KnowGreatest, IsInput}
-pub use Rattle.cap_inputs.specs.Inputs.{ReadsInput, ReadSteps, greatest_of, input_after, input_after_decided, with_cursor, is_packet_found, key_of}
-pub use Rattle.cap_inputs.specs.Inputs.{ended_count, has_least_key, is_open, is_unready, next_at, next_of, place_next}
+pub use Rattle.cap_inputs.specs.Inputs.{device_limits, limits_of, InputView, InputsView, InputPast, AreInputsAfter, KnowGreatest, IsInput, ReadsInput}
+pub use Rattle.cap_inputs.specs.Inputs.{ReadSteps, greatest_of, input_after, input_after_decided, with_cursor, is_packet_found, key_of, ended_count}
+pub use Rattle.cap_inputs.specs.Inputs.{has_least_key, is_open, is_unready, next_at, next_of, place_next}
 pub use Rattle.cap_inputs.specs.declared.inputs.{Next.Next, Schedule.Schedule}
 pub use Rattle.cap_inputs.specs.declared.inputs.Schedule.TheVariants.{Turn, Merge}
 pub use Rattle.cap_inputs.specs.declared.queue.Waiting.{Waiting}

@@ -1,11 +1,10 @@
 -- Lemmas on one input among others: how it is found, and how it alone changes.
-use Rattle.cap_inputs.proofs.Common.{◌≡◌, ℕ, zero, suc, ◌+◌, ◌<◌, List, [], ◌∷◌, ◌++◌, length, max, Some, refl, sym, ◌∙◌, ap, subst, arith, get_or}
-use Rattle.cap_inputs.proofs.Common.{Bool, true, false, Result, Ok, append-nil, length-append, Placed, slice_set, Fault, Advances, slice_get, AllByRecursion}
-use Rattle.cap_inputs.proofs.Common.{PacketOrder, SectionFits, TakesIfAtHand, SkipsUnits, Phase, Reading, SourceView, Steps, end_offset, phase_after, Schedule}
-use Rattle.cap_inputs.proofs.Common.{Turn, Merge, ordering_of, schedule_after, schedule_after_decided, device_limits, limits_of, InputView}
-use Rattle.cap_inputs.proofs.Common.{InputsView, InputPast, AreInputsAfter, KnowGreatest, IsInput, ReadsInput, ReadSteps, greatest_of, input_after}
-use Rattle.cap_inputs.proofs.Common.{input_after_decided, map, InTurn, ByTime, order_of, first_schedule, FreshInput, fresh_view}
-use Rattle.cap_inputs.proofs.Common.{fresh_inputs}
+use Rattle.cap_inputs.proofs.Common.{◌≡◌, ℕ, zero, suc, ◌+◌, ◌<◌, List, [], ◌∷◌, ◌++◌, length, max, Some, refl, sym, ◌∙◌, ap, subst, arith, get_or, Bool, true}
+use Rattle.cap_inputs.proofs.Common.{false, Result, Ok, append-nil, length-append, Placed, slice_set, Fault, Advances, slice_get, AllByRecursion, PacketOrder}
+use Rattle.cap_inputs.proofs.Common.{SectionFits, TakesIfAtHand, SkipsUnits, Phase, Reading, SourceView, Steps, end_offset, phase_after, Schedule, Turn, Merge}
+use Rattle.cap_inputs.proofs.Common.{ordering_of, schedule_after, schedule_after_decided, device_limits, limits_of, InputView, InputsView, InputPast}
+use Rattle.cap_inputs.proofs.Common.{AreInputsAfter, KnowGreatest, IsInput, ReadsInput, ReadSteps, greatest_of, input_after, input_after_decided, map, InTurn}
+use Rattle.cap_inputs.proofs.Common.{ByTime, order_of, first_schedule, FreshInput, fresh_view, fresh_inputs}
 use Rattle.std.proofs.lemmas.Option.{slice_get_read}
 use Rattle.cap_octet.specs.Packet.{Captured}
 use Rattle.cap_io.specs.Position.{given_in_all}
