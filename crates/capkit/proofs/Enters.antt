@@ -1,6 +1,7 @@
 -- A command line that clap accepts has a subcommand, since one is required.
-use Rattle.capkit.proofs.Common.{rules, arith, ◌≡◌, ◌∙◌, ap, sym, refl, subst, Bool, true, false, List, [], ◌∷◌, Option, Some, None, ◌&&◌, is_some, not, find, if◌then◌else◌}
-use Rattle.capkit.proofs.Common.{option_map, Box, ArgMatches, subcommand_name_of, subcommand_rows_of, TakesWords, line_app, name_of, Asks, Subcommand}
+use Rattle.capkit.proofs.Common.{rules, arith, ◌≡◌, ◌∙◌, ap, sym, refl, subst, Bool, true, false, List, [], ◌∷◌, Option, Some, None, ◌&&◌, is_some, not, find}
+use Rattle.capkit.proofs.Common.{if◌then◌else◌, option_map, Box, ArgMatches, subcommand_name_of, subcommand_rows_of, TakesWords, line_app, name_of, Asks}
+use Rattle.capkit.proofs.Common.{Subcommand}
 use Rattle.std.specs.Box.{box_value}
 use Rattle.clap.specs.Faults.{built_fault, level_fault}
 use Rattle.clap.specs.Kinds.{Kinds, check_kinds, or_else}

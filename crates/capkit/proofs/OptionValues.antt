@@ -1,8 +1,7 @@
 -- The values of the options of `edit` and `print` are within their bounds.
-use Rattle.capkit.proofs.Common.{◌≡◌, ◌≤◌, ◌^◌, ◌-◌, ◌∙◌, ◌==◌, ap, refl, ℕ, Bool, true, false, Option, Some, None, Result, Ok}
-use Rattle.capkit.proofs.Common.{Err, arith, ◌&&◌, IfSome, nat_le, nat_lt, if◌then◌else◌, position, option_and_then, option_map_or, ParsesUnsigned}
-use Rattle.capkit.proofs.Common.{digits_value, without_leading_plus, and_from, and_parts, le-leb, is_at_least_one, is_time, is_window, least_window}
-use Rattle.capkit.proofs.Common.{most_window, ReadsOne, Text, number_between}
+use Rattle.capkit.proofs.Common.{◌≡◌, ◌≤◌, ◌^◌, ◌-◌, ◌∙◌, ◌==◌, ap, refl, ℕ, Bool, true, false, Option, Some, None, Result, Ok, Err, arith, ◌&&◌, IfSome}
+use Rattle.capkit.proofs.Common.{nat_le, nat_lt, if◌then◌else◌, position, option_and_then, option_map_or, ParsesUnsigned, digits_value, without_leading_plus}
+use Rattle.capkit.proofs.Common.{and_from, and_parts, le-leb, is_at_least_one, is_time, is_window, least_window, most_window, ReadsOne, Text, number_between}
 use Rattle.cap_octet.specs.{Digits.decimal_value}
 use Rattle.cap_octet.specs.Seconds.{duration_at, duration_value, duration_of_parts, time_below_end}
 use Rattle.cap_octet.specs.Timestamp.{date_time_value, time_value, time_of_parts}

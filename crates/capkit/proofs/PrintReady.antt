@@ -1,9 +1,8 @@
 -- A line of `print` without a fault may be run.
 use Rattle.capkit.proofs.Common.{◌≡◌, ◌∙◌, ap, arith, refl, codes, Bool, true, false, List, [], ◌∷◌, length, Option, Some, None, String, string_bytes, vec_len}
-use Rattle.capkit.proofs.Common.{◌&&◌, ◌||◌, is_none, is_some, nat_lt, not, option_map, if◌then◌else◌, Global, join_by, option_map_or}
-use Rattle.capkit.proofs.Common.{lt-ltb, has_at_most_one_output, is_at_least_one, Row, Text, IsPrintOf}
-use Rattle.capkit.proofs.Common.{is_ready, or_else, print_fault, Line}
-use Rattle.capkit.proofs.Common.{Usage, OptionsExclude, ◌++◌, ℕ, map}
+use Rattle.capkit.proofs.Common.{◌&&◌, ◌||◌, is_none, is_some, nat_lt, not, option_map, if◌then◌else◌, Global, join_by, option_map_or, lt-ltb}
+use Rattle.capkit.proofs.Common.{has_at_most_one_output, is_at_least_one, Row, Text, IsPrintOf, is_ready, or_else, print_fault, Line, Usage, OptionsExclude}
+use Rattle.capkit.proofs.Common.{◌++◌, ℕ, map}
 use Rattle.std.proofs.{Common.flat_map, Math.Bool.or-true, lemmas.Bool.or_parts}
 use Rattle.cap_octet.specs.declared.format.Format.{Format}
 use Rattle.capkit.specs.declared.ids.TheConstants as ids

@@ -1,8 +1,8 @@
 -- When a range, or the names of several inputs, are refused.
-use Rattle.capkit.proofs.Common.{arith, ◌≡◌, ◌≤◌, ◌<◌, ◌∙◌, ap, sym, refl, ℕ, Bool, true, false, List, [], ◌∷◌, length, map, take, Option, Some, None, slice_index_or}
-use Rattle.capkit.proofs.Common.{is_none, if◌then◌else◌, Bor, list_all, list_any, cond-false, and_from, cond-true, le-leb, le-ltb, lt-ltb, length-map, take_all}
-use Rattle.capkit.proofs.Common.{list_any-map, has_proper_ranges, is_range, most_ranges, Text, range_fault, range_number, range_of, sides_of, BadRange}
-use Rattle.capkit.proofs.Common.{TooManyValues, nat_lt, most_inputs, files_fault, or_else, uses_name_twice, Usage, NameUsedTwice}
+use Rattle.capkit.proofs.Common.{arith, ◌≡◌, ◌≤◌, ◌<◌, ◌∙◌, ap, sym, refl, ℕ, Bool, true, false, List, [], ◌∷◌, length, map, take, Option, Some, None}
+use Rattle.capkit.proofs.Common.{slice_index_or, is_none, if◌then◌else◌, Bor, list_all, list_any, cond-false, and_from, cond-true, le-leb, le-ltb, lt-ltb}
+use Rattle.capkit.proofs.Common.{length-map, take_all, list_any-map, has_proper_ranges, is_range, most_ranges, Text, range_fault, range_number, range_of}
+use Rattle.capkit.proofs.Common.{sides_of, BadRange, TooManyValues, nat_lt, most_inputs, files_fault, or_else, uses_name_twice, Usage, NameUsedTwice}
 use Rattle.capkit.proofs.WrittenRanges.{between}
 use Rattle.std.proofs.lemmas.List.Folds.{list_any_at}
 

@@ -1,8 +1,8 @@
 -- The range that is read from a word is the one that the word writes.
-use Rattle.capkit.proofs.Common.{◌≡◌, ◌∙◌, ◌++◌, ap, arith, refl, subst, sym, ℕ, Bool, true, false, List, ◌∷◌, Option, Some, None, IfNone}
-use Rattle.capkit.proofs.Common.{if◌then◌else◌, is_ascii_digit, after_first, before_first, list_all, list_any}
-use Rattle.capkit.proofs.Common.{IsNumeral, digits_value, and_from, and_parts, cond-true, eqb-true, lt-ltb, ltb-true, IsNumeralModel, not_in_digits}
-use Rattle.capkit.proofs.Common.{numerals_by_value, is_range, is_decimal, is_hyphen, range_number, range_between, range_of, sides_of}
+use Rattle.capkit.proofs.Common.{◌≡◌, ◌∙◌, ◌++◌, ap, arith, refl, subst, sym, ℕ, Bool, true, false, List, ◌∷◌, Option, Some, None, IfNone, if◌then◌else◌}
+use Rattle.capkit.proofs.Common.{is_ascii_digit, after_first, before_first, list_all, list_any, IsNumeral, digits_value, and_from, and_parts, cond-true}
+use Rattle.capkit.proofs.Common.{eqb-true, lt-ltb, ltb-true, IsNumeralModel, not_in_digits, numerals_by_value, is_range, is_decimal, is_hyphen, range_number}
+use Rattle.capkit.proofs.Common.{range_between, range_of, sides_of}
 use Rattle.capkit.proofs.Numbers.{any_by_place, test}
 use Rattle.std.proofs.lemmas.List.Sums.{passes_at_first, split_at_first}
 use Rattle.clap.proofs.CutLemmas.{Lacks, after_first-at, before_first-at, list_any-Lacks, list_any-at}
