@@ -1,11 +1,10 @@
 -- Lemmas on one input among others: how it is found, and how it alone changes.
-use Rattle.cap_inputs.proofs.Common.{◌≡◌, ℕ, zero, suc, ◌+◌, ◌<◌, List, [], ◌∷◌, ◌++◌, length, max, Option, Some, refl, sym, ◌∙◌, ap, ap₂, subst, arith, get_or}
-use Rattle.cap_inputs.proofs.Common.{Bool, true, false, Result, Ok, append-nil, length-append, Placed, slice_set, Fault, Advances, slice_get, AllByRecursion}
-use Rattle.cap_inputs.proofs.Common.{PacketOrder, SectionFits, TakesIfAtHand, SkipsUnits, Phase, Reading, SourceView, Steps, end_offset, phase_after, Schedule}
-use Rattle.cap_inputs.proofs.Common.{Turn, Merge, ordering_of, schedule_after, schedule_after_decided, DeviceLimits, device_limits, limits_of, InputView}
-use Rattle.cap_inputs.proofs.Common.{InputsView, InputPast, AreInputsAfter, KnowGreatest, IsInput, ReadsInput, ReadSteps, greatest_of, input_after}
-use Rattle.cap_inputs.proofs.Common.{input_after_decided, packet_time, with_cursor, map, InTurn, ByTime, order_of, first_schedule, FreshInput, fresh_view}
-use Rattle.cap_inputs.proofs.Common.{fresh_inputs}
+use Rattle.cap_inputs.proofs.Common.{◌≡◌, ℕ, zero, suc, ◌+◌, ◌<◌, List, [], ◌∷◌, ◌++◌, length, max, Some, refl, sym, ◌∙◌, ap, subst, arith, get_or, Bool, true}
+use Rattle.cap_inputs.proofs.Common.{false, Result, Ok, append-nil, length-append, Placed, slice_set, Fault, Advances, slice_get, AllByRecursion, PacketOrder}
+use Rattle.cap_inputs.proofs.Common.{SectionFits, TakesIfAtHand, SkipsUnits, Phase, Reading, SourceView, Steps, end_offset, phase_after, Schedule, Turn, Merge}
+use Rattle.cap_inputs.proofs.Common.{ordering_of, schedule_after, schedule_after_decided, device_limits, limits_of, InputView, InputsView, InputPast}
+use Rattle.cap_inputs.proofs.Common.{AreInputsAfter, KnowGreatest, IsInput, ReadsInput, ReadSteps, greatest_of, input_after, input_after_decided, map, InTurn}
+use Rattle.cap_inputs.proofs.Common.{ByTime, order_of, first_schedule, FreshInput, fresh_view, fresh_inputs}
 use Rattle.std.proofs.lemmas.Option.{slice_get_read}
 use Rattle.cap_octet.specs.Packet.{Captured}
 use Rattle.cap_io.specs.Position.{given_in_all}
@@ -20,15 +19,15 @@ weaker P Q each (x ∷ xs) all = (each x all.0, weaker P Q each xs all.1)
 
 -- an input before others
 pub later-input : (x : InputView) (xs : List InputView) (i : ℕ) (h : InputView) → IsInput xs i h → IsInput (x ∷ xs) (suc i) h
-later-input x xs i h a = record { front = x ∷ a.front; back = a.back; place = ap suc a.place; splits = ap (λ (l : List InputView). x ∷ l) a.splits }
+later-input x xs i h a = record { front = x ∷ a.front; back = a.back; place = ap suc a.place; splits = ap (λ l. x ∷ l) a.splits }
 
 pub input-at : (cursors : List InputView) (i : ℕ) (h : InputView) → slice_get cursors i ≡ Some h → IsInput cursors i h
 input-at [] i h is = (cc)
-input-at (x ∷ xs) zero h is = let same : x ≡ h = cc in record { front = []; back = xs; place = refl; splits = ap (λ (y : InputView). y ∷ xs) same }
+input-at (x ∷ xs) zero h is = let same : x ≡ h = cc in record { front = []; back = xs; place = refl; splits = ap (λ y. y ∷ xs) same }
 input-at (x ∷ xs) (suc i) h is = later-input x xs i h (input-at xs i h is)
 
 pub get-among : (cursors : List InputView) (i : ℕ) (h : InputView) → i < length cursors → h ≡ get_or cursors i h → IsInput cursors i h
-get-among cursors i h within is = input-at cursors i h (slice_get_read cursors (length cursors) i h refl within is)
+get-among cursors i h within is = grind (arith, input-at, slice_get_read)
 
 pub get-here : (xs ys : List InputView) (h : InputView) → slice_get (xs ++ h ∷ ys) (length xs) ≡ Some h
 get-here [] ys h = refl
@@ -38,14 +37,14 @@ pub get-input : (cursors : List InputView) (i : ℕ) (h : InputView) → IsInput
 get-input cursors i h a = rw (a.splits, ← a.place) (get-here a.front a.back h)
 
 pub same-input : (cursors : List InputView) (i : ℕ) (h h' : InputView) → IsInput cursors i h → IsInput cursors i h' → h ≡ h'
-same-input cursors i h h' a b = let both : Some h ≡ Some h' = sym (get-input cursors i h a) ∙ get-input cursors i h' b in cc
+same-input cursors i h h' a b = let both = sym (get-input cursors i h a) ∙ get-input cursors i h' b in cc
 
 pub set-here : (front back : List InputView) (h w : InputView) (i : ℕ) → length front ≡ i → slice_set (front ++ h ∷ back) i w ≡ front ++ w ∷ back
 set-here [] back h w i place = rw (← place) refl
-set-here (x ∷ xs) back h w i place = rw (← place) (ap (λ (l : List InputView). x ∷ l) (set-here xs back h w (length xs) refl))
+set-here (x ∷ xs) back h w i place = rw (← place) (ap (λ l. x ∷ l) (set-here xs back h w _ refl))
 
 pub set-among : (cursors : List InputView) (i : ℕ) (h h' : InputView) (a : IsInput cursors i h) → slice_set cursors i h' ≡ a.front ++ h' ∷ a.back
-set-among cursors i h h' a = ap (λ (l : List InputView). slice_set l i h') a.splits ∙ set-here a.front a.back h h' i a.place
+set-among cursors i h h' a = grind (arith, set-here)
 
 -- the order of the packets stays
 pub schedule-order : (schedule : Schedule) (i : ℕ) (r : Result Bool Fault) → ordering_of (schedule_after schedule i r) ≡ ordering_of schedule
@@ -65,59 +64,41 @@ pub fetches-by : (inputs : InputsView) (i : ℕ) (r : Result Bool Fault) (old ne
     → i < length inputs.cursors → old ≡ get_or inputs.cursors i old
     → Advances old.source.phase old.source r new.source → Steps old.source.phase old.source r new.source → new ≡ input_after old r new.source
     → ReadsInput inputs i r (record { order = order; cursors = slice_set inputs.cursors i new })
-fetches-by inputs i r old new order same within value advances steps is = record {
-  cursor = old;
-  among = get-among inputs.cursors i old within value;
-  source = new.source;
-  advances = advances;
-  steps = steps;
-  is = rw same (ap (with_cursor inputs i) is);
-}
+fetches-by inputs i r old new order same within value advances steps is = grind (arith, get-among)
 
 pub read_input-steps-by : (inputs : InputsView) (i : ℕ) (r : Result Bool Fault) (old new : InputView) (order : PacketOrder) → order ≡ inputs.order
     → i < length inputs.cursors → old ≡ get_or inputs.cursors i old
     → Steps old.source.phase old.source r new.source → new.source.phase ≡ phase_after r → SectionFits new.source.declared → new ≡ input_after old r new.source
     → ReadSteps inputs i r (record { order = order; cursors = slice_set inputs.cursors i new })
-read_input-steps-by inputs i r old new order same within value steps phase upper_bound is = record {
-  cursor = old;
-  among = get-among inputs.cursors i old within value;
-  source = new.source;
-  steps = steps;
-  phase = phase;
-  upper_bound = upper_bound;
-  is = rw same (ap (with_cursor inputs i) is);
-}
+read_input-steps-by inputs i r old new order same within value steps phase upper_bound is = grind (arith, get-among)
 
 -- ---- what no step changes of a device
 
 pub limits-at : (xs ys : List InputView) (h h' : InputView) → limits_of h'.source ≡ limits_of h.source → device_limits (xs ++ h' ∷ ys) ≡ device_limits
     (xs ++ h ∷ ys)
-limits-at [] ys h h' same = ap (λ (b : DeviceLimits). b ∷ device_limits ys) same
-limits-at (x ∷ xs) ys h h' same = ap (λ (l : List DeviceLimits). limits_of x.source ∷ l) (limits-at xs ys h h' same)
+limits-at [] ys h h' same = ap (λ b. b ∷ device_limits ys) same
+limits-at (x ∷ xs) ys h h' same = ap (λ l. limits_of x.source ∷ l) (limits-at xs ys h h' same)
 
 same-limits : (old new : SourceView) → new.sure ≡ old.sure → given_in_all new ≡ given_in_all old → limits_of new ≡ limits_of old
-same-limits old new sure in_all = ap₂ (λ (s : Option ℕ) (n : ℕ). record { sure = s; in_all = n }) sure in_all
+same-limits old new sure in_all = cc
 
 -- the bytes that were skipped, and those of the current unit, are given
 skipped-in_all : (old new : SourceView) (rest : List ℕ) → (passes : SkipsUnits old new rest) → length rest ≡ length new.block + length new.unread
     → new.given + end_offset old ≡ old.given + end_offset new
     → given_in_all new ≡ given_in_all old
-skipped-in_all old new rest passes left counted =
-    let split : length old.unread ≡ length passes.passed + length rest = ap length passes.splits ∙ length-append passes.passed rest in
-    omega (arith, split, left, counted, passes.offset)
+skipped-in_all old new rest passes left counted = grind (arith, length-append)
 
 limits-by : (p : Phase) (old new : SourceView) (found : Bool) → Steps p old (Ok found) new → Advances p old (Ok found) new → limits_of new ≡ limits_of old
-limits-by Reading old new true steps finds =
-    same-limits old new steps.sure (skipped-in_all old new (new.block ++ new.unread) finds.passes (length-append new.block new.unread) steps.counted)
+limits-by Reading old new true steps finds = grind (arith, same-limits, skipped-in_all, length-append)
 limits-by Reading old new false steps finds =
-    let none : length new.block ≡ 0 = ap length finds.block in
-    let over : length new.unread ≡ 0 = ap length finds.unread in
-    same-limits old new steps.sure (skipped-in_all old new [] finds.passes (omega (arith, none, over)) steps.counted)
+    let none : length new.block ≡ 0 = cc in
+    let over : length new.unread ≡ 0 = cc in
+    same-limits old new steps.sure (skipped-in_all old new [] finds.passes (omega (arith, none)) steps.counted)
 limits-by _ old new found steps advances = ap limits_of steps.1
 
 pub limits-kept : (old new : SourceView) (found : Bool) → Steps old.phase old (Ok found) new → Advances old.phase old (Ok found) new
     → limits_of new ≡ limits_of old
-limits-kept old new found steps advances = limits-by old.phase old new found steps advances
+limits-kept old new found steps advances = limits-by _ old new found steps advances
 
 -- ---- the greatest time
 
@@ -128,10 +109,7 @@ greatest-more (p ∷ ps) x = omega (arith, greatest-more ps x)
 -- one more packet is done
 pub greatest-decided : (h : InputView) (p : Captured) (offset : ℕ) (ps : List Placed) → h.source.packet ≡ Some p → h.greatest ≡ greatest_of ps
     → (input_after_decided h).greatest ≡ greatest_of (ps ++ record { offset = offset; packet = p } ∷ [])
-greatest-decided h p offset ps held knows =
-    ap (λ (o : Option Captured). max h.greatest (packet_time o)) held
-    ∙ ap (λ (n : ℕ). max n p.time) knows
-    ∙ sym (greatest-more ps (record { offset = offset; packet = p }))
+greatest-decided h p offset ps held knows = grind (arith, greatest-more)
 
 -- no packet more is done
 pub greatest-same : (g : ℕ) (ps : List Placed) → g ≡ greatest_of ps → g ≡ greatest_of (ps ++ [])
@@ -149,7 +127,7 @@ greatest-here (u ∷ us) vs s s' (x ∷ xs) ys h h' following knows goes = (know
 
 map-map : {X : Type 0} (f : X → FreshInput) (xs : List X) → map (λ x. fresh_view (f x)) xs ≡ map fresh_view (map f xs)
 map-map f [] = refl
-map-map f (x ∷ xs) = ap (λ (l : List InputView). fresh_view (f x) ∷ l) (map-map f xs)
+map-map f (x ∷ xs) = ap (λ l. fresh_view (f x) ∷ l) (map-map f xs)
 
 pub first-ordering : (order : PacketOrder) (count : ℕ) → ordering_of (first_schedule order count) ≡ order
 first-ordering InTurn count = refl
@@ -159,6 +137,4 @@ first-ordering ByTime count = refl
 pub first-inputs : {X : Type 0} (f : X → FreshInput) (xs : List X) (cursors : List InputView) (schedule : Schedule) (merges : Bool)
     → cursors ≡ map (λ x. fresh_view (f x)) xs → schedule ≡ first_schedule (order_of merges) (length cursors)
     → record { order = ordering_of schedule; cursors = cursors } ≡ fresh_inputs (order_of merges) (map f xs)
-first-inputs f xs cursors schedule merges is at =
-    ap (λ (o : PacketOrder). record { order = o; cursors = cursors }) (ap ordering_of at ∙ first-ordering (order_of merges) (length cursors))
-    ∙ ap (λ (l : List InputView). record { order = order_of merges; cursors = l }) (is ∙ map-map f xs)
+first-inputs f xs cursors schedule merges is at = grind (arith, first-ordering, map-map)

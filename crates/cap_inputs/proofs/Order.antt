@@ -1,6 +1,6 @@
 -- The packets of a merge, continued from the current ones, are in the order of the complete inputs.
 use Rattle.cap_inputs.proofs.Common.{AllByRecursion, ◌≡◌, ℕ, suc, ◌+◌, ◌<◌, ◌≤◌, true, false, max, List, [], ◌∷◌, ◌++◌, length, refl, sym, ◌∙◌, ap, arith}
-use Rattle.cap_inputs.proofs.Common.{add-zero, subst, append_assoc, nat_tests, Fault, Placed, Items, Ending, Packet, SequenceEnd, Complete, FaultIn, with_front}
+use Rattle.cap_inputs.proofs.Common.{add-zero, subst, append_assoc, Fault, Placed, Items, Ending, Packet, SequenceEnd, Complete, FaultIn, with_front}
 use Rattle.cap_inputs.proofs.Common.{InputItems, Entry, end_after, entries_of, all_entries, comes_before, insert_entry, sort_entries, sequence_of_entries}
 use Rattle.cap_inputs.proofs.Common.{first_end, fault_without_packets, unless_fault, sequence_by_time}
 use Rattle.cap_io.proofs.Merging.{each-append, each-sorted}
@@ -20,7 +20,7 @@ put_in-first e (x ∷ xs) h = rw h.0 refl
 -- what comes before all others is first in the order
 pub sorted-first : (e : Entry) (xs ys : List Entry) → AllByRecursion (λ x. comes_before e x ≡ true) xs
     → AllByRecursion (λ y. comes_before y e ≡ false) ys → sort_entries (xs ++ e ∷ ys) ≡ e ∷ sort_entries (xs ++ ys)
-sorted-first e [] ys a b = put_in-first e (sort_entries ys) (each-sorted (λ y. comes_before y e ≡ false) ys b)
+sorted-first e [] ys a b = put_in-first e _ (each-sorted (λ y. comes_before y e ≡ false) ys b)
 sorted-first e (x ∷ xs) ys a b = ap (insert_entry x) (sorted-first e xs ys a.1 b) ∙ rw a.0 refl
 
 -- the keys of an input never fall
@@ -32,18 +32,18 @@ entries-follow : (input : ℕ) (ending : Ending) (greatest : ℕ) (ps : List Pla
 entries-follow input ending greatest [] = tt
 entries-follow input ending greatest (p ∷ ps) = (
   (refl, omega arith),
-  weaker (FollowsIn input (max greatest p.packet.time)) (FollowsIn input greatest) (λ x f. (f.0, omega (arith, f.1)))
-      (entries_of input ending (max greatest p.packet.time) ps) (entries-follow input ending (max greatest p.packet.time) ps),
+  weaker _ _ (λ x f. (f.0, omega arith))
+      _ (entries-follow input ending (max greatest _) ps),
 )
 
 ahead : (e x : Entry) → e.key < x.key → comes_before e x ≡ true
-ahead e x h = grind (arith, nat_tests, h)
+ahead e x h = grind arith
 
 later : (e x : Entry) → e.key ≤ x.key → e.input + 1 ≤ x.input → comes_before x e ≡ false
-later e x h l = grind (arith, nat_tests, h, l)
+later e x h l = grind arith
 
 later-own : (e x : Entry) → FollowsIn e.input e.key x → comes_before x e ≡ false
-later-own e x h = grind (arith, nat_tests, h.0, h.1)
+later-own e x h = grind arith
 
 -- the least key among the remaining items of an input is at least the input's key
 abbrev pub IsFrom : ℕ → ℕ → List Placed → Type 0
@@ -58,26 +58,26 @@ entries-each : (Q : Entry → Type 0) (k input : ℕ) (ending : Ending) (greates
     → ((x : Entry) → k ≤ x.key → x.input ≡ input → Q x) → AllByRecursion Q (entries_of input ending greatest ps)
 entries-each Q k input ending greatest [] from each = tt
 entries-each Q k input ending greatest (p ∷ ps) from each = (
-  each (record { key = max greatest p.packet.time; input = input; p = p; end = end_after input ending ps }) from refl,
-  weaker (FollowsIn input (max greatest p.packet.time)) Q (λ x f. each x (omega (arith, from, f.1)) f.0)
-      (entries_of input ending (max greatest p.packet.time) ps)
-      (entries-follow input ending (max greatest p.packet.time) ps),
+  each (record { key = max greatest _; input = input; p = p; end = end_after input ending ps }) from refl,
+  weaker _ Q (λ x f. each x (omega arith) f.0)
+      _
+      (entries-follow input ending _ ps),
 )
 
 all-each : (Q : Entry → Type 0) (k input : ℕ) (rs : List InputItems) → AllFrom k rs → ((x : Entry) → k ≤ x.key → input ≤ x.input → Q x)
     → AllByRecursion Q (all_entries input rs)
 all-each Q k input [] from each = tt
 all-each Q k input (r ∷ rs) from each =
-    each-append Q (input_entries input r) (all_entries (input + 1) rs) (entries-each Q k input r.items.ending r.greatest r.items.packets from.0
-    (λ x le is. each x le (omega (arith, is))))
-    (all-each Q k (input + 1) rs from.1 (λ x le l. each x le (omega (arith, l))))
+    each-append Q _ _ (entries-each Q k input _ _ _ from.0
+    (λ x le is. each x le (omega arith)))
+    (all-each Q k (input + 1) rs from.1 (λ x le l. each x le (omega arith)))
 
 all_entries-append : (input : ℕ) (xs ys : List InputItems) → all_entries input (xs ++ ys) ≡ all_entries input xs ++ all_entries (input + length xs) ys
 all_entries-append input [] ys = rw add-zero refl
 all_entries-append input (x ∷ xs) ys =
     let e : input + suc (length xs) ≡ (input + 1) + length xs = omega arith in
     rw (e, all_entries-append (input + 1) xs ys)
-    (sym (append_assoc (input_entries input x) (all_entries (input + 1) xs) (all_entries (input + 1 + length xs) ys)))
+    (sym (append_assoc (input_entries input x) _ _))
 
 first-close-assoc : (a b c : SequenceEnd) → first_end a (first_end b c) ≡ first_end (first_end a b) c
 first-close-assoc Complete b c = refl
@@ -88,12 +88,12 @@ broken-append : (input : ℕ) (xs ys : List InputItems) → fault_without_packet
 broken-append input [] ys = rw add-zero refl
 broken-append input (x ∷ xs) ys =
     let e : input + suc (length xs) ≡ (input + 1) + length xs = omega arith in
-    rw (e, broken-append (input + 1) xs ys) (first-close-assoc (end_at input x) (fault_without_packets (input + 1) xs)
-    (fault_without_packets (input + 1 + length xs) ys))
+    rw (e, broken-append (input + 1) xs ys) (first-close-assoc (end_at input x) _
+    _)
 
 first-over : (a b : SequenceEnd) → first_end a b ≡ Complete → (a ≡ Complete) × (b ≡ Complete)
 first-over Complete b h = (refl, h)
-first-over (FaultIn i f o) b h = absurd (let e : FaultIn i f o ≡ Complete = h in cc)
+first-over (FaultIn i f o) b h = absurd (let e = h in cc)
 
 over-right : (a : SequenceEnd) → first_end a Complete ≡ a
 over-right Complete = refl
@@ -108,12 +108,11 @@ pub merged-next : (xs ys : List InputItems) (g : ℕ) (p : Placed) (items : Item
     ≡ with_front (Packet (length xs) p ∷ [])
     (sequence_by_time (xs ++ record {
       greatest = max g p.packet.time;
-      items =
-          record { packets = ps; declared = items.declared; ending = items.ending };
+      items = record { packets = ps; declared = items.declared; ending = items.ending };
       size = size;
     } ∷ ys))
 merged-next xs ys g p items ps size is whole over from =
-    let k : ℕ = max g p.packet.time in
+    let k : ℕ = max g _ in
     let n : ℕ = length xs in
     let r : InputItems = record { greatest = g; items = record { packets = p ∷ ps; declared = items.declared; ending = items.ending }; size = size } in
     let r' : InputItems = record { greatest = k; items = record { packets = ps; declared = items.declared; ending = items.ending }; size = size } in
@@ -121,29 +120,29 @@ merged-next xs ys g p items ps size is whole over from =
     ap (λ (l : List Placed). record { greatest = g; items = record { packets = l; declared = items.declared; ending = items.ending }; size = size }) is in
     let B : InputItems → Type 0 = λ z. fault_without_packets 0 (xs ++ z ∷ ys) ≡ Complete in
     let whole' : fault_without_packets 0 (xs ++ r ∷ ys) ≡ Complete = subst B same whole in
-    let e : Entry = record { key = k; input = n; p = p; end = end_after n items.ending ps } in
+    let e : Entry = record { key = k; input = n; p = p; end = end_after n _ ps } in
     let zero : 0 + n ≡ n = omega arith in
-    let apart = first-over (fault_without_packets 0 xs) (fault_without_packets (0 + n) (r ∷ ys)) (sym (broken-append 0 xs (r ∷ ys)) ∙ whole') in
+    let apart = first-over _ (fault_without_packets (0 + n) (r ∷ ys)) (sym (broken-append 0 xs (r ∷ ys)) ∙ whole') in
     let rest = first-over (end_at (0 + n) r) (fault_without_packets (0 + n + 1) ys) apart.1 in
     let after_e : List Entry = input_entries n r' ++ all_entries (n + 1) ys in
-    let old : all_entries 0 (xs ++ r ∷ ys) ≡ all_entries 0 xs ++ e ∷ after_e = all_entries-append 0 xs (r ∷ ys)
+    let old = all_entries-append 0 xs (r ∷ ys)
     ∙ ap (λ (m : ℕ). all_entries 0 xs ++ all_entries m (r ∷ ys)) zero in
-    let new : all_entries 0 (xs ++ r' ∷ ys) ≡ all_entries 0 xs ++ after_e = all_entries-append 0 xs (r' ∷ ys)
-    ∙ ap (λ (m : ℕ). all_entries 0 xs ++ all_entries m (r' ∷ ys)) zero in
+    let new = all_entries-append 0 xs (r' ∷ ys)
+    ∙ ap (λ m. all_entries 0 xs ++ all_entries m (r' ∷ ys)) zero in
     let follows : AllByRecursion (λ x. comes_before x e ≡ false) after_e =
-    each-append (λ x. comes_before x e ≡ false) (input_entries n r') (all_entries (n + 1) ys)
+    each-append (λ x. comes_before x e ≡ false) _ _
     (weaker (FollowsIn n k) (λ x. comes_before x e ≡ false) (λ x h. later-own e x h) (input_entries n r') (entries-follow n items.ending k ps))
     (all-each (λ x. comes_before x e ≡ false) k (n + 1) ys from (λ x le l. later e x le l)) in
     let first : sort_entries (all_entries 0 (xs ++ r ∷ ys)) ≡ e ∷ sort_entries (all_entries 0 (xs ++ r' ∷ ys)) =
     ap sort_entries old ∙ sorted-first e (all_entries 0 xs) after_e
     (all-each (λ x. comes_before e x ≡ true) (k + 1) 0 xs over (λ x le l. ahead e x (omega (arith, le)))) follows
-    ∙ ap (λ (l : List Entry). e ∷ sort_entries l) (sym new) in
-    let left_broken : fault_without_packets 0 (xs ++ r' ∷ ys) ≡ end_after n items.ending ps =
-    broken-append 0 xs (r' ∷ ys)
+    ∙ ap (λ l. e ∷ sort_entries l) (sym new) in
+    let left_broken =
+    broken-append 0 xs _
     ∙ ap (λ (c : SequenceEnd). first_end c (fault_without_packets (0 + n) (r' ∷ ys))) apart.0
     ∙ ap (λ (c : SequenceEnd). first_end (end_at (0 + n) r') c) rest.1
     ∙ over-right (end_at (0 + n) r')
-    ∙ ap (λ (m : ℕ). end_at m r') zero in
+    ∙ ap (λ m. end_at m r') zero in
     ap (λ (z : InputItems). sequence_by_time (xs ++ z ∷ ys)) same
     ∙ ap (λ (c : SequenceEnd). unless_fault c (sequence_of_entries (sort_entries (all_entries 0 (xs ++ r ∷ ys))))) whole'
     ∙ ap sequence_of_entries first
@@ -155,10 +154,4 @@ merged-next xs ys g p items ps size is whole over from =
 pub merged-broken : (xs ys : List InputItems) (r : InputItems) (fault : Fault) (offset : ℕ) → fault_without_packets 0 xs ≡ Complete
     → end_at (length xs) r ≡ FaultIn (length xs) fault offset
     → sequence_by_time (xs ++ r ∷ ys) ≡ record { events = []; end = FaultIn (length xs) fault offset }
-merged-broken xs ys r fault offset none is =
-    let zero : 0 + length xs ≡ length xs = omega arith in
-    ap (λ (c : SequenceEnd). unless_fault c (sequence_of_entries (sort_entries (all_entries 0 (xs ++ r ∷ ys)))))
-    (broken-append 0 xs (r ∷ ys)
-    ∙ ap (λ (c : SequenceEnd). first_end c (fault_without_packets (0 + length xs) (r ∷ ys))) none
-    ∙ ap (λ (m : ℕ). fault_without_packets m (r ∷ ys)) zero
-    ∙ ap (λ (c : SequenceEnd). first_end c (fault_without_packets (length xs + 1) ys)) is)
+merged-broken xs ys r fault offset none is = grind (arith, broken-append)

@@ -24,7 +24,7 @@ all-at Q (x ∷ xs) (suc i) h all is = all-at Q xs i h all.1 is
 get-front : (xs zs : List InputView) (i : ℕ) → i < length xs → slice_get (xs ++ zs) i ≡ slice_get xs i
 get-front [] zs i within = absurd (omega arith)
 get-front (x ∷ xs) zs zero within = refl
-get-front (x ∷ xs) zs (suc i) within = get-front xs zs i (omega (arith, within))
+get-front (x ∷ xs) zs (suc i) within = get-front xs zs i (omega arith)
 
 get-back : (xs ys : List InputView) (h : InputView) (i : ℕ) → slice_get (xs ++ h ∷ ys) (length xs + suc i) ≡ slice_get ys i
 get-back [] ys h i = let one : 0 + suc i ≡ suc i = omega arith in rw one refl
@@ -33,25 +33,21 @@ get-back (x ∷ xs) ys h i = let one : suc (length xs) + suc i ≡ suc (length x
 -- the inputs before one, and those after it
 module _ (cursors : List InputView) (i : ℕ) (h : InputView) (a : IsInput cursors i h) where
   front-of : (Q : InputView → Type 0) → ((j : ℕ) (k : InputView) → j < i → slice_get cursors j ≡ Some k → Q k) → AllByRecursion Q a.front
-  front-of Q each = all-of Q a.front (λ j k is. (
-      let within = slice_get_within a.front j k is in
-      each j k (omega (arith, within, a.place)) (ap (λ (l : List InputView). slice_get l j) a.splits ∙ get-front a.front (h ∷ a.back) j within ∙ is)))
+  front-of Q each = grind (arith, all-of, slice_get_within, get-front)
 
   front-at : (Q : InputView → Type 0) (j : ℕ) (k : InputView) → AllByRecursion Q a.front → j < i → slice_get cursors j ≡ Some k → Q k
-  front-at Q j k all less is = all-at Q a.front j k all
-      (sym (ap (λ (l : List InputView). slice_get l j) a.splits ∙ get-front a.front (h ∷ a.back) j (omega (arith, less, a.place))) ∙ is)
+  front-at Q j k all less is = grind (arith, all-at, get-front)
 
   back-of : (Q : InputView → Type 0) → ((j : ℕ) (k : InputView) → i < j → slice_get cursors j ≡ Some k → Q k) → AllByRecursion Q a.back
-  back-of Q each = all-of Q a.back (λ j k is. each (length a.front + suc j) k (omega (arith, a.place))
-      (ap (λ (l : List InputView). slice_get l (length a.front + suc j)) a.splits ∙ get-back a.front a.back h j ∙ is))
+  back-of Q each = grind (arith, all-of, get-back)
 
 -- another cursor of an input, where the others stay
 each-set : (P P' : ℕ → InputView → Type 0) (cursors : List InputView) (i : ℕ) (h h' : InputView) → IsInput cursors i h → EachAt P cursors → P' i h'
     → ((j : ℕ) (k : InputView) → j ≢ i → slice_get cursors j ≡ Some k → P j k → P' j k) → EachAt P' (slice_set cursors i h')
 each-set P P' cursors i h h' a each here others j k is =
     elim (parts a.front a.back j (rw (set-among cursors i h h' a) at is)) [
-      | inl (place, same) ↦ (let at : j ≡ i = place ∙ a.place in rw (at, ← same) here)
-      | inr (other, stays) ↦ (let was : slice_get cursors j ≡ Some k = rw a.splits stays in others j k (λ e. other (e ∙ sym a.place)) was (each j k was))
+      | inl (place, same) ↦ (let at : j ≡ i = cc in rw (at, ← same) here)
+      | inr (other, stays) ↦ (let was : slice_get cursors j ≡ Some k = cc in others j k (λ e. other (e ∙ sym a.place)) was (each j k was))
     ]
   where
     parts : (xs ys : List InputView) (j : ℕ) → slice_get (xs ++ h' ∷ ys) j ≡ Some k → ((j ≡ length xs) × (h' ≡ k)) ⊎
@@ -70,7 +66,7 @@ each-set P P' cursors i h h' a each here others j k is =
 some-at : (cursors : List InputView) (i : ℕ) → i < length cursors → (h : InputView) × slice_get cursors i ≡ Some h
 some-at [] i within = absurd (omega arith)
 some-at (x ∷ xs) zero within = (x, refl)
-some-at (x ∷ xs) (suc i) within = some-at xs i (omega (arith, within))
+some-at (x ∷ xs) (suc i) within = some-at xs i (omega arith)
 
 waits-is : (cursors : List InputView) (i : ℕ) (waiting : Bool) → waits_at cursors i ≡ Some waiting → (h : InputView) × slice_get cursors i ≡ Some h
     × h.waiting ≡ waiting
@@ -87,34 +83,29 @@ at-turn turn cursors i waiting placed here waits =
       cursor = found.0;
       among = a;
       waits = found.2;
-      unended = (placed i found.0 found.1).1 (omega (arith, here));
-      front = front-of cursors i found.0 a _ (λ j k less is. (placed j k is).0 (omega (arith, less, here)));
-      back = back-of cursors i found.0 a _ (λ j k more is. (placed j k is).1 (omega (arith, more, here)));
+      unended = (placed i found.0 found.1).1 (omega arith);
+      front = front-of cursors i found.0 a _ (λ j k less is. (placed j k is).0 (omega arith));
+      back = back-of cursors i found.0 a _ (λ j k more is. (placed j k is).1 (omega arith));
     }
 
 all-ready : (n u : ℕ) (cursors : List InputView) → EachAt (IsOfMerge n u) cursors → (u ≤ n ⊎ length cursors ≤ n) → AllReady cursors
-all-ready n u cursors placed done = all-of IsReady cursors (λ j k is. (placed j k is).1 (let within = slice_get_within cursors j k is in
-    elim (cases_order j n) [
-      | inl same ↦ elim done [ inl le ↦ inr (omega (arith, le, same)) | inr le ↦ absurd (omega (arith, le, same, within)) ]
-      | inr (inl less) ↦ inl less
-      | inr (inr more) ↦ elim done [ inl le ↦ inr (omega (arith, le, more)) | inr le ↦ absurd (omega (arith, le, more, within)) ]
-    ]))
+all-ready n u cursors placed done = grind (arith, all-of, slice_get_within, cases_order)
 
 all-ended : (hs : List InputView) → NoneWaits hs → AllReady hs → AllEnded hs
 all-ended [] none ready = tt
-all-ended (h ∷ hs) none ready = (elim ready.0 [ inl w ↦ absurd (let e = none.0 in cc (w, e)) | inr e ↦ e ], all-ended hs none.1 ready.1)
+all-ended (h ∷ hs) none ready = (elim ready.0 [ inl w ↦ absurd (let e = none.0 in cc w) | inr e ↦ e ], all-ended hs none.1 ready.1)
 
 -- what is next at the cursor is next of the inputs
 pub next-is : (schedule : Schedule) (cursors : List InputView) (r : Next) → IsScheduled schedule cursors → IsNextAt schedule cursors r
     → IsNextIn (ordering_of schedule) cursors r
 next-is (Turn turn) cursors (Next.Read i) placed tells = at-turn turn cursors i false placed tells.0 tells.1
 next-is (Turn turn) cursors (Next.Decide i) placed tells = at-turn turn cursors i true placed tells.0 tells.1
-next-is (Turn turn) cursors Next.Finish placed tells = all-of _ cursors (λ j k is. (placed j k is).0 (omega (arith, tells, slice_get_within cursors j k is)))
+next-is (Turn turn) cursors Next.Finish placed tells = all-of _ cursors (λ j k is. (placed j k is).0 (omega (arith, slice_get_within)))
 next-is (Merge n u) cursors (Next.Read i) placed tells =
     let same = tells.0 in
     let found = some-at cursors i (rw same tells.2) in
     let a = input-at cursors i found.0 found.1 in
-    let here = (placed i found.0 found.1).0 (omega (arith, same)) (rw same tells.1) in
+    let here = (placed i found.0 found.1).0 (omega arith) (rw same tells.1) in
     record {
       cursor = found.0;
       among = a;
@@ -129,13 +120,13 @@ next-is (Merge n u) cursors Next.Finish placed tells = (tells.1, all-ended curso
 -- whether the packet of the next input waits
 pub read-idle : (order : PacketOrder) (cursors : List InputView) (i : ℕ) (h : InputView) → IsInput cursors i h → IsNextIn order cursors (Next.Read i)
     → h.waiting ≡ false
-read-idle InTurn cursors i h a tells = ap (λ (v : InputView). v.waiting) (same-input cursors i h tells.cursor a tells.among) ∙ tells.waits
-read-idle ByTime cursors i h a tells = ap (λ (v : InputView). v.waiting) (same-input cursors i h tells.cursor a tells.among) ∙ tells.waits
+read-idle InTurn cursors i h a tells = ap (λ v. v.waiting) (same-input cursors i h _ a tells.among) ∙ tells.waits
+read-idle ByTime cursors i h a tells = ap (λ v. v.waiting) (same-input cursors i h _ a tells.among) ∙ tells.waits
 
 pub decided-waits : (order : PacketOrder) (cursors : List InputView) (i : ℕ) (h : InputView) → IsInput cursors i h → IsNextIn order cursors
     (Next.Decide i) → h.waiting ≡ true
-decided-waits InTurn cursors i h a tells = ap (λ (v : InputView). v.waiting) (same-input cursors i h tells.cursor a tells.among) ∙ tells.waits
-decided-waits ByTime cursors i h a tells = ap (λ (v : InputView). v.waiting) (same-input cursors i h tells.1.cursor a tells.1.among) ∙ tells.1.waits
+decided-waits InTurn cursors i h a tells = ap (λ v. v.waiting) (same-input cursors i h _ a tells.among) ∙ tells.waits
+decided-waits ByTime cursors i h a tells = ap (λ v. v.waiting) (same-input cursors i h _ a tells.1.among) ∙ tells.1.waits
 
 -- ---- the cursor moves on
 
@@ -143,7 +134,7 @@ phase-unended : (h : InputView) (p : Phase) → h.source.phase ≡ p → (p ≡ 
 phase-unended h p is other = λ e. other (sym is ∙ e)
 
 not-ready : (h : InputView) → h.waiting ≡ false → IsOpen h → IsReady h → ⊥
-not-ready h waits unended ready = elim ready [ inl w ↦ (cc (w, waits)) | inr e ↦ unended e ]
+not-ready h waits unended ready = elim ready [ inl w ↦ (cc w) | inr e ↦ unended e ]
 
 -- an input is read on
 pub placed-read : (schedule : Schedule) (cursors : List InputView) (i : ℕ) (h' : InputView) (r : Result Bool Fault) → IsNextIn (ordering_of schedule)
@@ -212,7 +203,7 @@ pub goes-on : (schedule schedule' : Schedule) (cursors : List InputView) (i : �
     → HoldsQueue (ordering_of schedule') (slice_set cursors i h') q' × IsScheduled schedule' (slice_set cursors i h')
 goes-on schedule schedule' cursors i h h' r q q' a tells waits phase is enters was =
     rw (is, schedule-order) (
-      queue-read schedule cursors i h h' r q q' a (read-idle (ordering_of schedule) cursors i h a tells) waits enters was.0,
+      queue-read schedule cursors i h h' r q q' a (read-idle _ cursors i h a tells) waits enters was.0,
       placed-read schedule cursors i h' r tells waits phase was.1,
     )
 
@@ -221,11 +212,11 @@ pub placed-decided : (schedule : Schedule) (cursors : List InputView) (i : ℕ) 
     cursors (Next.Decide i)
     → h.source.phase ≡ Reading → IsScheduled schedule cursors → IsScheduled (schedule_after_decided schedule i) (slice_set cursors i (input_after_decided h))
 placed-decided (Turn turn) cursors i h a tells phase placed =
-    each-set _ _ cursors i h (input_after_decided h) a placed (placed i h (get-input cursors i h a)) (λ j k other is was. was)
+    each-set _ _ cursors i h _ a placed (placed i h (get-input cursors i h a)) (λ j k other is was. was)
 placed-decided (Merge n u) cursors i h a tells phase placed =
-    each-set _ (IsOfMerge i (i + 1)) cursors i h (input_after_decided h) a placed
-    ((λ le less. (refl, phase-unended h Reading phase (λ e. (cc)))), λ out. absurd (elim out [ inl less ↦ omega (arith, less) | inr le ↦ omega (arith, le) ]))
-    (λ j k other is was. ((λ le less. absurd (omega (arith, le, less, other))), λ out. all-at IsReady cursors j k tells.0 is))
+    each-set _ _ cursors i h _ a placed
+    ((λ le less. (refl, phase-unended h Reading phase (λ e. (cc)))), λ out. absurd (elim out [ inl less ↦ omega arith | inr le ↦ omega arith ]))
+    (λ j k other is was. ((λ le less. absurd (omega arith)), λ out. all-at IsReady cursors j k tells.0 is))
 
 -- ---- new inputs
 

@@ -1,8 +1,7 @@
 -- What is true of the faults of all checks is true of the first that fails; and which faults
 -- options have.
-use Rattle.cap_pcapng.proofs.Common.{arith, ◌≡◌, ℕ, zero, suc, Bool, true, false, List, [], ◌∷◌, ◌++◌, Some, Result, Ok, Err, cond, subst}
-use Rattle.cap_pcapng.proofs.Common.{AllByRecursion, first_failing, Fault, BadOption, BadTimeResolution, Order, Parts, InterfaceParts, option_checks}
-use Rattle.cap_pcapng.proofs.Common.{checks_after, list_checks}
+use Rattle.cap_pcapng.proofs.Common.{arith, ◌≡◌, ℕ, zero, suc, Bool, true, false, List, [], ◌∷◌, ◌++◌, Some, Result, Ok, Err, cond, subst, AllByRecursion}
+use Rattle.cap_pcapng.proofs.Common.{first_failing, Fault, BadOption, BadTimeResolution, Order, Parts, InterfaceParts, option_checks, checks_after, list_checks}
 use Rattle.cap_pcapng.proofs.Common.{CodedValue, fits_at}
 use Rattle.cap_pcapng.specs.OptionList.{options_in, options_within}
 

@@ -1,8 +1,8 @@
 -- The first option of a list, and those after it.
-use Rattle.cap_pcapng.proofs.Common.{◌≡◌, ℕ, zero, suc, ◌+◌, ◌<◌, ◌≤◌, Bool, true, false, List, [], ◌∷◌, ◌||◌, cond, length, drop, refl, ap, ◌∙◌, ◌-◌}
-use Rattle.cap_pcapng.proofs.Common.{take, arith, lit<, ltb-false, lt-ltb, le-ltb, eq-eqb, ne_eqb, length-drop, min, ◌≢◌, Result, Ok, Err, IsErr}
-use Rattle.cap_pcapng.proofs.Common.{lt-leb, drop_min, take_rest, u16_in, Fault, BadOption, Order, fitting_options, CodedValue, item_of, option_at}
-use Rattle.cap_pcapng.proofs.Common.{option_size, ends_at, fits_at, padded_length}
+use Rattle.cap_pcapng.proofs.Common.{◌≡◌, ℕ, zero, suc, ◌+◌, ◌<◌, ◌≤◌, Bool, true, false, List, [], ◌∷◌, ◌||◌, cond, length, drop, refl, ap, ◌∙◌, ◌-◌, take}
+use Rattle.cap_pcapng.proofs.Common.{arith, lit<, ltb-false, lt-ltb, le-ltb, eq-eqb, ne_eqb, length-drop, min, ◌≢◌, Result, Ok, Err, IsErr, lt-leb, drop_min}
+use Rattle.cap_pcapng.proofs.Common.{take_rest, u16_in, Fault, BadOption, Order, fitting_options, CodedValue, item_of, option_at, option_size, ends_at, fits_at}
+use Rattle.cap_pcapng.proofs.Common.{padded_length}
 use Rattle.cap_pcapng.specs.{OptionList.options_in, OptionList.options_within, declared.options.BlockOption.BlockOption}
 
 false_first : (a b : Bool) → (a || b) ≡ false → a ≡ false

@@ -1,6 +1,6 @@
 -- All checks of a block by itself, and those that need its section.
-use Rattle.cap_pcapng.proofs.Common.{arith, take, drop, ◌≡◌, ℕ, ◌-◌, ◌≤◌, ◌⊎◌, inl, inr, Bool, true, false, List, [], ◌∷◌, ◌++◌, length, Some, None, refl, le-leb}
-use Rattle.cap_pcapng.proofs.Common.{eq-eqb, first_failing, u32_in, Fault, block_checks, block_fault, body_checks, option_checks, parts_in}
+use Rattle.cap_pcapng.proofs.Common.{arith, take, drop, ◌≡◌, ℕ, ◌-◌, ◌≤◌, ◌⊎◌, inl, inr, Bool, true, false, List, [], ◌∷◌, ◌++◌, length, Some, None, refl}
+use Rattle.cap_pcapng.proofs.Common.{le-leb, eq-eqb, first_failing, u32_in, Fault, block_checks, block_fault, body_checks, option_checks, parts_in}
 use Rattle.cap_pcapng.proofs.Common.{parts_in_body, Frame}
 use Rattle.cap_pcapng.proofs.Units.{both_none}
 

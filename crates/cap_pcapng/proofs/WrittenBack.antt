@@ -1,12 +1,12 @@
 -- Blocks that were written read back.
-use Rattle.cap_pcapng.proofs.Common.{◌≡◌, ℕ, ◌+◌, ◌-◌, ◌*◌, ◌/◌, ◌%◌, ◌^◌, ◌<◌, ◌≤◌, false, List, [], ◌∷◌, ◌++◌, length, take, drop, refl, sym, ap}
-use Rattle.cap_pcapng.proofs.Common.{ap₂, ◌∙◌, arith, append_assoc, length-append, Some, None, le-leb, leb-true, lt-ltb, eq-eqb, lit≤, pos, ◌==◌, slice_get}
+use Rattle.cap_pcapng.proofs.Common.{◌≡◌, ℕ, ◌+◌, ◌-◌, ◌*◌, ◌/◌, ◌%◌, ◌^◌, ◌<◌, ◌≤◌, false, List, [], ◌∷◌, ◌++◌, length, take, drop, refl, sym, ap, ap₂, ◌∙◌}
+use Rattle.cap_pcapng.proofs.Common.{arith, append_assoc, length-append, Some, None, le-leb, leb-true, lt-ltb, eq-eqb, lit≤, pos, ◌==◌, slice_get}
 use Rattle.cap_pcapng.proofs.Common.{option_to_list, length-replicate, take_at, drop_at, little_bytes, all_met, first_failing, u16_in, u32_in, Little}
 use Rattle.cap_pcapng.proofs.Common.{EnhancedParts, InterfaceParts, Parts, block_checks, body_checks, body_in, parts_in, parts_in_body, comment_in}
 use Rattle.cap_pcapng.proofs.Common.{frame_checks, frame_in, most_block, section_type, type_of_block, Captured, Described, most_interfaces, InterfaceBack}
-use Rattle.cap_pcapng.proofs.Common.{PacketBack, SectionBack, ReadsAs, written_interface, written_section, padded_length, representable_time}
-use Rattle.cap_pcapng.proofs.Common.{checks_among, packet_by, section_by, block_size, block_text, comment_text, end_text, block_fit_checks, interface_body}
-use Rattle.cap_pcapng.proofs.Common.{name_text, packet_body, padded_text, resolution_text, Frame}
+use Rattle.cap_pcapng.proofs.Common.{PacketBack, SectionBack, ReadsAs, written_interface, written_section, padded_length, representable_time, checks_among}
+use Rattle.cap_pcapng.proofs.Common.{packet_by, section_by, block_size, block_text, comment_text, end_text, block_fit_checks, interface_body, name_text}
+use Rattle.cap_pcapng.proofs.Common.{packet_body, padded_text, resolution_text, Frame}
 use Rattle.cap_pcapng.proofs.Numerals.{number_at}
 use Rattle.cap_pcapng.proofs.OptionsBack.{comment_back, options_describe, options_pass}
 use Rattle.cap_pcapng.proofs.Units.{unit_fault-passes}

@@ -1,7 +1,7 @@
 -- Numbers in digits: leading zeros, groups of IPv6 addresses, and decimal numbers two digits at a
 -- time.
-use Rattle.std.proofs.Common.{◌≡◌, ◌≢◌, ℕ, suc, ◌+◌, ◌-◌, ◌<◌, List, ◌∷◌, length, drop, get_or, refl, arith, rules, ◌/◌, ◌%◌, ◌≤◌, [], ◌^◌, ◌++◌}
-use Rattle.std.proofs.Common.{append_assoc, decimal}
+use Rattle.std.proofs.Common.{◌≡◌, ◌≢◌, ℕ, suc, ◌+◌, ◌-◌, ◌<◌, List, ◌∷◌, length, drop, get_or, refl, arith, rules, ◌/◌, ◌%◌, ◌≤◌, [], ◌^◌, ◌++◌, append_assoc}
+use Rattle.std.proofs.Common.{decimal}
 use Rattle.std.proofs.lemmas.{Fmt.decimal_digit, Fmt.decimal_step, List.drop_more}
 use Rattle.cap_print.specs.Hexadecimal.{without_zeros, hex_digit, hex_four, hex_group}
 use Rattle.cap_octet.specs.Date.{digits}

@@ -1,12 +1,12 @@
 -- A command line that clap accepts has a subcommand, since one is required.
-use Rattle.capkit.proofs.Common.{◌≡◌, ◌∙◌, ap, sym, refl, subst, Bool, true, false, List, [], ◌∷◌, Option, Some, None, ◌&&◌, is_some, not, find, if◌then◌else◌}
-use Rattle.capkit.proofs.Common.{option_map, Box, list_any, ArgMatches, subcommand_name_of, subcommand_rows_of, TakesWords, line_app, name_of, Asks, Subcommand}
+use Rattle.capkit.proofs.Common.{rules, arith, ◌≡◌, ◌∙◌, ap, sym, refl, subst, Bool, true, false, List, [], ◌∷◌, Option, Some, None, ◌&&◌, is_some, not, find}
+use Rattle.capkit.proofs.Common.{if◌then◌else◌, option_map, Box, ArgMatches, subcommand_name_of, subcommand_rows_of, TakesWords, line_app, name_of, Asks}
+use Rattle.capkit.proofs.Common.{Subcommand}
 use Rattle.std.specs.Box.{box_value}
-use Rattle.clap.specs.Facts.{explicit_source}
-use Rattle.clap.specs.Faults.{built_fault, check_fault, defaults_fault, entered_fault, level_fault, settle_fault, walk_fault}
+use Rattle.clap.specs.Faults.{built_fault, level_fault}
 use Rattle.clap.specs.Kinds.{Kinds, check_kinds, or_else}
-use Rattle.clap.specs.Simple.{App, Shape, argument_words, built, entered, label_of, names_of, rows_at, subcommand_rows}
-use Rattle.clap.specs.Walk.{Held, Names, Row, Text, answers_to, finished, nothing_held, settled, stop_after, walk, walk_from}
+use Rattle.clap.specs.Simple.{App, Shape, built, entered, names_of, rows_at, subcommand_rows}
+use Rattle.clap.specs.Walk.{Held, Names, Row, Text, answers_to, nothing_held, stop_after}
 use Rattle.clap.specs.declared.parser.matches.ArgMatches.TheViews.{out-ArgMatches, out-SubCommand}
 use Rattle.clap.specs.declared.parser.matches.SubCommand.{SubCommand}
 use Rattle.capkit.specs.inside.Arguments.{subcommand_of_name}
@@ -18,7 +18,7 @@ last_none [] b none = none
 last_none (k ∷ ks) b none = cc
 
 last_of_five : (a b c d e : Kinds) → or_else a (or_else b (or_else c (or_else d e))) ≡ [] → e ≡ []
-last_of_five a b c d e none = last_none d e (last_none c (or_else d e) (last_none b (or_else c (or_else d e)) (last_none a _ none)))
+last_of_five a b c d e none = grind (arith, last_none)
 
 has_entered : (has_subcommand wants_help required wants_argument : Bool) → wants_help ≡ false → required ≡ true
     → check_kinds (not has_subcommand && wants_help) (not has_subcommand && required) wants_argument ≡ [] → has_subcommand ≡ true
@@ -29,13 +29,7 @@ has_entered false false false wants_argument no_help must none = cc
 
 must_enter : (s : Shape) (names : Names) (h : Held) (words : List Text) (has_subcommand : Bool) (below : Kinds)
     → s.subcommand_required ≡ true → s.arg_required_else_help ≡ false → level_fault s names h words has_subcommand below ≡ [] → has_subcommand ≡ true
-must_enter s names h words has_subcommand below required no_help none =
-    let end = (walk s.rules names h words).held in
-    let rows = finished s.rules end in
-    let checks = last_of_five (walk_fault s names (walk_from h) words) below (settle_fault s.rules s.args_override_self end)
-    (defaults_fault (settled s.rules end).rows s.rules) (check_fault s rows has_subcommand) none in
-    has_entered has_subcommand (s.arg_required_else_help && not (list_any (λ r. explicit_source r.source) rows)) s.subcommand_required _
-    (ap (λ b. b && not (list_any (λ r. explicit_source r.source) rows)) no_help) required checks
+must_enter s names h words has_subcommand below required no_help none = grind (arith, last_of_five, has_entered)
 
 -- each of these has the name of a subcommand
 abbrev AreNamed : List Shape → Type 0
@@ -51,7 +45,7 @@ named_among : (words : List Text) (test : Shape → Bool) (subs : List Shape) �
     → is_some (option_map (λ s. rows_at s words) (find test subs)) ≡ true
     → IsEntered (option_map (λ s. rows_at s words) (find test subs))
 named_among words test [] named some = cc
-named_among words test (s ∷ rest) named some = first (test s) (named_among words test rest named.1) some
+named_among words test (s ∷ rest) named some = first _ (named_among words test rest named.1) some
   where
     at : Shape → Text × List Row
     at shape = rows_at shape words
@@ -63,27 +57,25 @@ named_among words test (s ∷ rest) named some = first (test s) (named_among wor
 
 entered_named : (a : App) (stop : Option (Text × List Text)) → AreNamed a.subs → is_some (entered a stop) ≡ true → IsEntered (entered a stop)
 entered_named a None named some = cc
-entered_named a (Some p) named some = named_among p.1 (λ s. answers_to p.0 (label_of s)) a.subs named some
+entered_named a (Some p) named some = named_among p.1 (λ s. answers_to p.0 _) a.subs named some
 
 enters : (a : App) (words : List Text) → a.top.subcommand_required ≡ true → a.top.arg_required_else_help ≡ false
     → AreNamed a.subs → built_fault a nothing_held words ≡ [] → IsEntered (entered a (stop_after a.top.rules (names_of a) words))
-enters a words required no_help named none =
-    let stop = stop_after a.top.rules (names_of a) words in
-    entered_named a stop named (must_enter a.top (names_of a) nothing_held words (is_some (entered a stop)) (entered_fault a stop) required no_help none)
+enters a words required no_help named none = grind (arith, entered_named, must_enter)
 
 -- words that clap takes ask for one of the subcommands
 pub asked_of : (words : List Text) (into : Option (Text × List Row)) → TakesWords words into
     → (asked : Subcommand) × (matches : List Row) × (into ≡ Some (name_of asked, matches))
 asked_of words into taken =
-    let line = line_app taken.formats taken.links in
+    let line = line_app _ _ in
     let named : AreNamed (built line).subs = ((sub.Edit, refl), ((sub.Merge, refl), ((sub.Infos, refl), ((sub.Print, refl), ((sub.Compile, refl), tt))))) in
-    let found = enters (built line) (argument_words line words) refl refl named taken.no_fault in
+    let found = enters (built line) _ refl refl named taken.no_fault in
     (found.0, found.1, sym taken.enters ∙ found.2)
 
 pub always_enters : (words : List Text) (into : Option (Text × List Row)) → TakesWords words into → None ≡ option_map (λ p. p.1) into → ⊥
 always_enters words into taken none =
     let asked = asked_of words into taken in
-    let bad : None ≡ Some asked.1 = none ∙ ap (option_map (λ p. p.1)) asked.2 in
+    let bad : None ≡ Some asked.1 = cc in
     cc
 
 named_back : (asked : Subcommand) → subcommand_of_name (name_of asked) ≡ asked
@@ -92,23 +84,12 @@ named_back _ = refl
 
 -- the subcommand of the name that a parse met, with its matches
 asks_pair : (words : List Text) (p : Text × List Row) → TakesWords words (Some p) → Asks words (subcommand_of_name p.0) p.1
-asks_pair words p taken =
-    let asked = asked_of words (Some p) taken in
-    let met : Some p ≡ Some (name_of asked.0, asked.1) = asked.2 in
-    let same : p ≡ (name_of asked.0, asked.1) = cc in
-    let is : p.0 ≡ name_of asked.0 = ap (λ (q : Text × List Row). q.0) same in
-    let name : p.0 ≡ name_of (subcommand_of_name p.0) =
-    is ∙ ap name_of (sym (ap subcommand_of_name is ∙ named_back asked.0)) in
-    subst (TakesWords words) (λ i. Some (name i, p.1)) taken
+asks_pair words p taken = grind (arith, asked_of, named_back)
 
 pub asks : (words : List Text) (into : Option (Text × List Row)) (name : Text) (matches : List Row) → TakesWords words into
     → Some name ≡ option_map (λ p. p.0) into → Some matches ≡ option_map (λ p. p.1) into → Asks words (subcommand_of_name name) matches
 asks words None name matches taken named found = cc
-asks words (Some p) name matches taken named found =
-    let name_is : p.0 ≡ name = cc in
-    let matches_are : p.1 ≡ matches = cc in
-    let same : p ≡ (name, matches) = λ i. (name_is i, matches_are i) in
-    subst (λ (q : Text × List Row). Asks words (subcommand_of_name q.0) q.1) same (asks_pair words p taken)
+asks words (Some p) name matches taken named found = grind (arith, asks_pair)
 
 -- clap distinguishes the name and the matches of a subcommand
 pub names_rows : {Z : Type 0} (found : Option (Box SubCommand Z))
@@ -121,4 +102,4 @@ pub asks_of : (met : ArgMatches) (words : List Text) (name : Text) (matches : Li
     → Asks words asked matches
 asks_of met words name matches asked taken named found is =
     subst (λ a. Asks words a matches) is
-    (asks words (subcommand_rows_of met) name matches taken (named ∙ names_rows (out-ArgMatches met).subcommand) found)
+    (asks words _ name _ taken (named ∙ names_rows (out-ArgMatches met).subcommand) found)

@@ -15,6 +15,6 @@ flag_read E None r none some = ap (λ o. unwrap_or o false) (none refl)
 flag_read E (Some t) r none some = go r (some t refl)
   where
     go : (o : Option Bool) → ReadsOne (ParsesBool {E = E}) t o → unwrap_or o false ≡ is_true t
-    go (Some true) is = sym ((bytes_eq-Decides t (codes "true")).1 is)
+    go (Some true) is = sym ((bytes_eq-Decides t _).1 is)
     go (Some false) is = ap is_true (sym is)
-    go None is = sym (false_from_ne_true (is_true t) (λ same. is.1.0 ((bytes_eq-Decides t (codes "true")).0 same)))
+    go None is = sym (false_from_ne_true _ (λ same. is.1.0 ((bytes_eq-Decides t _).0 same)))

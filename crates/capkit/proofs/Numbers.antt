@@ -1,10 +1,9 @@
 -- Which numbers digits write, and where a word is split at its hyphen.
 use Rattle.cap_octet.specs.Digits.{decimal_value, in_u64}
 use Rattle.std.specs.Char.{digit_value}
-use Rattle.capkit.proofs.Common.{◌&&◌, ap, IfNone, ◌==◌, lit<, suc, ◌+◌, ◌≤◌, cond, ◌≡◌, ◌<◌, ◌^◌, ℕ, Bool, true, false, List, [], ◌∷◌, length, refl, subst}
-use Rattle.capkit.proofs.Common.{sym, ◌∙◌, rules, arith, IfSome, nat_lt, ◌||◌, not, if◌then◌else◌, Option, Some, None, is_ascii_digit, after_first}
-use Rattle.capkit.proofs.Common.{before_first, list_all, list_any, position_or_len, Bor, MatchOption, digits_value, le-ltb, lt-ltb, IsDigitsTest, is_hyphen}
-use Rattle.capkit.proofs.Common.{range_number, sides_of}
+use Rattle.capkit.proofs.Common.{ap, IfNone, ◌==◌, lit<, suc, ◌+◌, ◌≤◌, cond, ◌≡◌, ◌<◌, ◌^◌, ℕ, Bool, true, false, List, [], ◌∷◌, length, refl, sym, ◌∙◌, rules}
+use Rattle.capkit.proofs.Common.{arith, IfSome, nat_lt, ◌||◌, not, if◌then◌else◌, Option, Some, None, is_ascii_digit, after_first, before_first, list_all}
+use Rattle.capkit.proofs.Common.{list_any, position_or_len, Bor, MatchOption, le-ltb, lt-ltb, IsDigitsTest, is_hyphen, range_number, sides_of}
 use Rattle.std.proofs.lemmas.{Bool.Decides.nat_tests, Str.Pattern.IsSplitOnceResult, Str.Pattern.split_once_first}
 
 pub test : IsDigitsTest (λ ds. list_all is_ascii_digit ds ≡ true)
@@ -14,28 +13,27 @@ same_digit : (byte : ℕ) → nat_lt (digit_value byte) 10 ≡ is_ascii_digit by
 same_digit byte = grind (arith, nat_tests)
 
 not_empty : (n : ℕ) → not (n == 0) ≡ nat_lt 0 n
-not_empty n = grind (arith, nat_tests)
+not_empty n = grind arith
 
 same_number : (text : List ℕ) → decimal_value text ≡ range_number text
-same_number text =
-    λ i. if not_empty (length text) i && list_all (λ byte. same_digit byte i) text then Some (digits_value 10 text) else None
+same_number text = grind (arith, not_empty, same_digit)
 
 -- the number that is read of a text of digits alone, below 2^64
 pub is_read : (text : List ℕ) (r : Option ℕ) → r ≡ in_u64 (decimal_value text)
     → IfSome r (λ n. range_number text ≡ Some n) × IfNone r (IfSome (range_number text) (λ n. 2 ^ 64 ≤ n))
-is_read text r is = go (range_number text) (is ∙ ap in_u64 (same_number text))
+is_read text r is = go _ (is ∙ ap in_u64 (same_number text))
   where
     fits : (n : ℕ) (b : Bool) → nat_lt n (2 ^ 64) ≡ b → r ≡ (if b then Some n else None)
         → IfSome r (λ m. Some n ≡ Some m) × IfNone r (2 ^ 64 ≤ n)
     fits n true small same = rw same (refl, tt)
-    fits n false large same = rw same (tt, grind (arith, nat_tests))
+    fits n false large same = rw same (tt, grind arith)
 
     go : (q : Option ℕ) → r ≡ in_u64 q → IfSome r (λ n. q ≡ Some n) × IfNone r (IfSome q (λ n. 2 ^ 64 ≤ n))
     go None same = rw same (tt, tt)
-    go (Some n) same = fits n (nat_lt n (2 ^ 64)) refl same
+    go (Some n) same = fits n _ refl same
 
 lt_both : (n k : ℕ) → nat_lt n k ≡ nat_lt (1 + n) (suc k)
-lt_both n k = grind (arith, nat_tests)
+lt_both n k = grind arith
 
 -- a word has an element for which a test is true if the first such index is within it
 pub any_by_place : {X : Type 0} (p : X → Bool) (xs : List X) → list_any p xs ≡ nat_lt (position_or_len p xs) (length xs)
@@ -44,27 +42,20 @@ any_by_place p (x ∷ xs) = go (p x) (any_by_place p xs)
   where
     go : (b : Bool) → list_any p xs ≡ nat_lt (position_or_len p xs) (length xs)
         → (b || list_any p xs) ≡ nat_lt (cond (not b) (1 + position_or_len p xs) 0) (length (x ∷ xs))
-    go true more = sym (lt-ltb 0 (length (x ∷ xs)) (omega arith))
-    go false more = more ∙ lt_both (position_or_len p xs) (length xs)
+    go true more = sym (lt-ltb 0 _ (omega arith))
+    go false more = more ∙ lt_both _ _
 
 -- a word is split around its first hyphen
 pub is_split : (word : List ℕ) (r : Option (Bor (List ℕ) × Bor (List ℕ))) (first last : Bor (List ℕ)) → IsSplitOnceResult 45 word r → r ≡ Some (first, last)
     → (first.now ≡ (sides_of word).0) × (last.now ≡ (sides_of word).1)
-is_split word r first last h is =
-    let place = position_or_len is_hyphen word in
-    let split : (place < length word) × (first.now ≡ before_first is_hyphen word) × (last.now ≡ after_first is_hyphen word) =
-    subst (λ (q : Option (Bor (List ℕ) × Bor (List ℕ))). MatchOption q (place ≡ length word)
-    (λ x. (place < length word) × (x.0.now ≡ before_first is_hyphen word) × (x.1.now ≡ after_first is_hyphen word)))
-    is (split_once_first 45 word r h (lit< tt)) in
-    let has : list_any is_hyphen word ≡ true = any_by_place is_hyphen word ∙ lt-ltb place (length word) split.0 in
-    rw has (split.1, split.2)
+is_split word r first last h is = grind (arith, split_once_first, any_by_place, lt-ltb)
 
 -- a word that is not split has no hyphen
 pub not_split : (word : List ℕ) (r : Option (Bor (List ℕ) × Bor (List ℕ))) → IsSplitOnceResult 45 word r → r ≡ None → list_any is_hyphen word ≡ false
-not_split word r h is = any_by_place is_hyphen word ∙ go r (split_once_first 45 word r h (lit< tt)) is
+not_split word r h is = any_by_place _ word ∙ go r (split_once_first 45 word r h (lit< tt)) is
   where
-    go : (q : Option (Bor (List ℕ) × Bor (List ℕ))) → MatchOption q (position_or_len is_hyphen word ≡ length word)
+    go : (q : Option (Bor _ × Bor _)) → MatchOption q (position_or_len is_hyphen word ≡ length word)
         (λ x. (position_or_len is_hyphen word < length word) × (x.0.now ≡ before_first is_hyphen word) × (x.1.now ≡ after_first is_hyphen word))
         → q ≡ None → nat_lt (position_or_len is_hyphen word) (length word) ≡ false
-    go None end same = le-ltb (position_or_len is_hyphen word) (length word) (omega arith)
-    go (Some x) end same = cc
+    go None end same = le-ltb _ _ (omega arith)
+    go _ end same = cc

@@ -1,11 +1,10 @@
 -- The values of the options of `edit` and `print` are within their bounds.
-use Rattle.capkit.proofs.Common.{◌≡◌, ◌≤◌, ◌^◌, ◌+◌, ◌-◌, ◌*◌, ◌∙◌, ◌==◌, ap, refl, ℕ, Bool, true, false, length, take, drop, Option, Some, None, Result, Ok}
-use Rattle.capkit.proofs.Common.{Err, arith, ◌&&◌, IfSome, nat_le, nat_lt, if◌then◌else◌, position, option_and_then, option_map_or, ParsesUnsigned}
-use Rattle.capkit.proofs.Common.{digits_value, without_leading_plus, and_from, and_parts, le-leb, is_at_least_one, is_time, is_window, least_window}
-use Rattle.capkit.proofs.Common.{most_window, ReadsOne, Text, number_between}
-use Rattle.cap_octet.specs.{Date.NANOS_PER_SECOND, Digits.decimal_value}
-use Rattle.cap_octet.specs.Seconds.{fraction_nanoseconds, duration_at, duration_value, duration_of_parts, time_below_end}
-use Rattle.cap_octet.specs.Timestamp.{clock_of_parts, date_time_value, day_of_parts, number_at, optional_fraction, is_date_time, time_value, time_of_parts}
+use Rattle.capkit.proofs.Common.{◌≡◌, ◌≤◌, ◌^◌, ◌-◌, ◌∙◌, ◌==◌, ap, refl, ℕ, Bool, true, false, Option, Some, None, Result, Ok, Err, arith, ◌&&◌, IfSome}
+use Rattle.capkit.proofs.Common.{nat_le, nat_lt, if◌then◌else◌, position, option_and_then, option_map_or, ParsesUnsigned, digits_value, without_leading_plus}
+use Rattle.capkit.proofs.Common.{and_from, and_parts, le-leb, is_at_least_one, is_time, is_window, least_window, most_window, ReadsOne, Text, number_between}
+use Rattle.cap_octet.specs.{Digits.decimal_value}
+use Rattle.cap_octet.specs.Seconds.{duration_at, duration_value, duration_of_parts, time_below_end}
+use Rattle.cap_octet.specs.Timestamp.{date_time_value, time_value, time_of_parts}
 use Rattle.clap.specs.ValueTests.{is_numeral, is_unsigned_in}
 use Rattle.clap.specs.declared.builder.value_parser.ValueParser.{ValueParser}
 use Rattle.clap.proofs.ValueTestLemmas.{Accepts-accepts, accepts-Accepts}
@@ -46,7 +45,7 @@ one_or_more most (Some n) some = le-leb 1 n some.0
 
 pub proper_window : (number : Option ℕ) → IfSome number (λ n. (least_window ≤ n) × (n ≤ most_window)) → option_map_or is_window number true ≡ true
 proper_window None some = refl
-proper_window (Some n) some = and_from _ _ (le-leb least_window n some.0) (le-leb n most_window some.1)
+proper_window (Some n) some = grind (arith, and_from, le-leb)
 
 -- ---- times
 
@@ -63,11 +62,11 @@ then_within f None each = refl
 then_within f (Some x) each = each x
 
 span_within : (seconds fraction : Option ℕ) → option_map_or is_time (duration_of_parts seconds fraction) true ≡ true
-span_within seconds fraction = then_within _ seconds (λ s. then_within _ fraction (λ f. within (s * NANOS_PER_SECOND + f)))
+span_within seconds fraction = simp (then_within, within)
 
 at_within : (text : Text) (point : Option ℕ) → option_map_or is_time (duration_at text point) true ≡ true
 at_within text None = span_within (decimal_value text) (Some 0)
-at_within text (Some point) = span_within (decimal_value (take point text)) (fraction_nanoseconds (drop (point + 1) text))
+at_within text (Some point) = simp span_within
 
 -- a number of seconds is less than 2^63 nanoseconds
 pub proper_span : (text : Text) → option_map_or is_time (duration_value text) true ≡ true
@@ -75,20 +74,16 @@ unfolding duration_value
 proper_span text = at_within text (position (λ b. b == 46) text)
 
 moment_within : (day clock fraction : Option ℕ) → option_map_or is_time (time_of_parts day clock fraction) true ≡ true
-moment_within day clock fraction =
-    then_within _ day (λ d. then_within _ clock (λ c. then_within _ fraction (λ f. within ((d * 86400 + c) * NANOS_PER_SECOND + f))))
+moment_within day clock fraction = grind (arith, then_within, within)
 
 date_within : (text : Text) → option_map_or is_time (date_time_value text) true ≡ true
 unfolding date_time_value
-date_within text =
-    moment_within (day_of_parts (number_at text 0 4) (number_at text 5 2) (number_at text 8 2))
-    (clock_of_parts (number_at text 11 2) (number_at text 14 2) (number_at text 17 2))
-    (optional_fraction (take (length text - 20) (drop 19 text)))
+date_within text = simp moment_within
 
 -- so does a time
 pub proper_time : (text : Text) → option_map_or is_time (time_value text) true ≡ true
 unfolding time_value
-proper_time text = go (is_date_time text)
+proper_time text = go _
   where
     go : (b : Bool) → option_map_or is_time (if b then date_time_value text else duration_value text) true ≡ true
     go true = date_within text

@@ -1,9 +1,9 @@
 -- What clap accepts and refuses is what the rules of the command line accept and refuse.
-use Rattle.capkit.proofs.Common.{◌≡◌, ◌∙◌, ap, sym, subst, true, List, Result, Ok, Err, IfOk, IfErr, map, refl, inl, App, FailsBy, HasKind, HasMatchesOf, Text}
-use Rattle.capkit.proofs.Common.{fault_of, is_simple, is_simple_and_free, kind_of, subcommand_of, subcommand_rows_of, takes, AreChoices, RefusesWords}
+use Rattle.capkit.proofs.Common.{arith, ◌≡◌, ◌∙◌, ap, sym, subst, true, List, Result, Ok, Err, IfOk, IfErr, map, refl, App, FailsBy, HasKind, HasMatchesOf}
+use Rattle.capkit.proofs.Common.{Text, fault_of, is_simple, is_simple_and_free, kind_of, subcommand_of, subcommand_rows_of, takes, AreChoices, RefusesWords}
 use Rattle.capkit.proofs.Common.{TakesWords, format_names, line_app, link_names}
-use Rattle.clap.specs.declared.{builder.value_parser.ValueParser.ValueParser, error.Error.Error}
-use Rattle.clap.specs.declared.{error.kind.ErrorKind.TheVariants.OutOfMemory, parser.matches.ArgMatches.ArgMatches}
+use Rattle.clap.specs.declared.{builder.value_parser.ValueParser.ValueParser, error.Error.Error, error.kind.ErrorKind.TheVariants.OutOfMemory}
+use Rattle.clap.specs.declared.{parser.matches.ArgMatches.ArgMatches}
 use Rattle.cap_octet.specs.{Format.all_formats, Link.all_links}
 
 simple_line : (formats links : ValueParser) → is_simple (line_app formats links) ≡ true
@@ -53,11 +53,4 @@ are_links = refl
 
 -- out of memory, any words are refused
 pub no_memory : (words : List Text) (error : Error) → kind_of error ≡ OutOfMemory → RefusesWords words error
-no_memory words error is = record {
-  formats = choices format_names;
-  links = choices link_names;
-  are_formats = are_formats;
-  are_links = are_links;
-  memory_alone = λ taken. is;
-  kind = inl is;
-}
+no_memory words error is = grind (arith, are_formats, are_links)

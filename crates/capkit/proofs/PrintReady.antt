@@ -1,9 +1,8 @@
 -- A line of `print` without a fault may be run.
 use Rattle.capkit.proofs.Common.{◌≡◌, ◌∙◌, ap, arith, refl, codes, Bool, true, false, List, [], ◌∷◌, length, Option, Some, None, String, string_bytes, vec_len}
-use Rattle.capkit.proofs.Common.{◌&&◌, ◌||◌, is_none, is_some, nat_eq, nat_lt, not, option_map, if◌then◌else◌, Global, join_by, option_map_or, and_from, eq-eqb}
-use Rattle.capkit.proofs.Common.{lt-ltb, has_at_most_one_filter, has_at_most_one_output, is_at_least_one, is_proper, Row, Text, first_of, IsPrintOf, flag_in}
-use Rattle.capkit.proofs.Common.{format_in, has_exclusion, has_expression, has_two_filters, has_two_outputs, is_ready, or_else, print_fault, texts_in, Line}
-use Rattle.capkit.proofs.Common.{Usage, OptionsExclude, ◌++◌, ℕ, map}
+use Rattle.capkit.proofs.Common.{◌&&◌, ◌||◌, is_none, is_some, nat_lt, not, option_map, if◌then◌else◌, Global, join_by, option_map_or, lt-ltb}
+use Rattle.capkit.proofs.Common.{has_at_most_one_output, is_at_least_one, Row, Text, IsPrintOf, is_ready, or_else, print_fault, Line, Usage, OptionsExclude}
+use Rattle.capkit.proofs.Common.{◌++◌, ℕ, map}
 use Rattle.std.proofs.{Common.flat_map, Math.Bool.or-true, lemmas.Bool.or_parts}
 use Rattle.cap_octet.specs.declared.format.Format.{Format}
 use Rattle.capkit.specs.declared.ids.TheConstants as ids
@@ -19,10 +18,8 @@ one_filter : (listing : Option Text) (code : Option (String Global)) (words : Li
     → (is_none code || not (nat_lt 0 (length expr))) ≡ true
 one_filter listing None words expr named is none = refl
 one_filter None (Some code) words expr named is none = cc
-one_filter (Some name) (Some code) [] expr named is none = ap (λ (text : Text). not (nat_lt 0 (length text))) is
-one_filter (Some name) (Some code) (word ∷ words) expr named is none =
-    let some : nat_lt 0 (length (word ∷ words)) ≡ true = lt-ltb 0 (length (word ∷ words)) (omega arith) in
-    cc
+one_filter (Some name) (Some code) [] expr named is none = ap (λ text. not (nat_lt 0 (length text))) is
+one_filter (Some name) (Some code) (word ∷ words) expr named is none = grind (arith, lt-ltb)
 
 -- beside a capture that is written no lines are asked for
 one_output : (output : Option Text) (format : Format) (write : Option Format) (link bytes : Bool) → write ≡ option_map (λ name. format) output
@@ -32,28 +29,16 @@ one_output (Some name) format write link bytes is none = ap (has_at_most_one_out
 
 pub ready : (matches : List Row) (line : Line) (is : IsPrintOf matches line) → print_fault matches ≡ None → vec_len line.inputs ≡ 1
     → option_map_or is_at_least_one is.print.count true ≡ true → is_ready line ≡ true
-ready matches line is none one count =
-    let print = is.print in
-    let filters = or_parts (has_two_filters matches) _ (no_exclusion (has_exclusion matches) _ none) in
-    let outputs = or_parts (has_two_outputs matches) _ filters.1 in
-    let unread : has_at_most_one_filter (string_bytes print.expr) print.code ≡ true =
-    ap (has_at_most_one_filter (string_bytes print.expr)) is.unread ∙ or-true (nat_eq (length (string_bytes print.expr)) 0) in
-    let output : has_at_most_one_output print.link print.bytes print.write ≡ true =
-    one_output (first_of ids.OUT.now matches) (format_in ids.FORMAT.now matches) print.write print.link print.bytes is.write
-    (ap (λ link. is_some (first_of ids.OUT.now matches) && (link || print.bytes)) is.link
-    ∙ ap (λ bytes. is_some (first_of ids.OUT.now matches) && (flag_in print_ids.LINK_HEADER.now matches || bytes)) is.bytes ∙ outputs.0) in
-    ap (λ command. is_proper command (vec_len line.inputs) && (is_none line.code || not (has_expression command))) is.command
-    ∙ and_from _ _ (and_from _ _ (eq-eqb _ 1 one) (and_from _ _ unread (and_from _ _ output count)))
-    (one_filter (first_of print_ids.LISTING.now matches) line.code (texts_in ids.WORD.now matches) (string_bytes print.expr) is.code is.expr filters.0)
+ready matches line is none one count = grind (arith, or_parts, no_exclusion, string_bytes, or-true)
 
 -- ---- joining texts is joining what they read as
 
 following : {X : Type 0} (f : X → List ℕ) (separator : List ℕ) (xs : List X)
     → flat_map (λ x. separator ++ f x) xs ≡ flat_map (λ (text : List ℕ). separator ++ text) (map f xs)
 following f separator [] = refl
-following f separator (x ∷ xs) = ap (λ rest. (separator ++ f x) ++ rest) (following f separator xs)
+following f separator (x ∷ xs) = ap (λ rest. (separator ++ f x) ++ rest) (following f _ xs)
 
 pub joined : {X : Type 0} (f : X → List ℕ) (separator : List ℕ) (xs : List X)
     → join_by f separator xs ≡ join_by (λ (text : List ℕ). text) separator (map f xs)
 joined f separator [] = refl
-joined f separator (x ∷ xs) = ap (λ rest. f x ++ rest) (following f separator xs)
+joined f separator (x ∷ xs) = ap (λ rest. f x ++ rest) (following f _ xs)

@@ -1,8 +1,7 @@
 -- A line, or a fault, is what the words of the command line ask for.
-use Rattle.capkit.proofs.Common.{◌≡◌, inl, inr, refl, List, Some, None, Result, Ok, Err, IfOk, IfErr, OnOk, Bool, true, false, length, [], ◌∷◌, if◌then◌else◌}
-use Rattle.capkit.proofs.Common.{is_none, nat_lt, list_any, Row, Text, first_of, most_inputs, most_ranges, Asks, IsUsageOf, IsLineOf, SaysFault, SaysLine}
-use Rattle.capkit.proofs.Common.{fault_in, files_in, has_bad_time, has_exclusion, has_two_shifts, or_else, read_names, text_in, texts_in, uses_name_twice}
-use Rattle.capkit.proofs.Common.{range_of, Subcommand, Line, Usage, BadRange, BadTime, Memory, NameUsedTwice, OptionsExclude, Refused, TooManyValues}
+use Rattle.capkit.proofs.Common.{◌≡◌, inl, inr, refl, List, Some, None, Result, Ok, Err, IfOk, IfErr, OnOk, Bool, true, false, [], ◌∷◌, if◌then◌else◌, is_none}
+use Rattle.capkit.proofs.Common.{nat_lt, list_any, Row, Text, Asks, IsUsageOf, IsLineOf, SaysFault, SaysLine, fault_in, or_else, text_in, texts_in}
+use Rattle.capkit.proofs.Common.{uses_name_twice, Subcommand, Line, Usage, BadRange, BadTime, Memory, NameUsedTwice, OptionsExclude, Refused, TooManyValues}
 use Rattle.clap.specs.declared.error.Error.{Error}
 use Rattle.capkit.specs.declared.ids.TheConstants as ids
 use Rattle.capkit.specs.declared.edit_line.TheConstants as edit_ids
@@ -29,30 +28,28 @@ other_or_name other true twice e differs same = differs (cc)
 
 not_refused : (asked : Subcommand) (matches : List Row) (e : Error) → fault_in asked matches ≡ Some (Refused e) → ⊥
 not_refused sub.Edit matches e same =
-    let words = texts_in edit_ids.RANGE.now matches in
-    edit_or_name (nat_lt most_ranges (length words)) (list_any (λ word. is_none (range_of word)) words) (has_bad_time matches) (has_two_shifts matches)
-    (uses_name_twice (text_in edit_ids.IN.now matches ∷ []) (Some (text_in ids.OUT.now matches))) e same
+    let words = texts_in _ matches in
+    edit_or_name (nat_lt _ _) (list_any (λ word. is_none _) words) _ _
+    (uses_name_twice (text_in _ matches ∷ []) (Some (text_in _ matches))) e same
 not_refused sub.Merge matches e same =
-    other_or_name TooManyValues (nat_lt most_inputs (length (files_in matches)))
-    (uses_name_twice (files_in matches) (Some (text_in ids.OUT.now matches))) e (λ is. cc) same
-not_refused sub.Infos matches e same =
-    other_or_name TooManyValues (nat_lt most_inputs (length (files_in matches))) (uses_name_twice (files_in matches) None) e (λ is. cc) same
-not_refused sub.Print matches e same =
-    other_or_name OptionsExclude (has_exclusion matches) (uses_name_twice (read_names matches) (first_of ids.OUT.now matches)) e (λ is. cc) same
+    other_or_name _ _
+    _ e (λ is. cc) same
+not_refused sub.Infos matches e same = other_or_name _ _ _ e (λ is. cc) same
+not_refused sub.Print matches e same = other_or_name _ _ _ e (λ is. cc) same
 not_refused sub.Compile matches e same = cc
 
 says : (words : List Text) (asked : Subcommand) (matches : List Row) (usage : Usage) → Asks words asked matches → IsUsageOf (fault_in asked matches) usage
     → SaysFault words usage
 says words asked matches (Refused e) asks fault = elim fault [
   | inl memory ↦ cc
-  | inr same ↦ absurd (not_refused asked matches e same)
+  | inr same ↦ absurd (not_refused asked _ e same)
 ]
 says words asked matches _ asks fault = (asked, matches, asks, fault)
 
 pub says_fault : (words : List Text) (asked : Subcommand) (matches : List Row) (r : Result Line Usage) → Asks words asked matches
     → IfErr r (IsUsageOf (fault_in asked matches)) → IfErr r (SaysFault words)
 says_fault words asked matches (Ok line) asks fault = tt
-says_fault words asked matches (Err usage) asks fault = says words asked matches usage asks fault
+says_fault words asked matches (Err usage) asks fault = says words asked _ usage asks fault
 
 -- a compilation's line has no fault of its own
 pub compile_faultless : (matches : List Row) (r : Result Line Usage) → OnOk r (fault_in sub.Compile matches ≡ None)

@@ -1,8 +1,8 @@
 -- The range that is read from a word is the one that the word writes.
-use Rattle.capkit.proofs.Common.{◌≡◌, ◌∙◌, ◌++◌, ◌<◌, ap, arith, refl, subst, sym, ℕ, Bool, true, false, List, ◌∷◌, length, Option, Some, None, IfNone}
-use Rattle.capkit.proofs.Common.{if◌then◌else◌, nat_lt, slice_index_or, is_ascii_digit, after_first, before_first, list_all, list_any, position_or_len}
-use Rattle.capkit.proofs.Common.{IsNumeral, digits_value, and_from, and_parts, cond-true, eqb-true, lt-ltb, ltb-true, IsNumeralModel, not_in_digits}
-use Rattle.capkit.proofs.Common.{numerals_by_value, is_range, is_decimal, is_hyphen, range_number, range_between, range_of, sides_of}
+use Rattle.capkit.proofs.Common.{◌≡◌, ◌∙◌, ◌++◌, ap, arith, refl, subst, sym, ℕ, Bool, true, false, List, ◌∷◌, Option, Some, None, IfNone, if◌then◌else◌}
+use Rattle.capkit.proofs.Common.{is_ascii_digit, after_first, before_first, list_all, list_any, IsNumeral, digits_value, and_from, and_parts, cond-true}
+use Rattle.capkit.proofs.Common.{eqb-true, lt-ltb, ltb-true, IsNumeralModel, not_in_digits, numerals_by_value, is_range, is_decimal, is_hyphen, range_number}
+use Rattle.capkit.proofs.Common.{range_between, range_of, sides_of}
 use Rattle.capkit.proofs.Numbers.{any_by_place, test}
 use Rattle.std.proofs.lemmas.List.Sums.{passes_at_first, split_at_first}
 use Rattle.clap.proofs.CutLemmas.{Lacks, after_first-at, before_first-at, list_any-Lacks, list_any-at}
@@ -14,23 +14,23 @@ model : IsNumeralModel (λ ds. list_all is_ascii_digit ds ≡ true) (digits_valu
 model = numerals_by_value _ test
 
 decimal : (digits : List ℕ) → IsNumeral 10 digits → is_decimal digits ≡ true
-decimal digits h = and_from _ _ (lt-ltb 0 (length digits) h.0) (model.from digits h.1)
+decimal digits h = and_from _ _ (lt-ltb 0 _ h.0) (model.from digits h.1)
 
 number_is : (digits : List ℕ) → IsNumeral 10 digits → range_number digits ≡ Some (digits_value 10 digits)
-number_is digits h = cond-true _ (Some (digits_value 10 digits)) None (decimal digits h)
+number_is digits h = cond-true _ _ None (decimal digits h)
 
 only_number : (text : List ℕ) (n : ℕ) → range_number text ≡ Some n → IsNumeral 10 text × (digits_value 10 text ≡ n)
-only_number text n same = go (is_decimal text) refl same
+only_number text n same = go _ refl same
   where
     go : (b : Bool) → is_decimal text ≡ b → (if b then Some (digits_value 10 text) else None) ≡ Some n → IsNumeral 10 text × (digits_value 10 text ≡ n)
     go true is found =
-        let parts = and_parts (nat_lt 0 (length text)) (list_all is_ascii_digit text) is in
+        let parts = and_parts _ _ is in
         let value : digits_value 10 text ≡ n = cc in
-        ((ltb-true 0 (length text) parts.0, model.to text parts.1), value)
+        ((ltb-true 0 _ parts.0, model.to text parts.1), value)
     go false is found = cc
 
 no_hyphen : (digits : List ℕ) → IsNumeral 10 digits → Lacks 45 digits
-no_hyphen digits h i lt = not_in_digits model digits 45 (model.from digits h.1) (λ within. omega arith) i lt
+no_hyphen digits h i lt = grind (arith, not_in_digits, model)
 
 -- ---- what a word writes is read
 
@@ -40,51 +40,49 @@ read_between a b range first last proper = rw (first, last, proper) refl
 sides_read : (word : List ℕ) (range : ℕ × ℕ) → WritesNumbers word range
     → (range_number (sides_of word).0 ≡ Some range.0) × (range_number (sides_of word).1 ≡ Some range.1)
 sides_read word range (one digits h) =
-    let none : list_any is_hyphen digits ≡ false = list_any-Lacks 45 digits (no_hyphen digits h) in
+    let none = list_any-Lacks 45 digits (no_hyphen digits h) in
     rw none (number_is digits h, number_is digits h)
 sides_read word range (two first last h k) =
     let lacks = no_hyphen first h in
-    let some : list_any is_hyphen (first ++ 45 ∷ last) ≡ true = list_any-at 45 first last in
-    rw (some, before_first-at 45 first last lacks, after_first-at 45 first last lacks) (number_is first h, number_is last k)
+    let some = list_any-at 45 first last in
+    rw (some, before_first-at, after_first-at) (number_is first h, number_is last k)
 
 pub written_is_read : (word : List ℕ) (range : ℕ × ℕ) → WritesRange word range → range_of word ≡ Some range
-written_is_read word range writes =
-    let sides = sides_read word range writes.written in
-    read_between (range_number (sides_of word).0) (range_number (sides_of word).1) range sides.0 sides.1 writes.is_range
+written_is_read word range writes = grind (arith, sides_read, read_between)
 
 -- ---- what is read, a word writes
 
 pub between : (a b : Option ℕ) (range : ℕ × ℕ) → range_between a b ≡ Some range → (a ≡ Some range.0) × (b ≡ Some range.1) × (is_range range.0 range.1 ≡ true)
 between None b range same = cc
 between (Some n) None range same = cc
-between (Some n) (Some m) range same = go (is_range n m) refl same
+between (Some n) (Some m) range same = go _ refl same
   where
     go : (b : Bool) → is_range n m ≡ b → (if b then Some (n, m) else None) ≡ Some range
         → (Some n ≡ Some range.0) × (Some m ≡ Some range.1) × (is_range range.0 range.1 ≡ true)
     go true is found =
         let pair : (n, m) ≡ range = cc in
-        (ap (λ (r : ℕ × ℕ). Some r.0) pair, ap (λ (r : ℕ × ℕ). Some r.1) pair, subst (λ (r : ℕ × ℕ). is_range r.0 r.1 ≡ true) pair is)
+        (ap (λ r. Some r.0) pair, ap (λ r. Some r.1) pair, subst (λ r. is_range r.0 r.1 ≡ true) pair is)
     go false is found = cc
 
 -- a word with a hyphen consists of the texts before and after its first one
 around : (word : List ℕ) → list_any is_hyphen word ≡ true → before_first is_hyphen word ++ 45 ∷ after_first is_hyphen word ≡ word
 around word some =
-    let within : position_or_len is_hyphen word < length word = ltb-true _ _ (sym (any_by_place is_hyphen word) ∙ some) in
-    let hyphen : slice_index_or word (position_or_len is_hyphen word) 0 ≡ 45 = eqb-true _ _ (passes_at_first is_hyphen word 0 within) in
-    sym (split_at_first is_hyphen word 0 within ∙ ap (λ byte. before_first is_hyphen word ++ byte ∷ after_first is_hyphen word) hyphen)
+    let within = ltb-true _ _ (sym (any_by_place _ word) ∙ some) in
+    let hyphen = eqb-true _ _ (passes_at_first _ word 0 within) in
+    sym (split_at_first _ word 0 within ∙ ap (λ byte. before_first is_hyphen word ++ byte ∷ after_first is_hyphen word) hyphen)
 
 writes_both : (first last word : List ℕ) (range : ℕ × ℕ) → first ++ 45 ∷ last ≡ word → range_number first ≡ Some range.0 → range_number last ≡ Some range.1
     → WritesNumbers word range
 writes_both first last word range joined n m =
-    let low = only_number first range.0 n in
-    let high = only_number last range.1 m in
+    let low = only_number first _ n in
+    let high = only_number last _ m in
     let pair : (digits_value 10 first, digits_value 10 last) ≡ range = λ i. (low.1 i, high.1 i) in
-    subst (λ w. WritesNumbers w range) joined (subst (WritesNumbers (first ++ 45 ∷ last)) pair (two first last low.0 high.0))
+    subst (λ w. WritesNumbers w range) joined (subst (WritesNumbers _) pair (two first last low.0 high.0))
 
 writes_one : (word : List ℕ) (range : ℕ × ℕ) → range_number word ≡ Some range.0 → range_number word ≡ Some range.1 → WritesNumbers word range
 writes_one word range n m =
-    let low = only_number word range.0 n in
-    let high = only_number word range.1 m in
+    let low = only_number word _ n in
+    let high = only_number word _ m in
     let pair : (digits_value 10 word, digits_value 10 word) ≡ range = λ i. (low.1 i, high.1 i) in
     subst (WritesNumbers word) pair (one word low.0)
 
@@ -93,22 +91,18 @@ sides_if b word = if b then (before_first is_hyphen word, after_first is_hyphen 
 
 sides_written : (word : List ℕ) (range : ℕ × ℕ) → range_number (sides_of word).0 ≡ Some range.0 → range_number (sides_of word).1 ≡ Some range.1
     → WritesNumbers word range
-sides_written word range = go (list_any is_hyphen word) refl
+sides_written word range = go _ refl
   where
     go : (b : Bool) → list_any is_hyphen word ≡ b → range_number (sides_if b word).0 ≡ Some range.0 → range_number (sides_if b word).1 ≡ Some range.1
         → WritesNumbers word range
-    go true some n m = writes_both (before_first is_hyphen word) (after_first is_hyphen word) word range (around word some) n m
+    go true some n m = writes_both _ _ word range (around word some) n m
     go false none n m = writes_one word range n m
 
 pub read_is_written : (word : List ℕ) (range : ℕ × ℕ) → range_of word ≡ Some range → WritesRange word range
-read_is_written word range read =
-    let parts = between (range_number (sides_of word).0) (range_number (sides_of word).1) range read in
-    record { written = sides_written word range parts.0 parts.1; is_range = parts.2 }
+read_is_written word range read = grind (arith, between, sides_written)
 
 pub none_written : (word : List ℕ) → None ≡ range_of word → (range : ℕ × ℕ) → ¬ WritesRange word range
-none_written word none range writes =
-    let read : range_of word ≡ Some range = written_is_read word range writes in
-    cc
+none_written word none range writes = grind (arith, written_is_read)
 
 pub none_in : (word : List ℕ) (r : Option (ℕ × ℕ)) → None ≡ range_of word → IfNone r ((range : ℕ × ℕ) → ¬ WritesRange word range)
 none_in word None none = none_written word none

@@ -6,10 +6,8 @@ use Rattle.capkit.proofs.arguments.command_of_row.Goals as goal
 pub loop-argument-init : goal.loop-argument-init
 loop-argument-init c =
     let row = c.args.row.now in
-    let about : app_of c.about.result ≡ new_app row.name.now =
-    ap app_of_fields c.about.ensures ∙ c.new.ensures.app in
-    let bare : app_of c.after_help-command.result ≡ new_app row.name.now =
-    ap app_of_fields c.after_help-command.ensures ∙ about in
+    let about : app_of c.about.result ≡ new_app row.name.now = ap app_of_fields c.about.ensures ∙ c.new.ensures.app in
+    let bare : app_of c.after_help-command.result ≡ new_app row.name.now = ap app_of_fields c.after_help-command.ensures ∙ about in
     (ap (λ (a : App). with_rules a (map (rule_by c.args.choices) row.arguments.now)) bare, search rules)
 
 pub loop-argument-preserved : goal.loop-argument-preserved

@@ -13,5 +13,4 @@ loop-row-preserved c =
     ∙ c.loop-row.invariant
 
 pub returns : goal.returns
-returns c =
-    no_more with_subcommand (λ row. shape_by c.args.choices row.now) c.args.rows.now c.loop-row.row-index _ _ c.loop-row-test.false c.loop-row.invariant
+returns c = no_more with_subcommand (λ row. shape_by c.args.choices row.now) c.args.rows.now c.loop-row.row-index _ _ c.loop-row-test.false c.loop-row.invariant

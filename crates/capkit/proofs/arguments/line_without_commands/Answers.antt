@@ -21,10 +21,8 @@ pub returns : goal.returns
 returns c =
     let about : app_of c.about.result ≡ named = ap app_of_fields c.about.ensures ∙ c.new.ensures.app in
     let helped : app_of c.after_help.result ≡ named = ap app_of_fields c.after_help.ensures ∙ about in
-    let numbered : app_of c.version.result ≡ versioned named =
-    ap app_of_fields c.version.ensures ∙ ap versioned helped in
-    let following : app_of c.no_binary_name.result ≡ nameless (versioned named) =
-    ap app_of_fields c.no_binary_name.ensures ∙ ap nameless numbered in
+    let numbered : app_of c.version.result ≡ versioned named = ap app_of_fields c.version.ensures ∙ ap versioned helped in
+    let following : app_of c.no_binary_name.result ≡ nameless (versioned named) = ap app_of_fields c.no_binary_name.ensures ∙ ap nameless numbered in
     let required : app_of c.subcommand_required.result ≡ requiring (nameless (versioned named)) =
     ap app_of_fields c.subcommand_required.ensures ∙ ap requiring following in
     let alone : app_of c.disable_help_subcommand.result ≡ line_without_commands =

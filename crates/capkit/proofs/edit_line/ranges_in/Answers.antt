@@ -21,12 +21,10 @@ returns-clause-ranges c =
     ∙ ap (λ words. map range_of (map (λ word. word.now) words)) (take_all c.loop-word.word-index c.args.words.now c.loop-word-test.false)
 
 pub returns-clause-none : goal.returns-clause-none
-returns-clause-none c =
-    no_range_fault c.args.words.now c.loop-word.ranges.items c.loop-word.word-index (omega arith) (omega arith) c.loop-word.invariant
+returns-clause-none c = no_range_fault c.args.words.now c.loop-word.ranges.items c.loop-word.word-index (omega arith) (omega arith) c.loop-word.invariant
 
 pub returns-clause-proper : goal.returns-clause-proper
-returns-clause-proper c =
-    proper_ranges c.args.words.now c.loop-word.ranges.items c.loop-word.word-index (omega arith) (omega arith) c.loop-word.invariant
+returns-clause-proper c = proper_ranges c.args.words.now c.loop-word.ranges.items c.loop-word.word-index (omega arith) (omega arith) c.loop-word.invariant
 
 pub loop-word-preserved : goal.loop-word-preserved
 loop-word-preserved c = grind (arith, common_steps)

@@ -25,8 +25,7 @@ returns-clause-faultless c =
     (ap₂ (λ name names. name ∷ names) c.text-first.ensures c.texts-more.ensures) (omega arith) (sym c.uses_name_twice.ensures ∙ c.if-uses_name_twice.false)
 
 pub returns-clause-names : goal.returns-clause-names
-returns-clause-names c =
-    c.in_ok-inputs.ensures.texts ∙ ap₂ (λ name names. name ∷ names) c.text-first.ensures c.texts-more.ensures
+returns-clause-names c = c.in_ok-inputs.ensures.texts ∙ ap₂ (λ name names. name ∷ names) c.text-first.ensures c.texts-more.ensures
 
 pub returns-clause-count : goal.returns-clause-count
 returns-clause-count c = grind (arith, common_steps)

@@ -20,5 +20,4 @@ returns-clause-line c = record {
 
 pub returns-clause-ready : goal.returns-clause-ready
 unfolding returns-clause-line
-returns-clause-ready c =
-    ready _ _ (returns-clause-line c) c.in_ok-check_print.ensures.passes c.in_ok-inputs.ensures.count c.print_of.ensures.proper
+returns-clause-ready c = ready _ _ (returns-clause-line c) c.in_ok-check_print.ensures.passes c.in_ok-inputs.ensures.count c.print_of.ensures.proper

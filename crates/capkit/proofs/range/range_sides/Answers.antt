@@ -4,8 +4,7 @@ use Rattle.capkit.proofs.Numbers.{is_split, not_split}
 use Rattle.capkit.proofs.range.range_sides.Goals as goal
 
 pub returns-in-None : goal.returns-in-None
-returns-in-None c =
-    rw (not_split c.args.word.now _ c.split_once.ensures.cases c.in-None.is) (record { first = refl; last = refl })
+returns-in-None c = rw (not_split c.args.word.now _ c.split_once.ensures.cases c.in-None.is) (record { first = refl; last = refl })
 
 pub returns-in-Some : goal.returns-in-Some
 returns-in-Some c =
