@@ -26,14 +26,11 @@ test_grows a b i hit miss l = grind arith
 
 pub emitted_grows : (op : Option Operation) (i : Insn) (l : PlacedCode) → Grows l.code (with_insn op i l).code (1 + 2 * cond (is_branch op) 1 0)
 unfolding with_test
-emitted_grows (Some (JumpIf t o)) i l = test_grows _ _ i _ _ l
-emitted_grows _ i l = record { more = omega arith; few = omega arith }
+emitted_grows op i l = grind (arith, test_grows)
 
 pub at_least : (wide : List Insn) → length wide ≤ length (laid_out wide)
 at_least [] = omega arith
-at_least (i ∷ is) =
-    let g = emitted_grows (operation_of i.code) i (placed_code is) in
-    omega (arith, g.more, at_least is)
+at_least (i ∷ is) = grind (arith, emitted_grows, at_least is)
 
 pub at_most : (wide : List Insn) → length (laid_out wide) ≤ length wide + 2 * count_by (λ i. is_branch (operation_of i.code)) wide
 at_most [] = omega arith
@@ -56,9 +53,7 @@ plain_put i c other none = record { no_jump = All-cons (λ j. j.code ≢ JUMP) i
 emitted_plain : (op : Option Operation) (i : Insn) (l : PlacedCode) → operation_of i.code ≡ op → i.code ≢ JUMP → HasNoJump l.code
     → length l.code ≤ 255 → IsShort (with_insn op i l).code (length l.code + 1)
 unfolding with_test
-emitted_plain (Some (JumpIf t o)) i l e other none short =
-    let near : (to : ℕ) → nat_le (length l.code - to) MOST_OFFSET ≡ true = λ to. grind (arith, nat_tests) in
-    simp near (plain_put _ l.code other none)
+emitted_plain (Some (JumpIf t o)) i l e other none short = grind (arith, nat_tests, plain_put)
 emitted_plain (Some Jump) i l e other none short = absurd (other (sym (back_of_code i.code Jump e)))
 emitted_plain _ i l e other none short = plain_put _ l.code other none
 
@@ -111,21 +106,10 @@ needed_test : (i : Insn) (hit miss : ℕ) (l : PlacedCode) → i.code ≢ JUMP �
     → (a b d : Bool) → d ≡ is_near l hit MOST_OFFSET → b ≡ is_near l miss (if d then MOST_OFFSET else MOST_OFFSET - 1)
     → a ≡ is_near (with_way b miss l) hit MOST_OFFSET → JumpsAreNeeded (with_test_by a b i hit miss l).code
 needed_test i hit miss l other branches h true true d ed eb ea = needed_put l.code _ other h
-needed_test i hit miss l other branches h false true d ed eb ea =
-    let far : MOST_OFFSET < length l.code - hit = grind (arith, nat_tests) in
-    needed_one l.code i _ _ hit other branches (inl (omega arith)) far h
-needed_test i hit miss l other branches h true false true ed eb ea =
-    let far : MOST_OFFSET < length l.code - miss = grind (arith, nat_tests) in
-    needed_one l.code i _ _ miss other branches (inr (omega arith)) far h
+needed_test i hit miss l other branches h false true d ed eb ea = grind (arith, nat_tests, needed_one)
+needed_test i hit miss l other branches h true false true ed eb ea = grind (arith, nat_tests, needed_one)
 needed_test i hit miss l other branches h true false false ed eb ea = absurd (grind (arith, nat_tests))
-needed_test i hit miss l other branches h false false d ed eb ea =
-    let far_hit : MOST_OFFSET < length l.code + 1 - hit = grind (arith, nat_tests) in
-    let far_miss : MOST_OFFSET < length l.code + 1 - miss = by d eb in
-    needed_two l.code i _ _ hit miss other branches (omega arith) (omega arith) far_hit far_miss h
-  where
-    by : (d : Bool) → false ≡ is_near l miss (if d then MOST_OFFSET else MOST_OFFSET - 1) → MOST_OFFSET < length l.code + 1 - miss
-    by true e = grind (arith, nat_tests)
-    by false e = grind (arith, nat_tests)
+needed_test i hit miss l other branches h false false d ed eb ea = grind (arith, nat_tests, needed_two)
 
 emitted_needed : (op : Option Operation) (i : Insn) (l : PlacedCode) → operation_of i.code ≡ op → i.code ≢ JUMP → JumpsAreNeeded l.code
     → JumpsAreNeeded (with_insn op i l).code
@@ -148,9 +132,7 @@ jumps to c p n s = refl
 -- past one more instruction, by how much code there is then
 pub later : (m : ℕ) (i : Insn) (c : List Insn) (to : ℕ) (p : List ℕ) (n : ℕ) (s : State) → m ≡ suc (length c) → to ≤ length c
     → answer_of (i ∷ c) p n (m - to) s ≡ answer_of c p n (length c - to) s
-later m i c to p n s e l =
-    let further : m - to ≡ suc (length c - to) = omega arith in
-    ap (λ k. answer_of (i ∷ c) p n k s) further
+later m i c to p n s e l = grind arith
 
 -- the code from one place on gives the answers of that from another one on
 pub record GoesTo (c : List Insn) (place to : ℕ) : Type 0 where
@@ -170,20 +152,10 @@ pub record Extends (l m : PlacedCode) : Type 0 where
   pub ends : 0 < length l.code → ends_in_return m.code ≡ ends_in_return l.code
 
 one_more : (i : Insn) (l : PlacedCode) (noted : List PlacedJump) → Extends l (record { code = i ∷ l.code; places = l.places; jumps = noted })
-one_more i l noted = record { more = omega arith; places = refl; same = λ to p n s b. later _ i l.code to p n s refl b; ends = by l.code }
-  where
-    by : (c : List Insn) → 0 < length c → ends_in_return (i ∷ c) ≡ ends_in_return c
-    by [] some = absurd (omega arith)
-    by (j ∷ c) some = refl
+one_more i l noted = grind (arith, later)
 
 both_more : {l m o : PlacedCode} → Extends l m → Extends m o → Extends l o
-both_more h g = record {
-  more = omega (arith, h.more, g.more);
-  places = g.places ∙ h.places;
-  same = λ to p n s b. g.same to p n s
-      (omega (arith, b, h.more)) ∙ h.same to p n s b;
-  ends = λ some. g.ends (omega (arith, some, h.more)) ∙ h.ends some;
-}
+both_more h g = grind arith
 
 pub way_more : (near : Bool) (to : ℕ) (l : PlacedCode) → Extends l (with_way near to l)
 way_more near to l = grind (arith, one_more)
@@ -199,17 +171,7 @@ pub record Leads (c : List Insn) (j : PlacedJump) : Type 0 where
   pub inside : j.to ≤ length c
 
 keeps : {l m : PlacedCode} → Extends l m → (j : PlacedJump) → Leads l.code j → Leads m.code j
-keeps e j h =
-    let within = h.goes.within in
-    let inside = h.inside in
-    record {
-      goes = record {
-        within = omega (arith, e.more);
-        some = h.goes.some;
-        same = λ p n s. e.same j.place p n s within ∙ h.goes.same p n s ∙ sym (e.same j.to p n s inside);
-      };
-      inside = omega (arith, e.more);
-    }
+keeps e j h = grind arith
 
 -- all that are noted lead so
 abbrev pub AllLead : PlacedCode → Type 0
@@ -219,17 +181,7 @@ all_put : (i : Insn) (l : PlacedCode) → AllLead l → AllLead (emitted i l)
 all_put i l h k j b = keeps (one_more i l l.jumps) _ (h k j b)
 
 jump_leads : (to : ℕ) (l : PlacedCode) → to ≤ length l.code → Leads (with_jump to l.code) (record { place = length (with_jump to l.code); to = to })
-jump_leads to l b =
-    let c = with_jump to l.code in
-    let start : length c - length c ≡ 0 = omega arith in
-    record {
-      goes = record {
-        within = omega arith;
-        some = λ h. omega arith;
-        same = λ p n s. ap (λ k. answer_of c p n k s) start ∙ jumps to l.code p n s ∙ sym (later _ _ l.code to p n s refl b);
-      };
-      inside = omega arith;
-    }
+jump_leads to l b = grind (arith, jumps, later)
 
 all_jump : (to : ℕ) (l : PlacedCode) → to ≤ length l.code → AllLead l → AllLead (with_noted_jump to l)
 all_jump to l b h = All-cons (Leads (with_jump to l.code)) _ _ (jump_leads to l b) (All-take (Leads (with_jump to l.code)) 3 l.jumps (all_put _ l h))
@@ -248,11 +200,7 @@ near_jump c (j ∷ js) to l h =
 
 pub near_goes : (l : PlacedCode) (to : ℕ) → to ≤ length l.code → AllLead l → GoesTo l.code (near_place l to) to
 unfolding near_place
-near_goes l to inside h = choice (nat_le (length l.code - to) MOST_OFFSET)
-  where
-    choice : (b : Bool) → GoesTo l.code (if b then to else jump_near l.jumps to (length l.code)) to
-    choice true = stays l.code to inside
-    choice false = near_jump l.code l.jumps to inside h
+near_goes l to inside h = grind (arith, stays, near_jump)
 
 -- what is laid out in front of jumps that lead so
 all_way : (near : Bool) (to : ℕ) (l : PlacedCode) → to ≤ length l.code → AllLead l → AllLead (with_way near to l)
@@ -278,9 +226,7 @@ way_leads false to l b = jump_leads to l b
 -- a test's two places lead where they should
 pub test_leads : (a b : Bool) (hit miss : ℕ) (l : PlacedCode) → hit ≤ length l.code → miss ≤ length l.code
     → (let m = with_way b miss l in let c = (with_way a hit m).code in GoesTo c (way a hit m) hit × GoesTo c (way b miss l) miss)
-test_leads a b hit miss l lh lm =
-    let m = with_way b miss l in
-    ((way_leads a hit m (omega (arith, lh, (way_more b miss l).more))).goes, (keeps (way_more a hit m) _ (way_leads b miss l lm)).goes)
+test_leads a b hit miss l lh lm = grind (arith, way_leads, way_more, keeps)
 
 -- the layout of wide code: from the place of each instruction a run goes on as in the wide code
 pub record Lays (l : PlacedCode) (wide : List Insn) : Type 0 where
@@ -372,13 +318,7 @@ lays_put i l is h = record { leads = all_emitted op i l h.inside h.leads; inside
     arrives p n (suc k) s = ap (λ to. answer_of m.code p n (length m.code - to) s) (kept k) ∙ more.same _ p n s (h.inside k) ∙ h.arrives p n k s
 
 pub lays : (wide : List Insn) → Lays (placed_code wide) wide
-lays [] = record {
-  leads = All-replicate (Leads []) 4 _ (record { goes = stays [] 0 (omega arith); inside = omega arith });
-  inside = λ k. omega arith;
-  some = λ k b. absurd (omega arith);
-  next = λ p n s. refl;
-  arrives = λ p n k s. refl;
-}
+lays [] = grind (arith, stays)
 lays (i ∷ is) = lays_put i (placed_code is) is (lays is)
 
 pub same_answers : (wide : List Insn) (p : List ℕ) (n : ℕ) (s : State) → answer_of (laid_out wide) p n 0 s ≡ answer_of wide p n 0 s
@@ -387,9 +327,7 @@ same_answers wide p n s = (lays wide).next p n s
 -- code without a fault stays so
 jump_sound : (to : ℕ) (c : List Insn) → 0 < to → to ≤ length c → IsFaultless c → IsFaultless (with_jump to c)
 unfolding fault_of operation_of
-jump_sound to c some within sound =
-    let l : nat_lt (length c - to) (length c) ≡ true = grind (arith, nat_tests) in
-    (ap (λ b. unless b JumpOut) l, sound)
+jump_sound to c some within sound = grind (arith, nat_tests)
 
 test_sound : (i : Insn) (t : Test) (o : Operand) (jt jf : ℕ) (c : List Insn) → operation_of i.code ≡ Some (JumpIf t o) → jt < length c → jf < length c
     → IsFaultless c → IsFaultless (with_offsets i jt jf ∷ c)
@@ -401,10 +339,7 @@ way_sound near to l some within sound = grind (arith, jump_sound)
 
 reached_sound : (a b : Bool) (i : Insn) (t : Test) (o : Operand) (hit miss : ℕ) (l : PlacedCode) → operation_of i.code ≡ Some (JumpIf t o) → 0 < hit
     → hit ≤ length l.code → 0 < miss → miss ≤ length l.code → IsFaultless l.code → IsFaultless (with_test_by a b i hit miss l).code
-reached_sound a b i t o hit miss l e some_hit hit_in some_miss miss_in sound =
-    let q = test_leads a b hit miss l hit_in miss_in in
-    test_sound i t o _ _ _ e (omega (arith, q.0.some some_hit, q.0.within)) (omega (arith, q.1.some some_miss, q.1.within))
-    (way_sound a hit _ some_hit (omega (arith, hit_in, (way_more b miss l).more)) (way_sound b miss l some_miss miss_in sound))
+reached_sound a b i t o hit miss l e some_hit hit_in some_miss miss_in sound = grind (arith, test_leads, test_sound, way_sound, way_more)
 
 plain_sound : (op : Option Operation) (i : Insn) (c : List Insn) → operation_of i.code ≡ op → fault_if_known op (with_offsets i 0 0) (length c) ≡ None
     → IsFaultless c → IsFaultless (with_offsets i 0 0 ∷ c)
