@@ -15,12 +15,8 @@ pub one_more : (link : Link) (ps : List Protocol) (k : ℕ) (other : Protocol) (
     emit_all (accessor_tests link (get_or ps k other)) e.entry miss e.code)
 one_more link ps k other hit miss c l = ap (λ qs. emit_accessor_tests link qs hit miss c) (turned ps k other l)
 
-row_first : (link : Link) (e : Entry) (es : List Entry) (hit miss : ℕ) (c : List Insn) → let b = emit_formula link (rows_formula link es) hit miss c
-    in emit_formula link (rows_formula link (e ∷ es)) hit miss c ≡ emit_formula link (entry_formula link e) hit b.entry b.code
-row_first link e es hit miss c = grind arith
-
 pub one_more_row : (link : Link) (es : List Entry) (k : ℕ) (other : Entry) (hit miss : ℕ) (c d d' : List Insn) (entry entry' : ℕ) → k < length es
     → emit_formula link (rows_formula link (reverse (take k es))) hit miss c ≡ block d entry
     → emit_formula link (entry_formula link (get_or es k other)) hit entry d ≡ block d' entry'
     → emit_formula link (rows_formula link (reverse (take (k + 1) es))) hit miss c ≡ block d' entry'
-one_more_row link es k other hit miss c d d' entry entry' l h n = grind (arith, turned, row_first)
+one_more_row link es k other hit miss c d d' entry entry' l h n = grind (arith, turned)

@@ -3,14 +3,14 @@ use Rattle.std.proofs.Math.Nat.{mod-lt}
 use Rattle.flt_gen.proofs.Ascending.{if_case}
 use Rattle.flt_gen.proofs.Common.{◌≡◌, ℕ, zero, suc, ◌+◌, ◌-◌, ◌*◌, ◌^◌, ◌<◌, ◌≤◌, List, [], ◌∷◌, ◌++◌, length, map, max, length-take, take, drop, Bool, true}
 use Rattle.flt_gen.proofs.Common.{false, Option, Some, None, refl, sym, ap, ap₂, ◌∙◌, subst, arith, add-one, is_empty, is_idle, capture_test, last_test}
-use Rattle.flt_gen.proofs.Common.{needed_tests, ◌==◌, ◌&&◌, nat_lt, nat_le, bit_and, nat_tests, and_parts, pow_pos, and_le_r, Direction, Link, first_bits, Word}
-use Rattle.flt_gen.proofs.Common.{HalfWord, Byte, Width, Offset, Fixed, Equal, Elementary, Field, MatchResult, Yes, No, Rejected, reading_of, with, field_at}
-use Rattle.flt_gen.proofs.Common.{under_mask, elementary_reads, network_offset, Formula, both, either, all_of, reads, partial_mask, sides, value_needed}
-use Rattle.flt_gen.proofs.Common.{value_formula, kind_test, FrameKind, ValueType, Net, Value, Source, Destination}
+use Rattle.flt_gen.proofs.Common.{needed_tests, ◌==◌, ◌&&◌, nat_lt, nat_le, bit_and, nat_tests, and_parts, pow_pos, and_le_r, Direction, Link, Word, HalfWord}
+use Rattle.flt_gen.proofs.Common.{Byte, Width, Offset, Fixed, Equal, Elementary, Field, MatchResult, Yes, No, Rejected, reading_of, with, field_at, under_mask}
+use Rattle.flt_gen.proofs.Common.{elementary_reads, network_offset, Formula, both, either, all_of, reads, sides, value_needed, value_formula, kind_test}
+use Rattle.flt_gen.proofs.Common.{FrameKind, ValueType, Net, Value, Source, Destination}
 use Rattle.flt_words.specs.declared.token.Side.{Side}
 use Rattle.flt_gen.proofs.Counted.{Bare, bare_within, bare_all, bare_one, bare_some, bare_both, bare_either, bare_split}
 use Rattle.flt_gen.proofs.Exclusive.{both_either, or_no, either_assoc, and_yes}
-use Rattle.flt_gen.proofs.{Needed.all_put, Needed.later_none, Needed.idle_holds, Needed.fewer}
+use Rattle.flt_gen.proofs.{Needed.all_put, Needed.idle_holds, Needed.fewer}
 use Rattle.std.specs.{List.list_all, List.insert, Prelude.slice_get}
 use Rattle.flt_ast.specs.declared.qualifiers.Direction.TheVariants as direction
 use Rattle.flt_gen.specs.Formula.{choose, Split}
@@ -57,13 +57,9 @@ fields_of link d (IpProto n) = (Fixed (network_offset link + 9), Byte) ∷ []
 fields_of link d (Ip6Proto n) = (Fixed (network_offset link + 6), Byte) ∷ []
 fields_of link d (Case.Relation r) = (accessor_offset link r.protocol r.index, width_of r.size) ∷ []
 
-masked_part : (k : ℕ) (fs : List (Offset × Width)) (prefix : Option ℕ) (word : ℕ) → Later (Fixed k, Word) fs → Masked (Fixed k, Word) fs
-    (with prefix (λ bits. partial_mask (first_bits 32 (bits - 32 * word))))
-masked_part k fs prefix word later = grind (arith, pow_pos)
-
 pub shape_of : (link : Link) (d : Direction) (c : Case) → Shape (fields_of link d c) (case_tests link d c)
 shape_of link d (Mac a) = (refl, refl, refl, tt, (refl, refl, refl, tt, tt))
-shape_of link d (Ip6 n a) = grind (arith, later_none, masked_part)
+shape_of link d (Ip6 n a) = grind (arith, nat_tests, pow_pos)
 shape_of link d _ = (refl, refl, refl, tt, tt)
 
 pub some_fields : (link : Link) (d : Direction) (c : Case) → 0 < length (fields_of link d c)

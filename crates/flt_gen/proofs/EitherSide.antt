@@ -3,7 +3,7 @@
 use Rattle.flt_gen.proofs.Ascending.{if_case}
 use Rattle.flt_gen.proofs.Common.{◌≡◌, ℕ, suc, ◌+◌, ◌-◌, ◌*◌, ◌/◌, ◌%◌, ◌^◌, ◌<◌, ◌≤◌, List, [], ◌∷◌, length, max, Bool, true, false, Option, Some, None, refl}
 use Rattle.flt_gen.proofs.Common.{sym, ap, ap₂, ◌∙◌, subst, arith, ◌==◌, ◌&&◌, nat_le, nat_tests, and_parts, Direction, Link, Source, Destination, And, Or}
-use Rattle.flt_gen.proofs.Common.{Word, Width, Offset, Elementary, Field, MatchResult, No, reading_of, with, Formula, Outcome, both, either, all_of, reads}
+use Rattle.flt_gen.proofs.Common.{Word, Width, Offset, Elementary, Field, MatchResult, No, reading_of, with, Formula, Outcome, either, all_of, reads}
 use Rattle.flt_gen.proofs.Common.{needed_tests, drop, zero, is_at, compares, under_mask, field_at, elementary_reads, slice_get}
 use Rattle.flt_gen.proofs.Counted.{Bare, bare_within, bare_all, bare_one, bare_some, bare_both, bare_either}
 use Rattle.flt_gen.proofs.Deciding.{Shapes, fields_of, shape_of, some_fields, rows, rows_rest, shapes_rest, sizes, sizes_rest, read_all, needed_read, read_put}
@@ -25,9 +25,6 @@ seen_by : (o : Option ℕ) (f g : ℕ → Bool) → Known (reading_of (with o (�
 seen_by None f g (true, e) = cc
 seen_by None f g (false, e) = cc
 seen_by (Some x) f g k = (g x, refl)
-
-seen_after : (r a b : MatchResult) → (Known a → Known b) → Known (both r a) → Known (both r b)
-seen_after r a b h k = grind arith
 
 -- the same tests, but the last ones are of the same field
 abbrev Alike_last : Elementary → Elementary → Type 0
@@ -74,7 +71,7 @@ module _ (link : Link) (s : Side) (p : List ℕ) (n : ℕ) where
       last (Field t) (Field u) h k = subst (λ o. Known (reading_of (with o (λ x. Some (compares u.comparison (under_mask u.mask x) u.value)))))
           (ap₂ (λ o w. field_at o w p) h.0 h.1) (seen_by (field_at t.offset t.width p) _ _ k)
       last _ _ h k = absurd h
-  seen (t ∷ x ∷ xs) (u ∷ y ∷ ys) h k = grind (arith, seen_after, seen (x ∷ xs) (y ∷ ys) h.1)
+  seen (t ∷ x ∷ xs) (u ∷ y ∷ ys) h k = grind (arith, seen (x ∷ xs) (y ∷ ys) h.1)
   seen _ _ h k = absurd h
 
   all_seen : (k : Case) (cs : List Case) → are_either either_side k ≡ true → Likes either_side k cs → Known (told (side link s k))

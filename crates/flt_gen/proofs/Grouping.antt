@@ -365,7 +365,8 @@ rows_put link p n e es = grind (arith, or_no)
 held_put : (q : CompleteQualifiers) (v : Value) (m : Interval) (group : Group) (ls : List Interval) → member_of q.value_type v ≡ Some m
     → Ordered 0 group.all → ((y : ℕ) → is_within y group.all ≡ is_within y ls) → length group.all ≡ length group.entries
     → (group.is_plain ≡ true → Points group.all)
-    → length group.entries * member_tests (has_addresses q.value_type) q.protocol q.direction ≤ group_tests group → (0 < length group.entries → Merged q.direction)
+    → length group.entries * member_tests (has_addresses q.value_type) q.protocol q.direction ≤ group_tests group
+    → (0 < length group.entries → Merged q.direction)
     → ((link : Link) (p : List ℕ) (n : ℕ) → either (member_reads link p n (has_addresses q.value_type) q.protocol q.direction m)
     (reads link (rows_formula link group.entries) p n) ≡ members_read link p n (has_addresses q.value_type) q.protocol q.direction m ls)
     → Held (with_member q v m group) ls
@@ -379,7 +380,9 @@ held_put q v m group ls w up within many points few merged rows = record {
       let t = and_parts (m.low == m.high) group.is_plain plain in
       let point : m.low ≡ m.high = (let u = t.0 in grind (arith, nat_tests)) in
       (point, points_inserted m group.all point (points t.1));
-  counted = let one = suc-mul (length group.entries) (member_tests (has_addresses q.value_type) q.protocol q.direction) in let more = (its Ether [] 0).1 in omega arith;
+  counted =
+      let one = suc-mul (length group.entries) (member_tests (has_addresses q.value_type) q.protocol q.direction) in
+      let more = (its Ether [] 0).1 in omega arith;
   rows = λ link p n. rows_put link p n (entry q v) group.entries ∙ ap (λ r. either r (reads link (rows_formula link group.entries) p n))
       (value_same link p n q.value_type q.protocol q.direction v ∙ (its link p n).2) ∙ rows link p n;
 }
@@ -406,7 +409,8 @@ kept_with q v m group (numbered l empty ms h) g w =
     numbered (omega arith) empty (group.first ∷ ms)
     (held_put q v m group (group.first ∷ ms) w h.ascends h.all_within h.all_count (λ plain. (h.points plain).1)
     (subst (λ k. length group.entries * k ≤ group_tests group) f.tests_are h.counted) (λ l. f.merged)
-    (λ link p n. ap (either (member_reads link p n (has_addresses q.value_type) q.protocol q.direction m)) (h.rows link p n ∙ f.reads_are link p n group.first ms)
+    (λ link p n. ap (either (member_reads link p n (has_addresses q.value_type) q.protocol q.direction m))
+    (h.rows link p n ∙ f.reads_are link p n group.first ms)
     ∙ sym (members_more link p n (has_addresses q.value_type) q.protocol q.direction m group.first ms f.merged)))
 kept_with q v m group (listed l h) g w = absurd (let none = ap is_none (sym h.is_first) ∙ (fits_in q group group.entries l g).none in cc)
 

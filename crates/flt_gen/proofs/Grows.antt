@@ -13,7 +13,7 @@ use Rattle.flt_gen.proofs.Common.{emit_comparison, emit_field, emit_mask, emit_a
 use Rattle.flt_gen.proofs.Common.{emit_formula, words, nodes, tests, test_count, place_loads, mask_loads, field_loads, test_loads, loads, is_loaded, left_by}
 use Rattle.flt_gen.proofs.Common.{FieldPlace}
 use Rattle.flt_gen.proofs.{Counted.place_few, Numbers.operand_is}
-use Rattle.flt_gen.proofs.Leads.{Extends, extends_none, extends_put, extends_on, by_operand}
+use Rattle.flt_gen.proofs.Leads.{Extends, extends_none, extends_put, by_operand}
 use Rattle.flt_bpf.specs.{Check.fault_of, Instructions.operation_of}
 use Rattle.flt_bpf.specs.declared.fault.CheckFault.{CheckFault, TheVariants.JumpOut, TheVariants.NoSuchWord}
 use Rattle.flt_bpf.specs.declared.operation.AluOperation.{AluOperation}
@@ -30,9 +30,6 @@ abbrev jumps : Option Operation → Bool
 jumps (Some Jump) = true
 jumps _ = false
 
-ends_put : (i : Insn) (c : List Insn) → ends_in_return c ≡ true → ends_in_return (i ∷ c) ≡ true
-ends_put i c e = grind arith
-
 no_jump : (o : Operation) (i : Insn) → i.code ≡ code_of o → jumps (Some o) ≡ false → i.code ≢ JUMP
 unfolding operation_of
 no_jump o i e other j = grind (arith, code_is)
@@ -44,7 +41,7 @@ branch_count o i c e =
 sound_put : (o : Operation) (i : Insn) (c : List Insn) → i.code ≡ code_of o → jumps (Some o) ≡ false → operation_fault o i (length c) ≡ None → Sound c
     → Sound (i ∷ c)
 unfolding fault_of
-sound_put o i c e other f s = grind (arith, code_is, ends_put, All-cons)
+sound_put o i c e other f s = grind (arith, code_is, All-cons)
 
 -- what is known if it is asked for
 abbrev pub Asked : Bool → Type 0 → Type 0
@@ -205,7 +202,7 @@ module _ (b : Bool) where
 
   -- one part of the code in front of another
   fits_on : {c d : List Insn} {e : Block} {m w m' w' : ℕ} → GrowsBy b c d m w → FitsBy b d e m' w' → FitsBy b c e (m + m') (w + w')
-  fits_on a f = grind (arith, extends_on)
+  fits_on a f = grind arith
 
   test_fits : (held : Option FieldPlace) (t : Elementary) (hit miss : ℕ) (c : List Insn) → Asked b (Sound c) → Asked b (Inside c hit) → Asked b (Inside c miss)
       → FitsBy b c (emit_test held t hit miss c) (test_loads held t + test_count t) (test_loads held t + 3 * test_count t)

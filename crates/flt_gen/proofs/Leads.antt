@@ -16,9 +16,6 @@ extends_none c = record { longer = omega arith; same = λ place l. refl }
 pub extends_put : {c d : List Insn} (i : Insn) → Extends c d → Extends c (i ∷ d)
 extends_put {d = d} i e = grind arith
 
-pub extends_on : {c d f : List Insn} → Extends c d → Extends d f → Extends c f
-extends_on a b = grind arith
-
 -- by a constant operand or index
 pub by_operand : (P : List Insn → Type 0) (o : Option ℕ) (short : ℕ → List Insn) (long : List Insn) → ((k : ℕ) → o ≡ Some k → P (short k)) → P long
     → P (constant_or o short long)

@@ -1,8 +1,8 @@
 -- Words of IPv6 addresses of which no bit counts: the formula reads the same, and has no more
 -- tests.
-use Rattle.flt_gen.proofs.Common.{◌≡◌, ℕ, suc, ◌+◌, ◌*◌, ◌≤◌, List, ◌∷◌, length, true, Option, None, arith, ◌==◌, ◌&&◌, nat_tests, Protocol, ValueType, Net}
-use Rattle.flt_gen.proofs.Common.{Direction, Value, Word, field, Link, Elementary, MatchResult, under_mask, elementary_reads, network_offset, both, all_of}
-use Rattle.flt_gen.proofs.Common.{reads, ip6_tests, is_empty, needed_tests, value_needed}
+use Rattle.flt_gen.proofs.Common.{◌≡◌, ℕ, ◌+◌, ◌≤◌, List, ◌∷◌, length, true, Option, arith, ◌==◌, ◌&&◌, nat_tests, Protocol, ValueType, Net, Direction, Value}
+use Rattle.flt_gen.proofs.Common.{Link, Elementary, MatchResult, under_mask, elementary_reads, network_offset, both, all_of, reads, ip6_tests, is_empty}
+use Rattle.flt_gen.proofs.Common.{needed_tests, value_needed}
 use Rattle.flt_gen.proofs.{Counted.Bare, Counted.bare_after, Counted.bare_sides, Counted.bare_value, Exclusive.and_yes}
 use Rattle.std.specs.Int.Bits.{and_zero_r}
 use Rattle.flt_ast.specs.Counts as count
@@ -29,6 +29,3 @@ module _ (link : Link) (p : List ℕ) (n : ℕ) where
 
   pub all_put : (t : Elementary) (ts : List Elementary) → told (t ∷ ts) ≡ both (elementary_reads t p) (told ts)
   all_put t ts = grind (arith, and_yes)
-
-  pub later_none : (at k : ℕ) → field p (at + 4 * k) Word ≡ None → field p (at + 4 * suc k) Word ≡ None
-  later_none at k e = grind (arith, nat_tests)

@@ -1,5 +1,5 @@
 -- The code of a formula goes on where the formula's reading says.
-use Rattle.flt_gen.specs.Formula.{choose, Formula, Single, Compare, Both, Either, Except, Split, relation_reads, both, either, negation as exchanged, reads}
+use Rattle.flt_gen.specs.Formula.{choose, Formula, Single, Compare, Both, Either, Except, Split, relation_reads, both, either, reads}
 use Rattle.flt_gen.proofs.Ascending.{if_case}
 use Rattle.flt_gen.proofs.Common.{◌≡◌, ℕ, ◌+◌, ◌-◌, ◌≤◌, List, length, Bool, true, false, Option, Some, None, refl, sym, ap, ap₂, ◌∙◌, arith, nat_le, nat_lt}
 use Rattle.flt_gen.proofs.Common.{◌==◌, not, ◌&&◌, if◌then◌else◌, bit_and, nat_tests, and_parts, Insn, State, Width, Test, Operand, Constant, IndexRegister}
@@ -27,9 +27,6 @@ pick_chosen a b c v w = grind arith
 
 pick_either : (a b : MatchResult) (v w : ℕ) → pick a v (pick b v w) ≡ pick (either a b) v w
 pick_either a b v w = grind arith
-
-pick_negated : (a : MatchResult) (v w : ℕ) → pick a w v ≡ pick (exchanged a) v w
-pick_negated a v w = grind arith
 
 picked : (b : Bool) (v w : ℕ) → (if b then v else w) ≡ pick (reading_of (Some b)) v w
 picked b v w = grind arith
@@ -205,7 +202,7 @@ module _ (p : List ℕ) (n : ℕ) where
       (leads_on p n (emitted_by false None link b hit miss c (omega arith) tt tt tt).grows.tail h)
       (by_itself (emitted_after None link b hit miss v w c (omega arith) h m)))))
   emitted_after held link (Except a) hit miss v w c few h m =
-      grind (arith, anyhow, leads_to, pick_negated, by_itself, emitted_after None link a miss hit w v c few m h)
+      grind (arith, anyhow, leads_to, by_itself, emitted_after None link a miss hit w v c few m h)
   emitted_after held link (Split t a b) hit miss v w c few h m =
       let left = left_by t in
       let no = emit_after left link b hit miss c in

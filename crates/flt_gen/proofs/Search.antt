@@ -4,11 +4,11 @@ use Rattle.flt_gen.proofs.Ascending.{if_case, is_in, is_within, Apart, Searchabl
 use Rattle.flt_gen.proofs.Ascending.{length_without, within_without, lower_half, upper_half, first_taken, ends_few, none_below}
 use Rattle.flt_gen.proofs.Common.{◌≡◌, ℕ, zero, suc, ◌+◌, ◌-◌, ◌*◌, ◌/◌, ◌%◌, ◌^◌, ◌<◌, ◌≤◌, List, [], ◌∷◌, length, take, drop, Bool, true, false, Option, Some}
 use Rattle.flt_gen.proofs.Common.{None, refl, ap, ap₂, sym, ◌∙◌, subst, arith, max, nat_le, nat_lt, ◌==◌, not, ◌||◌, if◌then◌else◌, take_rest, length-drop}
-use Rattle.flt_gen.proofs.Common.{length-take, nat_tests, or-false, Width, Insn, Interval, Sides, Offset, FieldPlace, MatchResult, Yes, Rejected, reading_of}
-use Rattle.flt_gen.proofs.Common.{with, compares, field_at, under_mask, elementary_reads, Formula, Split, both, either, reads, Link, Direction, Source}
-use Rattle.flt_gen.proofs.Common.{Destination, And, Or, Comparison, Equal, Less, AtMost, AtLeast, Block, emit_after, emit_test, emit_comparison, emit_field}
-use Rattle.flt_gen.proofs.Common.{emit_mask, at_top, Constant, Numbers, field_test, are_few, low_of, within_formula, sought_formula, first_ends, sought_tests}
-use Rattle.flt_gen.proofs.Common.{tests, loads, test_loads, place_loads, mask_loads, nodes, words, Single, Outcome}
+use Rattle.flt_gen.proofs.Common.{length-take, nat_tests, or-false, Insn, Interval, Sides, Offset, FieldPlace, MatchResult, Rejected, reading_of, with}
+use Rattle.flt_gen.proofs.Common.{compares, field_at, under_mask, elementary_reads, Formula, Split, both, either, reads, Link, Direction, Source, Destination}
+use Rattle.flt_gen.proofs.Common.{And, Or, Comparison, Equal, Less, AtMost, AtLeast, Block, emit_after, emit_test, emit_comparison, emit_field, emit_mask}
+use Rattle.flt_gen.proofs.Common.{at_top, Constant, Numbers, field_test, are_few, low_of, within_formula, sought_formula, first_ends, sought_tests, tests}
+use Rattle.flt_gen.proofs.Common.{loads, test_loads, place_loads, mask_loads, nodes, words, Single, Outcome}
 use Rattle.flt_gen.proofs.Counted.{Bare, bare_within, bare_some, place_few, mask_few}
 use Rattle.flt_gen.proofs.Firsts.{exact, or_yes, by_first}
 use Rattle.flt_gen.proofs.{Exclusive.or_no, Runs.one_number}
@@ -153,13 +153,6 @@ sides_read (Direction.Both And) s d f a = both (read_by s f) (read_by d f)
 counted : (index k : ℕ) → index ≤ k → k < 2 ^ 32 → (index + (k - index)) % 2 ^ 32 ≡ k
 counted index k l m = (let e : index + (k - index) ≡ k = omega arith in ap (λ z. z % 2 ^ 32) e) ∙ mod-eq_of_lt m
 
-at_index_same : (p : List ℕ) (index : ℕ) (mask : Option ℕ) (a b : Offset) (w : Width) → Reached index mask a b
-    → (field_at (at_index index a) w p ≡ field_at a w p) × (field_at (at_index index b) w p ≡ field_at b w p)
-at_index_same p index mask a b w l = grind (arith, counted)
-
-captured_is : (o : Option ℕ) (f : ℕ → Bool) → read_by o (λ x. nat_le 0 x) ≡ either (read_by o f) Yes
-captured_is o f = grind (arith, nat_tests, or_yes)
-
 -- the source, if it is captured, is of the first member, of all, and of the others
 few_told : (b c o : Bool) (d : Option ℕ) (f a : ℕ → Bool) → (b ≡ true → c ≡ true) → (b ≡ false → o ≡ c)
     → either (exact b) (either (read_by d a) (exact o)) ≡ by_first (exact c) (exact b) (read_by d f) (read_by d a)
@@ -210,7 +203,7 @@ module _ (link : Link) (p : List ℕ) (n : ℕ) (at : Sides) (numbers : Numbers)
           (λ t. ap (is_within y) r.others_are ∙ within_without y numbers.first numbers.all (sym (or-false (is_in y numbers.first)) ∙ t))
 
   many_read : reads link (many_formula (sides_at_index link at) numbers) p n ≡ either_side
-  many_read = grind (arith, at_index_same, all_read, first_read, captured_is)
+  many_read = grind (arith, counted, all_read, first_read, nat_tests, or_yes)
 
   pub sought_read : (d : Direction) → Merged d → reads link (sought_formula link d at numbers) p n ≡ sides_read d source destination of_first of_all
   sought_read d m = grind (arith, all_read, many_read, few_read)

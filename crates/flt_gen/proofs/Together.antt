@@ -7,7 +7,7 @@ use Rattle.flt_gen.proofs.Common.{first_bits, HalfWord, Offset, Link, FrameKind,
 use Rattle.flt_gen.proofs.Common.{under_mask, kind_test, elementary_reads, Formula, sought_formula, both, either, all_of, sides, reads, address_places}
 use Rattle.flt_gen.proofs.Common.{partial_mask, port_is, port_between, port_places, in_net, hosts_formula, ip_transport, ip6_transport, port_formula}
 use Rattle.flt_gen.proofs.Common.{value_formula, joined_all, left_out, high_mask, cut, sought, has_addresses, net_numbers, member_of, several_formula}
-use Rattle.flt_gen.proofs.Exclusive.{or_no, both_either, kinds_exclude}
+use Rattle.flt_gen.proofs.Exclusive.{or_no, both_either}
 use Rattle.flt_gen.proofs.Firsts.{Known}
 use Rattle.flt_gen.proofs.Prefixes.{Idle, idle_sought, Small, cut_in, cut_within, net_hit}
 use Rattle.flt_gen.proofs.{Runs.one_number, Search.Merged, Search.read_by, Search.sides_read, Search.sought_read}
@@ -116,7 +116,7 @@ module _ (link : Link) (p : List ℕ) (n : ℕ) where
 
   sides_join : (k : Bool) (protocol : Option Protocol) (x y : Sides → MatchResult) → by_sides k protocol (λ at. either (x at) (y at)) ≡ either
       (by_sides k protocol x) (by_sides k protocol y)
-  sides_join k protocol x y = grind (arith, kinds_exclude, both_either, or_no)
+  sides_join k protocol x y = grind (arith, nat_tests, both_either, or_no)
 
   -- what is asked of the places
   abbrev told_at : (Sides → Formula) → Sides → MatchResult

@@ -2,7 +2,8 @@
 
 ghost use Rattle.std.specs.Prelude.{◌≡◌};
 ghost use Rattle.flt_gen.specs.inside.{Emits.Emits, Emits.EmitsFormula, Code.emit_after};
-ghost use Rattle.flt_gen.specs.inside.Search.{are_few, low_of, held_if, chain_of, search, within_formula};
+ghost use Rattle.flt_gen.specs.inside.Search.{are_few, low_of, held_if, chain_of};
+ghost use Rattle.flt_gen.specs.inside.Search.{search, within_formula};
 ghost use Rattle.flt_gen.specs.inside.Search.{few_formula, many_formula, sought_formula};
 ghost use Rattle.flt_gen.specs.inside.Search.{fewest_at_index, are_alone, are_at_index};
 ghost use Rattle.flt_gen.specs.inside.Search.{index_of, at_index, sides_at_index};

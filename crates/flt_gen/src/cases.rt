@@ -9,7 +9,8 @@ ghost use Rattle.flt_gen.specs.inside.Cases.{case_tests, lowest, reach, word_tes
 ghost use Rattle.flt_gen.specs.inside.Cases.{test_at, from_test, middle, is_parted, chain};
 ghost use Rattle.flt_gen.specs.inside.{Emits.Emits, Code.emit_all, Code.emit_formula, Code.emit_after};
 ghost use Rattle.flt_gen.specs.inside.Emitted.{needed_tests};
-ghost use Rattle.flt_gen.specs.inside.Cases.{decision, either_formula, list_formula, cases_formula, few_of};
+ghost use Rattle.flt_gen.specs.inside.Cases.{decision, either_formula, few_of};
+ghost use Rattle.flt_gen.specs.inside.Cases.{list_formula, cases_formula};
 ghost use Rattle.flt_gen.specs.inside.Cases.{shares, are_either, mac_place, ip6_place};
 ghost use Rattle.cap_octet.specs.Link.{longest_header, network_offset};
 ghost use Rattle.flt_gen.specs.inside.Emits.{EmitsFormula};

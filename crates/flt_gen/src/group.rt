@@ -10,7 +10,8 @@ ghost use Rattle.flt_gen.specs.inside.Group.{larger_group, is_searched, group_fo
 ghost use Rattle.flt_gen.specs.inside.Group.{rows_formula, several_formula};
 ghost use Rattle.flt_gen.specs.inside.{Cases.case_of, Emits.EmitsFormula};
 ghost use Rattle.flt_gen.specs.inside.Intervals.{insert_ascending};
-ghost use Rattle.flt_gen.specs.inside.Group.{has_addresses, has_networks, case_goes_with, with_case};
+ghost use Rattle.flt_gen.specs.inside.Group.{has_addresses, has_networks};
+ghost use Rattle.flt_gen.specs.inside.Group.{case_goes_with, with_case};
 ghost use Rattle.flt_gen.specs.inside.Group.{larger_by, entry_formula, fewest_either};
 
 use crate::cases::{Case, are_either, case_of, put_case, same_words};

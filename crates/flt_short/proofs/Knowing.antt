@@ -1,15 +1,13 @@
 -- What is known holds of the packet and of the registers.
-use Rattle.flt_short.proofs.Common.{◌≡◌, ℕ, zero, suc, ◌+◌, ◌≤◌, List, [], ◌∷◌, length, true, false, Option, Some, sym, ◌∙◌, subst, arith, ◌⊎◌, inl}
-use Rattle.flt_short.proofs.Common.{inr, ◌==◌, if◌then◌else◌, slice_set, nat_tests, State, Operation, Insn, Next, Goes, does, goes_on_or_rejects, compute}
-use Rattle.flt_short.proofs.Common.{LoadIndirect, Field, Held, IndexValue, Known, same_optional, same_index, same_load, same_field, claims_nothing, allows}
-use Rattle.flt_short.proofs.Common.{Implies, JoinsClaims, same_held, common_index, holds_field, known_after, masked_held, held_at, field_at}
-use Rattle.flt_short.proofs.Common.{index_number, loaded, masked, value_of, IsThere, is_said, Says, HeldHolds, IndexHolds, Holds, HoldsAt}
-use Rattle.flt_short.proofs.Common.{LearnsEqual, Learns, Test, JumpIf, Constant, bit_and, not, Bool, JoinsBy, JoinsFact}
-use Rattle.flt_short.proofs.Common.{JoinsFacts, Arrives}
-use Rattle.std.proofs.Common.{◌<◌, ◌%◌, ◌^◌, All, get_or, take}
+use Rattle.flt_short.proofs.Common.{◌≡◌, ℕ, zero, suc, ◌+◌, ◌≤◌, List, [], ◌∷◌, length, true, false, Option, Some, sym, ◌∙◌, subst, arith, ◌⊎◌, inl, inr, ◌==◌}
+use Rattle.flt_short.proofs.Common.{if◌then◌else◌, slice_set, nat_tests, State, Operation, Insn, Next, Goes, does, goes_on_or_rejects, compute, Field, Held}
+use Rattle.flt_short.proofs.Common.{IndexValue, Known, same_index, same_load, same_field, claims_nothing, allows, Implies, JoinsClaims, same_held, common_index}
+use Rattle.flt_short.proofs.Common.{holds_field, known_after, masked_held, loaded, masked, value_of, IsThere, is_said, Says, HeldHolds, IndexHolds, Holds}
+use Rattle.flt_short.proofs.Common.{LearnsEqual, Learns, Test, JumpIf, Constant, bit_and, not, Bool, JoinsBy, JoinsFact, JoinsFacts, Arrives}
+use Rattle.std.proofs.Common.{◌<◌, All, get_or, take}
 use Rattle.std.proofs.lemmas.List.{take_more_set, take_all}
 use Rattle.std.proofs.lemmas.List.Elements.{All-set, All-push}
-use Rattle.flt_bpf.specs.{Instructions.operation_of, Machine.field, declared.operation.AluOperation.AluOperation, declared.operation.Width.Width}
+use Rattle.flt_bpf.specs.{Instructions.operation_of, Machine.field, declared.operation.AluOperation.AluOperation}
 use Rattle.flt_short.specs.declared.facts.Claim.{Claim}
 use Rattle.flt_short.specs.declared.facts.Fact.{Fact}
 use Rattle.flt_short.specs.declared.facts.Held.TheVariants as held
@@ -21,9 +19,6 @@ numbers a b e = grind (arith, nat_tests)
 pub same_number : (v b : ℕ) → v ≡ b → (v == b) ≡ true
 same_number v b e = grind (arith, nat_tests)
 
-pub same_masks : (a b : Option ℕ) → same_optional a b ≡ true → a ≡ b
-same_masks a b e = grind (arith, nat_tests)
-
 pub same_indexes : (x y : IndexValue) → same_index x y ≡ true → x ≡ y
 same_indexes x y e = grind (arith, nat_tests)
 
@@ -32,7 +27,7 @@ same_loaded : (p : List ℕ) (n : ℕ) (f g : Field) → same_load f g ≡ true 
 same_loaded p n f g e = grind (arith, nat_tests, same_indexes)
 
 pub same_value : (p : List ℕ) (n : ℕ) (f g : Field) → same_field f g ≡ true → value_of p n f ≡ value_of p n g
-same_value p n f g e = grind (arith, nat_tests, same_masks, same_loaded)
+same_value p n f g e = grind (arith, nat_tests, same_loaded)
 
 -- what a fact claims of its field
 pub claimed : (p : List ℕ) (n : ℕ) (x : Fact) (f : Field) (number : ℕ) → same_field x.field f ≡ true → Says p n x → value_of p n f ≡ Some number
@@ -70,10 +65,6 @@ pub joined_all : (first ys xs : List Fact) (at : ℕ) → length xs ≤ at → J
 joined_all first ys xs at l h p n (inl f) = (h p n).0 f
 joined_all first ys xs at l h p n (inr f) = subst (All (Says p n)) (take_all at xs l) ((h p n).1 f)
 
--- what is captured
-said_some : (c : Claim) (o : Option ℕ) → claims_nothing c ≡ false → is_said c o ≡ true → (v : ℕ) × (o ≡ Some v)
-said_some c o n h = grind arith
-
 held_there : (mask o : Option ℕ) (a : ℕ) → masked mask o ≡ Some a → (v : ℕ) × (o ≡ Some v)
 held_there mask o a e = grind arith
 
@@ -84,7 +75,7 @@ module _ (p : List ℕ) (len : ℕ) where
       (t.0, sym (same_loaded p len f g same) ∙ t.1)
 
   pub there_by : (x : Fact) (g : Field) → Says p len x → same_load x.field g ≡ true → claims_nothing x.claim ≡ false → IsThere p len g
-  there_by x g h same e = grind (arith, said_some, there_of)
+  there_by x g h same e = grind (arith, there_of)
 
   pub field_there : (h : Held) (g : Field) (s : State) → HeldHolds p len h s → holds_field h g ≡ true → IsThere p len g
   field_there h g s x e = grind (arith, there_of)
@@ -99,15 +90,6 @@ module _ (p : List ℕ) (len : ℕ) where
 
   joins_index : (a b : IndexValue) (n : ℕ) → IndexHolds p a n ⊎ IndexHolds p b n → IndexHolds p (common_index a b) n
   joins_index a b n h = grind (arith, same_indexes)
-
-  -- a load at X puts the same into A by what is known of X
-  pub loaded_by : (x : IndexValue) (n k v : ℕ) (w : Width) → IndexHolds p x n → field_at p (index_number p x) k w ≡ Some v
-      → field p ((n + k) % 2 ^ 32) w ≡ Some v
-  loaded_by x n k v w h e = grind arith
-
-  pub loads_at : (x : IndexValue) (i : Insn) (w : Width) (v : ℕ) (s : State) → operation_of i.code ≡ Some (LoadIndirect w) → IndexHolds p x s.index
-      → field p ((s.index + i.k) % 2 ^ 32) w ≡ Some v → HeldHolds p len (held_at x i) (record s { accumulator = v })
-  loads_at x i w v s o h e = grind arith
 
   joins_by : (h : Held) (k came new : Known) (s : State) → JoinsBy h k came new → (HeldHolds p len h s × Holds p len k s) ⊎ Holds p len came s
       → Holds p len new s
@@ -131,12 +113,9 @@ module _ (p : List ℕ) (len : ℕ) where
       → HeldHolds p len (masked_held h m) (record s { accumulator = v })
   masks h m v s x e = grind arith
 
-  kept_small : (b : Bool) (x : IndexValue) (v : ℕ) → IndexHolds p x v → IndexHolds p (if b then x else IndexValue.Unknown) v
-  kept_small b x v h = grind arith
-
   pub after : (op : Operation) (k : Known) (i : Insn) (s : State) → operation_of i.code ≡ Some op → goes_on_or_rejects op ≡ true → Holds p len k s
       → After (known_after (Some op) k i) (does op i p len s)
-  after op k i s e f y = grind (arith, masks, loads_at, kept_small)
+  after op k i s e f y = grind (arith, masks)
 
 -- a run that comes to a place with more known
 pub arrives : (seen : List Known) (place : ℕ) (k d new : Known) → place < length seen → JoinsBy (get_or seen place d).held (get_or seen place d) k new

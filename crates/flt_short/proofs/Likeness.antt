@@ -294,8 +294,7 @@ module _ (p : List ℕ) (n : ℕ) where
 
       ways : AsGood d is p n j.jf u.jt (other s a x) s' → AsGood d is p n j.jt u.jf (other s a x) s' → (z : Bool)
           → AsGood d is p n (if not z then j.jt else j.jf) (if z then u.jt else u.jf) (other s a x) s'
-      ways f g true = f
-      ways f g false = g
+      ways f g z = grind arith
 
   -- an instruction that is left out
   rejected : (j : Insn) (js : List Insn) (s : State) → rejects j ≡ true → (answer_of (j ∷ js) p n 0 s ≡ Some 0) × (steps_of (j ∷ js) p n 0 s ≡ 1)

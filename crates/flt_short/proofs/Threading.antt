@@ -3,11 +3,11 @@
 use Rattle.flt_short.proofs.Common.{◌≡◌, ℕ, zero, suc, ◌+◌, ◌<◌, List, [], ◌∷◌, length, drop, Bool, true, false, Option, Some, None, refl, sym, ap, ◌∙◌, subst}
 use Rattle.flt_short.proofs.Common.{arith, if◌then◌else◌, slice_get, slice_set, bit_and, nat_tests, map, Insn, State, Operation, LoadAbsolute, LoadIndirect}
 use Rattle.flt_short.proofs.Common.{Load, LoadHeaderLength, Compute, Jump, JumpIf, Accumulator, Index, Immediate, Length, Constant, Next, Goes, does_if_known}
-use Rattle.flt_short.proofs.Common.{answer_of, answer_after, operand_value, test_holds, is_branch, not, Held, IndexValue, Known, same_held}
-use Rattle.flt_short.proofs.Common.{same_index, masked_held, load_of, held_after, is_free_by, is_free, known_step, count_by, get_or, cond, start}
-use Rattle.flt_short.proofs.Common.{does, goes_on_or_rejects, ends_in_return, known_after, IsThere, HeldHolds, Holds, HoldsAt}
-use Rattle.flt_short.proofs.Common.{Learns, Arrives, with_a, IsDecided, Passes, LeadsTo, Moves, Alike, IsThreaded, AreThreaded}
-use Rattle.flt_short.proofs.Knowing.{same_indexes, same_holds, loaded_by, loads_at, After, after, masks}
+use Rattle.flt_short.proofs.Common.{answer_of, answer_after, operand_value, test_holds, is_branch, not, Held, IndexValue, Known, same_held, same_index}
+use Rattle.flt_short.proofs.Common.{masked_held, load_of, held_after, is_free_by, is_free, known_step, count_by, get_or, cond, start, does, goes_on_or_rejects}
+use Rattle.flt_short.proofs.Common.{ends_in_return, known_after, IsThere, HeldHolds, Holds, HoldsAt, Learns, Arrives, with_a, IsDecided, Passes, LeadsTo, Moves}
+use Rattle.flt_short.proofs.Common.{Alike, IsThreaded, AreThreaded}
+use Rattle.flt_short.proofs.Knowing.{same_indexes, same_holds, After, after, masks}
 use Rattle.flt_short.proofs.Likeness.{at_step}
 use Rattle.std.proofs.Common.{◌≤◌, ◌++◌, take, append_assoc}
 use Rattle.std.proofs.Math.Seq.{drop-cons}
@@ -58,7 +58,7 @@ passes_load k i h w o there p n s a holds x = let t = there p n s holds in (t.0,
 
 pub passes_known_at : (k : Known) (i : Insn) (h : Held) (w : Width) → operation_of i.code ≡ Some (LoadIndirect w)
     → ((p : List ℕ) (n : ℕ) (s : State) → Holds p n k s → IsThere p n (load_of i k.index)) → Passes k i h 0
-passes_known_at k i h w o there p n s a holds x = let t = there p n s holds in (t.0, grind (arith, t, loaded_by, known_step p n i _ (with_a s a) o))
+passes_known_at k i h w o there p n s a holds x = let t = there p n s holds in (t.0, grind (arith, t, known_step p n i _ (with_a s a) o))
 
 pub passes_load_at : (k : Known) (i : Insn) (h : Held) (w : Width) → operation_of i.code ≡ Some (LoadIndirect w) → same_held (held.AtIndex i.code i.k)
     k.held ≡ true → Passes k i h 0
@@ -82,7 +82,7 @@ passes_mask k i h o p n s a holds x = (bit_and a i.k, known_step p n i (Some (Co
 held_next : (p : List ℕ) (n : ℕ) (k : Known) (s : State) → Holds p n k s → (op : Option Operation) (i : Insn) (h : Held) (a b far : ℕ)
     → operation_of i.code ≡ op → HeldHolds p n h (with_a s a) → does_if_known op i p n (with_a s a) ≡ Goes far (with_a s b)
     → HeldHolds p n (held_after op h k.index i) (with_a s b)
-held_next p n k s holds op i h a b far o x e = (let known = holds.x in grind (arith, masks, loads_at))
+held_next p n k s holds op i h a b far o x e = (let known = holds.x in grind (arith, masks))
 
 -- the answer from the spot after an instruction
 stepped : (c : List Insn) (spot : Spot) (i : Insn) (p : List ℕ) (n a b far : ℕ) (s : State) → slice_get c spot.place ≡ Some i
@@ -111,8 +111,7 @@ forks_on k c spot best here found i g branch near by_yes by_no p n s a holds x e
     by (Some (JumpIf t o)) d b = either (test_holds t a (operand_value o i.k s.index)) (known_step p n i (Some (JumpIf t o)) (with_a s a) d)
       where
         either : (z : Bool) → step i p n (with_a s a) ≡ Goes (if z then i.jt else i.jf) (with_a s a) → answer_of c p n found s ≡ answer_of c p n best s
-        either true f = let so_far = near p n s a holds x e in by_yes p n s a holds x (sym (stepped c spot i p n a a i.jt s g f) ∙ e ∙ sym so_far) ∙ so_far
-        either false f = let so_far = near p n s a holds x e in by_no p n s a holds x (sym (stepped c spot i p n a a i.jf s g f) ∙ e ∙ sym so_far) ∙ so_far
+        either z f = grind (arith, stepped)
     by _ d b = cc
 
 -- A is as at the start of the walk, or doesn't matter
@@ -167,11 +166,7 @@ module _ (from : ℕ) (k : Known) (i : Insn) (is : List Insn) where
     where
       by : (d : List Insn) → Alike from seen d is → (p : List ℕ) (n : ℕ) (u : Next) → After p n (known_after (Some op) k i) u
           → answer_after (answer_of d p n) u ≡ answer_after (answer_of is p n) u
-      by d alike p n (Goes far t) h =
-          let none = h.0 in
-          let there : from ≡ from + far = omega arith in
-          alike p n far t (subst (λ q. HoldsAt p n seen q t) there (comes.comes p n t h.1))
-      by d alike p n _ h = refl
+      by d alike p n u h = grind arith
 
   pub test_threaded : (hit miss : Known) (old mid seen : List Known) (a b : ℕ) (t : Test) (o : Operand) → operation_of i.code ≡ Some (JumpIf t o)
       → Learns k i true hit → Learns k i false miss → Moves hit is i.jt a → Moves miss is i.jf b → Arrives hit (from + a) old mid
@@ -188,12 +183,7 @@ module _ (from : ℕ) (k : Known) (i : Insn) (is : List Insn) where
     where
       way : (d : List Insn) → Alike from seen d is → (p : List ℕ) (n : ℕ) (s : State) → Holds p n k s → (z : Bool) → test_holds t s.accumulator
           (operand_value o i.k s.index) ≡ z → answer_of d p n (if z then a else b) s ≡ answer_of is p n (if z then i.jt else i.jf) s
-      way d alike p n s holds true g =
-          let h = learns_yes p n s t o e g holds in
-          alike p n a s (second.keeps p n (from + a) s (first.comes p n s h)) ∙ to_yes.runs p n s h
-      way d alike p n s holds false g =
-          let h = learns_no p n s t o e g holds in
-          alike p n b s (second.comes p n s h) ∙ to_no.runs p n s h
+      way d alike p n s holds z g = grind arith
 
 abbrev pub codes_of : List Insn → List ℕ
 codes_of is = map (λ i. i.code) is
