@@ -1,12 +1,12 @@
 -- The effect of reading a block, from one read of the device to the next.
 use Rattle.cap_io.proofs.Common.{◌≡◌, ℕ, true, ◌+◌, ◌<◌, ◌≤◌, ◌⊎◌, inl, inr, List, [], ◌∷◌, ◌++◌, length, take, drop, Option, Some, None, Result, Ok, Err, refl}
 use Rattle.cap_io.proofs.Common.{rules}
-use Rattle.cap_io.proofs.Common.{sym, ap, ap₂, ◌∙◌, subst, arith, unwrap_or, option_to_list, append_assoc, length-append, length-take-le, drop_at, drop-drop}
+use Rattle.cap_io.proofs.Common.{sym, ap, ap₂, ◌∙◌, subst, arith, unwrap_or, append_assoc, length-append, length-take-le, drop_at, drop-drop}
 use Rattle.cap_io.proofs.Common.{take-append-drop, checked, first_failing, Captured, Fault, NoMemory, ReadFailed, Order, checked_ok, checked_err, Parts}
-use Rattle.cap_io.proofs.Common.{SectionParts, block_checks, parts_in, frame_checks, frame_fault, frame_in, most_block, Described, IsBlock, Section, block_size}
-use Rattle.cap_io.proofs.Common.{checks_among, frame_after, interfaces_before, order_before, packet_by, packets_in, parts_after, section_after, section_by}
+use Rattle.cap_io.proofs.Common.{block_checks, parts_in, frame_checks, frame_fault, frame_in, most_block, Described, IsBlock, Section, block_size}
+use Rattle.cap_io.proofs.Common.{checks_among, frame_after, interfaces_before, order_before, packets_in, parts_after, section_after}
 use Rattle.cap_io.proofs.Common.{unit_fault, passes, frame_checks-append, frame_in-append, unit_fault-frame, unit_fault-short, unit_fault-block}
-use Rattle.cap_io.proofs.Common.{unit_fault-among, parts_in-append, block_checks-append, Frame, Enters, PacketIfAny, held_packet, section_of, AddsInterface}
+use Rattle.cap_io.proofs.Common.{unit_fault-among, parts_in-append, block_checks-append, Frame, Enters, held_packet, section_of, AddsInterface}
 use Rattle.cap_io.proofs.Common.{IsBlockFault, IsEntryFault, most_in_unit, block_length, RestMissing, span_bytes, is_interface, PacketSpans}
 use Rattle.cap_io.proofs.Fronts.{decisive_block_length, length_by_header-whole}
 use Rattle.cap_io.proofs.OwnFaults.{entry-not_failed, own-frame, own-not_failed, own-not_memory}
@@ -58,18 +58,13 @@ pub record FrontSays (section : Option Order) (front : List ℕ) (frame : Frame)
 pub front_says : (section : Option Order) (front : List ℕ) (answer : Result Frame Fault) (frame : Frame)
     → answer ≡ checked (frame_fault section front) (frame_in section front) → answer ≡ Ok frame
     → FrontSays section front frame
-front_says section front answer frame is ok =
-    let both = checked_ok (frame_fault section front) (frame_in section front) frame (sym is ∙ ok) in
-    record { passes = both.0; says = both.1 }
+front_says section front answer frame is ok = grind (arith, checked_ok)
 
 -- the same for bytes that begin with them
 pub says_after : (before : Option Section) (section : Option Order) (front more : List ℕ) (frame : Frame) → order_before before ≡ section
     → 12 ≤ length front → FrontSays section front frame
     → (first_failing (frame_checks (order_before before) (front ++ more)) ≡ None) × (frame_after before (front ++ more) ≡ frame)
-says_after before section front more frame is enough said = (
-  ap (λ o. first_failing (frame_checks o (front ++ more))) is ∙ ap first_failing (frame_checks-append section front more enough) ∙ said.passes,
-  ap (λ o. frame_in o (front ++ more)) is ∙ frame_in-append section front more enough ∙ said.says,
-)
+says_after before section front more frame is enough said = grind (arith, frame_checks-append, frame_in-append)
 
 -- a given number of bytes were taken, the front among them
 taken_after : (front unread unread' : List ℕ) (count : ℕ) → unread' ≡ drop count unread → unread' ≡ drop (length front + count) (front ++ unread)
@@ -112,9 +107,7 @@ no_room_for_block before front unread upper_bound =
 block_length-whole : (before : Option Section) (front unread : List ℕ) → 12 ≤ length front
     → first_failing (frame_checks (order_before before) (front ++ unread)) ≡ None
     → block_length before (front ++ unread) ≡ Some (block_size before (front ++ unread))
-block_length-whole before front unread enough none =
-    length_by_header-whole 12 (front ++ unread) (frame_checks (order_before before) (front ++ unread)) (block_size before (front ++ unread))
-    (omega (arith, enough, length-append front unread)) none
+block_length-whole before front unread enough none = grind (arith, length_by_header-whole, block_size, length-append)
 
 -- a block whose first bytes pass takes memory where there is less room
 pub block-exceeds : (before : Option Section) (section : Option Order) (front unread : List ℕ) (frame : Frame) (room : ℕ)
@@ -130,8 +123,7 @@ block-exceeds before section front unread frame room is upper_bound said less =
 pub frame-has_memory : (section : Option Order) (front : List ℕ) (answer : Result Frame Fault) (fault : Fault)
     → answer ≡ checked (frame_fault section front) (frame_in section front) → answer ≡ Err fault
     → fault ≡ NoMemory → ⊥
-frame-has_memory section front answer fault is err =
-    own-not_memory fault (own-frame section front fault (checked_err (frame_fault section front) (frame_in section front) fault (sym is ∙ err)))
+frame-has_memory section front answer fault is err = grind (arith, own-not_memory, own-frame, checked_err)
 
 pub rest_of_block : (before : Option Section) (section : Option Order) (front unread unread' : List ℕ) (frame : Frame) (fault : Fault)
     → order_before before ≡ section → length front ≡ 12
@@ -174,11 +166,7 @@ record IsFramed (before : Option Section) (block more : List ℕ) (frame : Frame
 
 framed_block : (before : Option Section) (section : Option Order) (block more : List ℕ) (frame : Frame) → order_before before ≡ section → 12 ≤ length block
     → frame_fault section block ≡ None → frame_in section block ≡ frame → IsFramed before block more frame
-framed_block before section block more frame is enough none says = record {
-  framed = ap (λ o. first_failing (frame_checks o (block ++ more))) is ∙ ap first_failing (frame_checks-append section block more enough) ∙ none;
-  following = ap (λ o. frame_in o (block ++ more)) is ∙ frame_in-append section block more enough ∙ says;
-  alone = ap (λ o. frame_in o block) is ∙ says;
-}
+framed_block before section block more frame is enough none says = grind (arith, frame_checks-append, frame_in-append)
 
 -- a block that fails a check
 pub block_refused : (before : Option Section) (section : Option Order) (interfaces : List Described) (text unread' block buffer : List ℕ)
@@ -259,19 +247,6 @@ adds-describes before section interfaces text unread' block buffer frame is same
     })
 
 -- ---- a block that found it
-
--- a section header begins one, whatever stood before it
-section_same : (before : Option Section) (order : Order) (interfaces : List Described) (parts : Parts) → interfaces_before before ≡ interfaces
-    → section_by before order parts ≡ section_by (Some (section_of order interfaces)) order parts
-section_same before order interfaces SectionParts same = refl
-section_same before order interfaces _ same = rw same refl
-
-packet_if_any : (order : Order) (before : Option Section) (interfaces : List Described) (block : List ℕ) (parts : Parts) (spans : Option PacketSpans)
-    → interfaces_before before ≡ interfaces → parts_after before block ≡ parts
-    → PacketIfAny order interfaces parts block spans → BlockPacketIfAny order before block spans
-packet_if_any order before interfaces block parts None same is none = ap₂ (λ (i : List Described) (p : Parts). option_to_list (packet_by i p)) same is
-    ∙ ap option_to_list none
-packet_if_any order before interfaces block parts (Some spans) same is stands = search rules
 
 pub block_came : (before : Option Section) (section : Option Order) (interfaces interfaces' : List Described) (text unread' block buffer : List ℕ)
     (frame : Frame) (spans : Option PacketSpans)

@@ -29,9 +29,7 @@ Taken-following declared unread unread1 unread2 front fault count splits there r
 
 -- a read that filled the buffer
 pub filled : (unread buf unread' buf' : List ℕ) (n : ℕ) → TakesFull unread buf n unread' buf' → length buf ≤ n → unread ≡ buf' ++ unread'
-filled unread buf unread' buf' n came full =
-    sym (take-append-drop n unread)
-    ∙ ap₂ (λ (x y : List ℕ). x ++ y) (sym (came.taken.bytes ∙ (rw (drop_of_length-le buf full) (append-nil (take n unread))))) (sym came.taken.rest)
+filled unread buf unread' buf' n came full = grind (arith, take-append-drop, drop_of_length-le, append-nil)
 
 -- ---- the first four bytes
 
@@ -51,13 +49,12 @@ most_taken-file text count upper_bound = by_kind (is_pcapng text) refl
 -- what is refused after the first four bytes is refused with them
 pub NoUnitCame-following : (unread unread1 unread2 first : List ℕ) (fault : Fault) → unread ≡ first ++ unread1 → NoUnitCame Nothing (first ++ unread1)
     unread2 fault → NoUnitCame Nothing unread unread2 fault
-NoUnitCame-following unread unread1 unread2 first fault splits refuses = let P : List ℕ → Type 0 = λ t. NoUnitCame Nothing t unread2 fault in
-    subst P (sym splits) refuses
+NoUnitCame-following unread unread1 unread2 first fault splits refuses = grind arith
 
 -- ---- the file header
 
 other_kind : (unread unread' magic : List ℕ) → unread ≡ magic ++ unread' → length magic ≡ 4 → is_section magic ≡ false → is_pcapng unread ≡ false
-other_kind unread unread' magic splits size other = ap is_pcapng splits ∙ is_pcapng-append magic unread' (omega arith) ∙ other
+other_kind unread unread' magic splits size other = grind (arith, is_pcapng-append)
 
 pub no_magic : (unread unread' magic : List ℕ) → unread ≡ magic ++ unread' → length magic ≡ 4 → is_section magic ≡ false → form_in magic ≡ None
     → NoUnitCame Nothing unread unread' NotACaptureFile
@@ -89,7 +86,7 @@ rest_of_header unread unread1 unread2 magic fault whole is splits size other som
 
 -- bytes that were read completely after the first ones, which are unchanged
 pub first_of : (first bytes : List ℕ) (size : ℕ) → length bytes ≡ size → take (length first) (take size bytes) ≡ first → take (length first) bytes ≡ first
-first_of first bytes size whole came = ap (take (length first)) (sym (take_all size bytes (omega arith))) ∙ came
+first_of first bytes size whole came = grind (arith, take_all)
 
 pub joined_front : (unread unread1 unread2 first bytes : List ℕ) (size : ℕ) → length bytes ≡ size → unread ≡ first ++ unread1
     → take (length first) (take size bytes) ≡ first
@@ -103,9 +100,7 @@ joined_front unread unread1 unread2 first bytes size whole splits front rest =
 
 header_says : (unread unread2 bytes : List ℕ) (head : Head) → unread ≡ bytes ++ unread2 → length bytes ≡ 24 → Ok head ≡ checked (header_fault bytes)
     (header_in bytes) → HeaderCame unread head unread2
-header_says unread unread2 bytes head splits size is =
-    let both = checked_ok (header_fault bytes) (header_in bytes) head (sym is) in
-    record { bytes = bytes; header = record { passes = both.0; whole = size; says = sym both.1 }; splits = splits }
+header_says unread unread2 bytes head splits size is = grind (arith, checked_ok)
 
 header_wrong : (unread unread2 bytes : List ℕ) (fault : Fault) → unread ≡ bytes ++ unread2 → length bytes ≡ 24 → is_section bytes ≡ false
     → Err fault ≡ checked (header_fault bytes) (header_in bytes) → NoUnitCame Nothing unread unread2 fault
@@ -149,9 +144,7 @@ pub record FieldsCame (head : Head) (front : List ℕ) (found : RecordHead) : Ty
 pub fields_came : (head : Head) (front : List ℕ) (answer : Result RecordHead Fault) (found : RecordHead)
     → answer ≡ checked (first_failing (field_checks head front)) (record_header_in head front) → answer ≡ Ok found
     → FieldsCame head front found
-fields_came head front answer found is ok =
-    let both = checked_ok (first_failing (field_checks head front)) (record_header_in head front) found (sym is ∙ ok) in
-    record { none = both.0; says = sym both.1 }
+fields_came head front answer found is ok = grind (arith, checked_ok)
 
 pub fields_refused : (head : Head) (unread unread1 front : List ℕ) (answer : Result RecordHead Fault) (fault : Fault) → unread ≡ front ++ unread1
     → length front ≡ 16
@@ -173,15 +166,13 @@ fields_refused head unread unread1 front answer fault splits size is err =
 pub fields-has_memory : (head : Head) (front : List ℕ) (answer : Result RecordHead Fault) (fault : Fault)
     → answer ≡ checked (first_failing (field_checks head front)) (record_header_in head front) → answer ≡ Err fault
     → fault ≡ NoMemory → ⊥
-fields-has_memory head front answer fault is err =
-    own-not_memory fault (own-fields head front fault (checked_err (first_failing (field_checks head front)) (record_header_in head front) fault
-    (sym is ∙ err)))
+fields-has_memory head front answer fault is err = grind (arith, own-not_memory, own-fields, checked_err)
 
 -- nor does one of a file header
 pub header-has_memory : (bytes : List ℕ) (answer : Result Head Fault) → answer ≡ checked (header_fault bytes) (header_in bytes)
     → IfErr answer (λ fault. fault ≡ NoMemory → ⊥)
 header-has_memory bytes (Ok head) is = tt
-header-has_memory bytes (Err fault) is = own-not_memory fault (own-header bytes fault (checked_err (header_fault bytes) (header_in bytes) fault (sym is)))
+header-has_memory bytes (Err fault) is = grind (arith, own-not_memory, own-header, checked_err)
 
 -- a record whose header fails no check needs memory if the buffer has less room
 pub record-takes : (head : Head) (unread unread1 front : List ℕ) (found : RecordHead) (size room : ℕ) → size ≡ 16 + found.captured → unread ≡ front
@@ -209,24 +200,8 @@ pub data_missing : (head : Head) (unread unread1 unread2 front : List ℕ) (foun
     → unread ≡ front ++ unread1 → length front ≡ 16 → FieldsCame head front found
     → 16 + found.captured ≤ most_in_unit → RestMissing (length front) size unread1 unread2 fault → NoUnitCame (PcapFile head) unread unread2 fault
 data_missing head unread unread1 unread2 front found fault size is splits upper_bound fields small missing =
-    let long : length unread ≡ length front + length unread1 = ap length splits ∙ length-append front unread1 in
-    let said : found.captured ≡ captured_len head front = ap (λ (h : RecordHead). h.captured) fields.says in
-    let captured : captured_len head unread ≡ captured_len head front = ap (captured_len head) splits ∙ captured_len-append head front unread1 (omega arith) in
-    let none : first_failing (field_checks head unread) ≡ None = ap (λ (t : List ℕ). first_failing (field_checks head t)) splits
-    ∙ ap first_failing (field_checks-append head front unread1 (omega arith)) ∙ fields.none in
-    let stated : stated_length (PcapFile head) unread ≡ Some (record_size head unread) = length_by_header-whole 16 unread (field_checks head unread)
-    (record_size head unread) (omega (arith, long, upper_bound)) none in
-    let reads : decisive_length (PcapFile head) unread ≡ record_size head unread = ap (λ (o : Option ℕ). unwrap_or o 16) stated in
-    record {
-      why = elim missing.why [
-        | inl short ↦ inl (rw short.0 (front_of-no_record head unread Truncated (omega arith)
-            (record_fault-short head unread (omega arith) none (omega (arith, short.1)))))
-        | inr failed ↦ inr (inl failed)
-      ];
-      taken = Taken-following (PcapFile head) unread unread1 unread2 front fault missing.count splits missing.there missing.rest
-          (most_taken-record head unread (length front + missing.count) (omega (arith, missing.within)) (omega (arith, missing.within)))
-          (λ failed. rw reads (omega (arith, missing.within)));
-    }
+    grind (arith, length-append, captured_len-append, field_checks-append, length_by_header-whole, front_of-no_record, record_fault-short, Taken-following,
+    most_taken-record)
 
 pub record_came : (head : Head) (unread unread1 unread2 front unit buffer : List ℕ) (found : RecordHead) (size : ℕ) → unread ≡ front ++ unread1
     → length front ≡ 16 → FieldsCame head front found

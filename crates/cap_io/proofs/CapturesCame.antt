@@ -1,17 +1,16 @@
 -- The effect of reading the units of a capture of any format.
-use Rattle.std.proofs.lemmas.Bool.{cases_lt}
 use Rattle.cap_io.proofs.BlocksCame.{BlockCame, BlockMissing, Describes}
 use Rattle.cap_io.proofs.Came.{Taken-following, most_taken-file}
-use Rattle.cap_io.proofs.Common.{◌≡◌, ℕ, ◌+◌, ◌<◌, ◌≤◌, ◌^◌, IsTrue, Result, Ok, Err, inl, inr, Bool, true, false, List, [], ◌∷◌, ◌++◌, length, take, Option}
+use Rattle.cap_io.proofs.Common.{◌≡◌, ℕ, ◌+◌, ◌<◌, ◌≤◌, ◌^◌, IsTrue, Result, Ok, Err, inl, inr, true, List, [], ◌∷◌, ◌++◌, length, take, Option}
 use Rattle.cap_io.proofs.Common.{rules}
-use Rattle.cap_io.proofs.Common.{Some, None, is_some, refl, sym, ap, ◌∙◌, subst, arith, unwrap_or, if◌then◌else◌, slice_get, option_map, option_or}
-use Rattle.cap_io.proofs.Common.{option_to_list, length-append, length-take-le, All-nil, Captured, Fault, Truncated, Order, Little, Head}
-use Rattle.cap_io.proofs.Common.{Parts, SectionParts, EnhancedParts, SimpleParts, frame_in, is_section, magic_order, order_in}
+use Rattle.cap_io.proofs.Common.{Some, None, is_some, refl, sym, ap, ◌∙◌, subst, arith, unwrap_or}
+use Rattle.cap_io.proofs.Common.{option_to_list, length-append, length-take-le, Captured, Fault, Truncated, Order, Head}
+use Rattle.cap_io.proofs.Common.{Parts, SectionParts, EnhancedParts, SimpleParts, frame_in, is_section, order_in}
 use Rattle.cap_io.proofs.Common.{Described, FitSection, IsBlock, Section, interfaces_before, order_before, packet_by}
 use Rattle.cap_io.proofs.Common.{packets_in, parts_after, section_after, section_by, unit_fault, passes, unit_fault-few, Frame, PacketSpans, FileState, Enters}
 use Rattle.cap_io.proofs.Common.{KnowsIfAny, held_packet, section_of, Declared, Nothing, PcapFile, PcapngFile, Front, IsUnit, a_pcap_header, a_first_block}
 use Rattle.cap_io.proofs.Common.{a_block, file_after, first_link_after, front_of, is_pcapng, TakesMemory, declared_by, NoMemory, most_in_unit, read_failures}
-use Rattle.cap_io.proofs.Common.{most_taken, packet_in_unit, decisive_length, block_length, BeginsBlock, FrontMissing, HasInterface, HeaderCame, IsSized}
+use Rattle.cap_io.proofs.Common.{most_taken, packet_in_unit, decisive_length, block_length, BeginsBlock, FrontMissing, HasInterface, HeaderCame}
 use Rattle.cap_io.proofs.Common.{IsConsistent, PacketCame, ReadsUnit, NoUnitCame, RestMissing, UnitPassed, known_first_link, known_order}
 use Rattle.cap_io.proofs.Common.{section_before, unit_size, span_bytes}
 use Rattle.cap_io.proofs.Fronts.{block_unless, front_of-following, front_of-pcapng, front_of_block-none, is_pcapng-append, most_taken-block}
@@ -50,12 +49,9 @@ record StandsAt (declared : Declared) (first : Option ℕ) (before : Option Sect
 
 stands_at : (file : FileState) (interfaces : List Described) (front more : List ℕ) → 12 ≤ length front → BeginsBlock file front
     → StandsAt (declared_by file interfaces) (known_first_link file) (section_before file interfaces) (front ++ more)
-stands_at state.Unknown interfaces front more enough begins =
-    let kind : is_pcapng (front ++ more) ≡ true = is_pcapng-append front more (omega arith) ∙ begins in
-    record { front = front_of-pcapng (front ++ more) kind; reads = decisive_length-pcapng (front ++ more) kind }
+stands_at state.Unknown interfaces front more enough begins = grind (arith, is_pcapng-append, front_of-pcapng, decisive_length-pcapng)
 stands_at (state.Pcap head) interfaces front more enough begins = absurd begins
-stands_at (state.Pcapng order first) interfaces front more enough begins =
-    record { front = front_of-following first (section_of order interfaces) (front ++ more) (omega (arith, length-append front more)); reads = refl }
+stands_at (state.Pcapng order first) interfaces front more enough begins = grind (arith, front_of-following, length-append)
 
 pub refused-block : (file : FileState) (interfaces : List Described) (front unread unread' : List ℕ) (fault : Fault) → length front ≡ 12
     → BeginsBlock file front
@@ -72,9 +68,7 @@ section-parts before block is = search rules
 -- a block needs memory if it is longer than the buffer, or describes an interface
 pub block-takes : (file : FileState) (interfaces : List Described) (front unread : List ℕ) (room : ℕ) → 12 ≤ length front → BeginsBlock file front
     → room < unwrap_or (block_length (section_before file interfaces) (front ++ unread)) 0 → TakesMemory room (declared_by file interfaces) (front ++ unread)
-block-takes state.Unknown interfaces front unread room enough begins less =
-    let kind : is_pcapng (front ++ unread) ≡ true = is_pcapng-append front unread (omega arith) ∙ begins in
-    inl (rw kind less)
+block-takes state.Unknown interfaces front unread room enough begins less = grind (arith, is_pcapng-append)
 block-takes (state.Pcap head) interfaces front unread room enough begins less = absurd begins
 block-takes (state.Pcapng order first) interfaces front unread room enough begins less = inl less
 
@@ -147,29 +141,17 @@ first-packets block is = search rules
 kept_by : (section : Section) (order : Order) (parts : Parts) (packet : Captured) → order ≡ section.order
     → option_to_list (packet_by section.interfaces parts) ≡ packet ∷ []
     → section_by (Some section) order parts ≡ section
-kept_by section order (EnhancedParts number ticks captured orig own rest) packet same is = ap (λ o. section_of o section.interfaces) same
-kept_by section order (SimpleParts orig rest) packet same is = ap (λ o. section_of o section.interfaces) same
+kept_by section order (EnhancedParts number ticks captured orig own rest) packet same is = grind arith
+kept_by section order (SimpleParts orig rest) packet same is = grind arith
 kept_by section order _ packet same is = (cc)
 
 pub section-kept : (section : Section) (block : List ℕ) (packet : Captured) → packets_in (Some section) block ≡ packet ∷ []
     → section_after (Some section) block ≡ section
-section-kept section block packet is = by_kind (is_section block) refl
-  where
-    by_kind : (b : Bool) → is_section block ≡ b → section_after (Some section) block ≡ section
-    by_kind true kind =
-        let none : [] ≡ packet ∷ [] = sym (ap (λ p. option_to_list (packet_by section.interfaces p)) (section-parts (Some section) block kind)) ∙ is
-        in absurd (cc)
-    by_kind false kind =
-        kept_by section (order_in (Some section.order) block) (parts_after (Some section) block) packet
-        (ap (λ (b : Bool). unwrap_or (if b then magic_order block else Some section.order) Little) kind) is
+section-kept section block packet is = grind (arith, section-parts, kept_by, order_in)
 
 -- what is first stays first
 pub first-again : (link : Option ℕ) (section : Section) → first_link_after (first_link_after link section) section ≡ first_link_after link section
-first-again link section = by_link link (option_map (λ (i : Described). i.link) (slice_get section.interfaces 0))
-  where
-    by_link : (a b : Option ℕ) → option_or (option_or a b) b ≡ option_or a b
-    by_link None None = refl
-    by_link _ b = refl
+first-again link section = grind arith
 
 -- ---- a block as a unit
 
@@ -184,8 +166,7 @@ header_passed unread unread' head came = record {
 -- the same units after equal bytes
 pub UnitPassed-following : (unread unread1 unread' first : List ℕ) (size : ℕ) (declared : Declared) → unread ≡ first ++ unread1
     → UnitPassed Nothing (first ++ unread1) size declared unread' → UnitPassed Nothing unread size declared unread'
-UnitPassed-following unread unread1 unread' first size declared splits came =
-    record { bytes = came.bytes; unit = came.unit; sized = came.sized; splits = splits ∙ came.splits }
+UnitPassed-following unread unread1 unread' first size declared splits came = grind arith
 
 -- a packet whose unit has a given number of bytes
 packet_at_size : (link : Option ℕ) (section : Section) (unread buffer : List ℕ) (spans : PacketSpans) (packet : Captured) (declared' : Declared)
@@ -233,7 +214,7 @@ pub packet-block : (file : FileState) (interfaces interfaces' : List Described) 
     → BlockCame (section_before file interfaces) (front ++ unread) buffer order size (Some spans) interfaces' unread'
     → PacketCame (declared_by file interfaces) (front ++ unread) buffer spans (declared_by file interfaces') unread'
 packet-block state.Unknown interfaces interfaces' front unread buffer unread' order size spans begins there exact whole stays came =
-    let none : [] ≡ came.packet.packet ∷ [] = sym (first-packets (take size buffer) came.is_block) ∙ came.packet.stands in absurd (cc)
+    grind (arith, first-packets)
 packet-block (state.Pcap head) interfaces interfaces' front unread buffer unread' order size spans begins there exact whole stays came = absurd begins
 packet-block (state.Pcapng own link) interfaces interfaces' front unread buffer unread' order size spans begins there exact whole stays came =
     let section = section_of own interfaces in
@@ -267,7 +248,7 @@ has-section (state.Pcap head) front block frame interfaces interfaces' spans beg
 has-section (state.Pcapng order first) front block frame interfaces interfaces' spans begins is enters knows = knows
 
 none-fit : FitSection []
-none-fit = record { count = omega arith; names = All-nil (λ (i : Described). length i.name ≤ 255) }
+none-fit = grind arith
 
 -- the interfaces of a section that a block follows are no more than may be
 pub section-fits : (file : FileState) (interfaces : List Described) (front : List ℕ) → BeginsBlock file front → IsConsistent file interfaces
@@ -279,8 +260,7 @@ section-fits (state.Pcapng order first) interfaces front begins known = known.1
 -- the bytes that a device gave stay few after a block, though it be no longer than its front
 pub small-following : (before following front size : ℕ) → front ≡ 12 → following + front ≡ before + size → 12 ≤ size
     → (front < size → following < 2 ^ 63) → before < 2 ^ 63 → following < 2 ^ 63
-small-following before following front size twelve counted least longer small =
-    elim (cases_lt front size) [ inl less ↦ longer less | inr most ↦ omega (arith, twelve, counted, least, most, small) ]
+small-following before following front size twelve counted least longer small = grind arith
 
 pub order-held : (file : FileState) (interfaces : List Described) → order_before (section_before file interfaces) ≡ known_order file
 order-held state.Unknown interfaces = refl
@@ -342,10 +322,5 @@ pub ReadsUnit-following : {I A : Type 0} (device : Ghosts I) (old : UnitReader I
     → (IsTrue device.tells → device.unread old.input ≡ front ++ device.unread mid)
     → ReadsUnit device (record { input = mid; file = old.file; buffer = old.buffer; table = old.table; spans = old.spans }) front r new
     → ReadsUnit device old [] r new
-ReadsUnit-following device old mid front (Ok c) new given failed sure told small splits reads = search (rules, is_small)
-  where
-    is_small : (c : NextUnit) → IsSized new.spans c new.buffer.items (device.given new.input) → 0 < unit_size new.spans c → device.given new.input < 2 ^ 63
-    is_small (NextUnit.Other size) sized some = sized.1
-    is_small NextUnit.Packet sized some = sized.1
-    is_small NextUnit.End sized some = absurd (omega arith)
+ReadsUnit-following device old mid front (Ok c) new given failed sure told small splits reads = grind arith
 ReadsUnit-following device old mid front (Err fault) new given failed sure told small splits reads = search rules

@@ -82,8 +82,7 @@ AreUnits-append {at = at} {ys = ys} {qs = qs'} (unit_then {u = u} {more = more} 
 -- nothing of a rest is a unit where it stops
 pub no_unit_in : (declared : Declared) (rest : List ℕ) (why : Option Fault) → front_of declared rest ≡ NoUnit why
     → (u more : List ℕ) (qs : List Captured) (d : Declared) → IsUnit declared u qs d → rest ≡ u ++ more → ⊥
-no_unit_in declared rest why stops u more qs d one splits =
-    let e : NoUnit why ≡ Whole (length u) qs d = sym stops ∙ ap (front_of declared) splits ∙ front_of-unit one more in cc
+no_unit_in declared rest why stops u more qs d one splits = grind (arith, front_of, front_of-unit)
 
 -- a rest without a unit stops
 pub stops_for : (declared : Declared) (rest : List ℕ) (front : Front) → front_of declared rest ≡ front
@@ -120,7 +119,7 @@ Last declared rest = (u more : List ℕ) (qs : List Captured) (d : Declared) →
 
 same_units : {b c d : Declared} {at : ℕ} {us vs : List ℕ} {ps qs : List Placed} → AreUnits b at us ps c → AreUnits b at vs qs d → (x y : List ℕ) → us
     ++ x ≡ vs ++ y → Last c x → Last d y → Same us vs x y ps qs c d
-same_units no_unit no_unit x y same last_x last_y = record { bytes = refl; rest = same; packets = refl; declared = refl }
+same_units no_unit no_unit x y same last_x last_y = grind arith
 same_units no_unit (unit_then {u = v} {more = more} one units) x y same last_x last_y =
     absurd (last_x v (more ++ y) _ _ one (same ∙ append_assoc v more y))
 same_units (unit_then {u = u} {more = more} one units) no_unit x y same last_x last_y =
@@ -138,9 +137,7 @@ same_units {at = at} (unit_then {c = c} {u = u} {more = more} {qs = qs} {ps = ps
     }
 
 pub one_cut : EachHasOneCut
-one_cut text one other =
-    let same = same_units one.cut.units other.cut.units one.rest other.rest (sym one.cut.joined ∙ other.cut.joined) one.cut.last other.cut.last in
-    record { done = same.bytes; rest = same.rest; packets = same.packets; declared = same.declared }
+one_cut text one other = grind (arith, same_units)
 
 -- ---- the items that a cut shows
 
@@ -195,7 +192,7 @@ units_by most declared at text (Whole size packets after) is enough following =
 
 units_within : (most : ℕ) (declared : Declared) (at : ℕ) (text : List ℕ) → length text < most → Units declared at text
 units_within zero declared at text enough = absurd (omega arith)
-units_within (suc most) declared at text enough = units_by most declared at text (front_of declared text) refl (omega arith) (units_within most)
+units_within (suc most) declared at text enough = grind (arith, units_by, front_of, (units_within most))
 
 pub has_cut : EachHasCut
 has_cut text =

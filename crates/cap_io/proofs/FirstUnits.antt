@@ -1,9 +1,8 @@
 -- The unit that some bytes begin with.
-use Rattle.cap_io.proofs.Common.{rules}
 use Rattle.cap_io.proofs.BlocksCame.{BlockCame, FrontSays, WholeCame, block_came, block_refused, front_says}
 use Rattle.cap_io.proofs.CapturesCame.{first-packets, order-held, section-kept}
-use Rattle.cap_io.proofs.Common.{◌≡◌, ℕ, ◌+◌, ◌^◌, ◌<◌, ◌≤◌, List, [], ◌∷◌, ◌++◌, length, take, drop, Option, Some, None, Ok, Err, true, false, is_some, refl}
-use Rattle.cap_io.proofs.Common.{sym, ap, ◌∙◌, subst, arith, lt-leb, option_map, slice_get, take-take, length-take-le, take-append-drop, length-append}
+use Rattle.cap_io.proofs.Common.{◌≡◌, ℕ, ◌+◌, ◌^◌, ◌<◌, ◌≤◌, List, [], ◌∷◌, ◌++◌, length, take, drop, Option, Some, Ok, Err, refl}
+use Rattle.cap_io.proofs.Common.{sym, ap, ◌∙◌, subst, arith, lt-leb, take-take, length-take-le, take-append-drop, length-append}
 use Rattle.cap_io.proofs.Common.{checked, first_failing, checked_ok, checked_err, Captured, Fault, Truncated, Order, Head, RecordHead, header_fault}
 use Rattle.cap_io.proofs.Common.{header_in, header_in-append, header_fault-append, field_checks, field_checks-append, record_header_in}
 use Rattle.cap_io.proofs.Common.{record_header_in-append, record_fault, record_fault-fields, record_fault-short, captured_len, most_captured, most_in_unit}
@@ -14,16 +13,14 @@ use Rattle.cap_io.proofs.Common.{NoUnit, IsUnit, a_pcap_header, a_pcap_record, a
 use Rattle.cap_io.proofs.Common.{declared_by, packet_in_unit, known_first_link, known_order, section_before, HasInterface, IsConsistent}
 use Rattle.cap_io.proofs.Common.{BeginsWithPacket, PacketCame, append_assoc}
 use Rattle.cap_io.proofs.Common.{record_spans}
-use Rattle.cap_io.proofs.Fronts.{block_unless, front_of-following, front_of-pcapng, front_of-no_header, front_of-no_record}
+use Rattle.cap_io.proofs.Fronts.{block_unless, front_of-following, front_of-pcapng, front_of-no_record}
 use Rattle.cap_io.proofs.Fronts.{front_of_block-none, is_pcapng-append}
 use Rattle.cap_io.proofs.Came.{fields_came, record_came}
-use Rattle.cap_io.proofs.OwnFaults.{one_more}
 use Rattle.cap_io.proofs.Units.{block-front, front_of-is, front_of-unit}
 use Rattle.cap_io.specs.FirstUnit.{BeginsWithUnit, HoldsPackets}
 use Rattle.cap_io.specs.inside.Reading.{BeginsAt}
 use Rattle.cap_pcapng.specs.Block.{Parts}
 use Rattle.cap_pcapng.specs.Effect.{FitsIfAny, HasEffect, LieAsSaid, LiesAsSaid, interfaces_after, packet_in_effect}
-use Rattle.cap_pcapng.specs.Interface.{description_of}
 use Rattle.cap_pcapng.specs.declared.effect.BlockEffect.{BlockEffect}
 use Rattle.cap_io.specs.declared.file_state.FileState.TheVariants as state
 use Rattle.cap_pcapng.specs.declared.effect.BlockEffect.TheVariants as does
@@ -44,15 +41,6 @@ head_taken text enough =
     (omega arith) in
     let head : header_in text ≡ header_in (take 24 text) = ap header_in (sym joined) ∙ header_in-append (take 24 text) (drop 24 text) (omega arith) in
     ap (λ f. checked f (header_in (take 24 text))) (sym fault) ∙ ap (checked (header_fault text)) (sym head)
-
-pub header-begins : (interfaces : List Described) (text : List ℕ) (head : Head) → is_pcapng text ≡ false
-    → Ok head ≡ checked (header_fault text) (header_in text)
-    → BeginsWithUnit state.Unknown interfaces text (record { size = 24; file = state.Pcap head; effect = does.Nothing })
-header-begins interfaces text head other is = search rules
-
-pub header-refused : (text : List ℕ) (fault : Fault) → is_pcapng text ≡ false → Err fault ≡ checked (header_fault text) (header_in text)
-    → front_of Nothing text ≡ NoUnit (Some fault)
-header-refused text fault other is = front_of-no_header text fault other (checked_err (header_fault text) (header_in text) fault (sym is))
 
 -- ---- a record
 
@@ -163,9 +151,7 @@ frame_fails before section text front fault is enough same exact =
 
 pub block_cut : (before : Option Section) (text : List ℕ) (frame : Frame) → 12 ≤ length text → FrontSays (order_before before) text frame
     → length text < frame.length → unit_fault before text ≡ Some Truncated
-block_cut before text frame enough f short =
-    let size : block_size before text ≡ frame.length = ap (λ (g : Frame). g.length) f.says in
-    unit_fault-short before text enough f.passes (omega (arith, short, size))
+block_cut before text frame enough f short = grind (arith, block_size, unit_fault-short)
 
 -- ---- a block
 
@@ -174,13 +160,12 @@ front_at : (file : FileState) (interfaces : List Described) (text : List ℕ) �
     ≡ block_unless (unit_fault (section_before file interfaces) text) (known_first_link file) (section_before file interfaces) text
 front_at state.Unknown interfaces text begins some = front_of-pcapng text begins
 front_at (state.Pcap head) interfaces text begins some = absurd begins
-front_at (state.Pcapng order first) interfaces text begins some = front_of-following first (section_of order interfaces) text some
+front_at (state.Pcapng order first) interfaces text begins some = grind (arith, front_of-following)
 
 -- a block that fails a check
 pub block-none : (file : FileState) (interfaces : List Described) (text : List ℕ) (fault : Fault) → BeginsAt file text → 0 < length text
     → unit_fault (section_before file interfaces) text ≡ Some fault → front_of (declared_by file interfaces) text ≡ NoUnit (Some fault)
-block-none file interfaces text fault begins some fails =
-    front_at file interfaces text begins some ∙ front_of_block-none (known_first_link file) (section_before file interfaces) text fault fails
+block-none file interfaces text fault begins some fails = grind (arith, front_at, front_of_block-none)
 
 interfaces-at : (file : FileState) (interfaces : List Described) (text : List ℕ) → BeginsAt file text → (file ≡ state.Unknown → interfaces ≡ [])
     → interfaces_before (section_before file interfaces) ≡ interfaces
@@ -221,8 +206,7 @@ packets-at : (file : FileState) (interfaces : List Described) (text rest : List 
     → FitsIfAny (packet_in_effect effect) size → LiesAsSaid (parts_after (section_before file interfaces) text) effect
     → HoldsPackets (PcapngFile link (section_of order (interfaces_after effect interfaces))) text size effect
     (packets_in (section_before file interfaces) (take size text))
-packets-at state.Unknown interfaces text rest order size link (does.Packet spans) begins b fits lies =
-    let none : [] ≡ b.packet.packet ∷ [] = sym (first-packets (take size text) b.is_block) ∙ b.packet.stands in absurd (cc)
+packets-at state.Unknown interfaces text rest order size link (does.Packet spans) begins b fits lies = grind (arith, first-packets)
 packets-at (state.Pcap head) interfaces text rest order size link (does.Packet spans) begins b fits lies = absurd begins
 packets-at (state.Pcapng own first) interfaces text rest order size link (does.Packet spans) begins b fits lies =
     let kept : section_of order interfaces ≡ section_of own interfaces =
@@ -244,9 +228,7 @@ packets-at file interfaces text rest order size link does.Nothing begins b fits 
 fits-after : (frame : Frame) (interfaces : List Described) (block : List ℕ) (effect : BlockEffect) → HasEffect frame interfaces block effect
     → length interfaces ≤ most_interfaces → length (interfaces_after effect interfaces) ≤ most_interfaces
 fits-after frame interfaces block does.Section has few = omega arith
-fits-after frame interfaces block (does.Interface i) has few =
-    let one = one_more frame.order interfaces (description_of i) (parts_in frame block) has.section has.among in
-    omega (arith, one.0, length-append interfaces (description_of i ∷ []))
+fits-after frame interfaces block (does.Interface i) has few = grind (arith, parts_in, length-append)
 fits-after frame interfaces block (does.Packet spans) has few = few
 fits-after frame interfaces block does.Nothing has few = few
 
@@ -292,11 +274,7 @@ pub has-interface : (declared : Declared) (spans : PacketSpans) (block : List �
     → HasInterface declared spans
 has-interface Nothing spans block packet is = absurd (cc)
 has-interface (PcapFile head) spans block packet is = tt
-has-interface (PcapngFile first section) spans block packet is = by_found (slice_get section.interfaces spans.interface) _ is
-  where
-    by_found : (found : Option Described) (f : Described → Captured) → option_map f found ≡ Some packet → is_some found ≡ true
-    by_found None f is = absurd (cc)
-    by_found (Some i) f is = refl
+has-interface (PcapngFile first section) spans block packet is = grind arith
 
 -- what is declared before it stays
 abbrev IsExact : Declared → Type 0
@@ -311,10 +289,8 @@ exact (state.Pcapng order first) interfaces consistent = consistent.0
 kept : {b : Declared} {u : List ℕ} {qs : List Captured} {c : Declared} (packet : Captured) → IsUnit b u qs c → qs ≡ packet ∷ [] → IsExact b → c ≡ b
 kept packet (a_pcap_header bytes head is) one fixed = absurd (cc)
 kept packet (a_pcap_record head bytes is) one fixed = refl
-kept packet (a_first_block bytes is) one fixed = absurd (let none : [] ≡ packet ∷ [] = sym (first-packets bytes is) ∙ one in cc)
-kept packet (a_block first section bytes is) one fixed =
-    ap (λ (s : Section). PcapngFile (first_link_after first s) s) (section-kept section bytes packet one)
-    ∙ ap (λ l. PcapngFile l section) fixed
+kept packet (a_first_block bytes is) one fixed = grind (arith, first-packets)
+kept packet (a_block first section bytes is) one fixed = grind (arith, section-kept)
 
 -- the place of its packet
 pub packet-first : (file after : FileState) (interfaces : List Described) (bytes : List ℕ) (size : ℕ) (spans : PacketSpans)

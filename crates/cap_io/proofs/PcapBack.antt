@@ -1,9 +1,9 @@
 -- A capture that is written in a pcap format reads back.
 use Rattle.cap_io.proofs.Common.{rules}
 use Rattle.cap_io.proofs.Backs.{Holds, each-following, holds-none, holds-unit, reads-back}
-use Rattle.cap_io.proofs.Common.{◌≡◌, ℕ, ◌+◌, ◌*◌, ◌/◌, ◌%◌, ◌^◌, ◌<◌, ◌≤◌, Bool, List, [], ◌∷◌, ◌++◌, length, drop, nat_lt, None, refl, sym, ap, subst, ◌∙◌}
-use Rattle.cap_io.proofs.Common.{arith, leb-true, lt-ltb, AllByRecursion, flat_map, eqb-true, ltb-true, first_failing, u32_in, Captured, Fault, LinkTypesDiffer}
-use Rattle.cap_io.proofs.Common.{Pcap, NsecPcap, Little, all_met, none_failing, IsHeader, header_checks, IsRecord, field_checks, most_captured}
+use Rattle.cap_io.proofs.Common.{◌≡◌, ℕ, ◌+◌, ◌*◌, ◌/◌, ◌%◌, ◌^◌, ◌<◌, ◌≤◌, Bool, List, [], ◌∷◌, ◌++◌, length, drop, None, refl, sym, ap, subst, ◌∙◌}
+use Rattle.cap_io.proofs.Common.{arith, lt-ltb, AllByRecursion, flat_map, first_failing, u32_in, Captured, Fault, LinkTypesDiffer}
+use Rattle.cap_io.proofs.Common.{Pcap, NsecPcap, Little, IsHeader, IsRecord, field_checks, most_captured}
 use Rattle.cap_io.proofs.Common.{nanoseconds_of_part, record_packet, parts_of_second, Head, Resolution, Microseconds, Nanoseconds, record_fault-whole, PcapFile}
 use Rattle.cap_io.proofs.Common.{a_pcap_header, a_pcap_record, Back, InRange, IsPlain, ReadsBack, has_link, record_text, state_after}
 use Rattle.cap_io.proofs.Texts.{bare_text, text-start}
@@ -99,7 +99,7 @@ header-back Nanoseconds link upper_bound = search rules
 
 records-hold : (r : Resolution) (link at : ℕ) (ps : List Captured) → AllByRecursion (IsKept r link) ps
     → Holds (PcapFile (written_head r link)) at (flat_map (record_text r) ps) ps
-records-hold r link at [] kept = holds-none (PcapFile (written_head r link)) at refl
+records-hold r link at [] kept = grind (arith, holds-none, written_head)
 records-hold r link at (p ∷ ps) kept =
     let back = record-back r link p kept.0 in
     let unit = a_pcap_record (written_head r link) (record_text r p) back.is_record in
@@ -110,11 +110,11 @@ records-hold r link at (p ∷ ps) kept =
 
 text-pcap : (earlier ps : List Captured) → bare_text Pcap earlier ps ≡ flat_map (record_text Microseconds) ps
 text-pcap earlier [] = refl
-text-pcap earlier (p ∷ ps) = ap (λ (l : List ℕ). record_text Microseconds p ++ l) (text-pcap (earlier ++ p ∷ []) ps)
+text-pcap earlier (p ∷ ps) = grind (arith, (text-pcap (earlier ++ p ∷ []) ps))
 
 text-nanoseconds : (earlier ps : List Captured) → bare_text NsecPcap earlier ps ≡ flat_map (record_text Nanoseconds) ps
 text-nanoseconds earlier [] = refl
-text-nanoseconds earlier (p ∷ ps) = ap (λ (l : List ℕ). record_text Nanoseconds p ++ l) (text-nanoseconds (earlier ++ p ∷ []) ps)
+text-nanoseconds earlier (p ∷ ps) = grind (arith, (text-nanoseconds (earlier ++ p ∷ []) ps))
 
 file-back : (r : Resolution) (link : ℕ) (ps : List Captured) → link < 2 ^ 16 → AllByRecursion (IsKept r link) ps
     → ReadsBack (pcap.file_header r link ++ flat_map (record_text r) ps) ps
@@ -133,13 +133,6 @@ link_check earlier p = (has_first_link earlier p, LinkTypesDiffer) ∷ []
 
 abbrev form_checks : List Captured → Captured → List (Bool × Fault)
 form_checks earlier p = (has_first_link earlier p, LinkTypesDiffer) ∷ pcap.record_fit_checks p
-
-same-first : (first p : Captured) (rest earlier later : List Captured) → first ∷ rest ≡ earlier ++ p ∷ later → first_failing (link_check earlier p) ≡
-    None → p.link ≡ first.link
-same-first first p rest [] later is none = let e : first ≡ p = cc in ap (λ (q : Captured). q.link) (sym e)
-same-first first p rest (q ∷ qs) later is none =
-    let e : first ≡ q = cc in
-    sym (eqb-true q.link p.link (all_met (link_check (q ∷ qs) p) none).0) ∙ ap (λ (x : Captured). x.link) (sym e)
 
 kept-of : (r : Resolution) (first p : Captured) (rest earlier later : List Captured) → first ∷ rest ≡ earlier ++ p ∷ later → InRange p → IsPlain p
     → IsWhole r p.time

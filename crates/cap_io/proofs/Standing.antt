@@ -95,9 +95,7 @@ passed-fit text done packets s s' rest at passes = FitUnits-append (FitUnits-wid
 passed-place : (text done : List ℕ) (packets : List Placed) (s s' : SourceView) (rest : List ℕ) → IsAt text done packets false s
     → (passes : SkipsUnits s s' rest)
     → s'.offset ≡ length (done ++ passes.passed)
-passed-place text done packets s s' rest at passes =
-    let place : s.offset + length s.block ≡ length done = at.place ∙ ap length (append-nil done) in
-    passes.offset ∙ ap (λ n. n + length passes.passed) place ∙ sym (length-append done passes.passed)
+passed-place text done packets s s' rest at passes = grind (arith, append-nil, length-append)
 
 passed-whole : (text done : List ℕ) (packets : List Placed) (s s' : SourceView) (rest : List ℕ) → IsAt text done packets false s
     → (passes : SkipsUnits s s' rest)

@@ -51,19 +51,12 @@ pub first-section : (text : List ℕ) → unit_fault None text ≡ None → is_p
 first-section text none = search rules
 
 other-header : (text : List ℕ) → header_fault text ≡ None → is_pcapng text ≡ false
-other-header text none = by_bool (is_pcapng text) refl
-  where
-    by_bool : (b : Bool) → is_pcapng text ≡ b → is_pcapng text ≡ false
-    by_bool true is = absurd (header-other text is none)
-    by_bool false is = is
+other-header text none = grind (arith, header-other)
 
 -- ---- the first unit
 
 header-front : (bytes more : List ℕ) (head : Head) → IsHeader bytes head → front_of Nothing (bytes ++ more) ≡ Whole (length bytes) [] (PcapFile head)
-header-front bytes more head is =
-    let none : header_fault (bytes ++ more) ≡ None = header_fault-append bytes more (omega (arith, is.whole)) ∙ is.passes in
-    front_of-header (bytes ++ more) (other-header (bytes ++ more) none) none
-    ∙ rw (header_in-append bytes more (omega (arith, is.whole)), is.whole, is.says) refl
+header-front bytes more head is = grind (arith, header_fault-append, front_of-header, other-header, header_in-append)
 
 record-front : (head : Head) (bytes more : List ℕ) → IsRecord head bytes → front_of (PcapFile head) (bytes ++ more) ≡ Whole (length bytes)
     (record_packet head bytes ∷ []) (PcapFile head)
@@ -102,11 +95,7 @@ pub record IsFront (declared : Declared) (text : List ℕ) (size : ℕ) (packets
 
 same_front : (declared : Declared) (text : List ℕ) (m n : ℕ) (ps qs : List Captured) (c d : Declared) → Whole m ps c ≡ Whole n qs d
     → IsFront declared text m ps c → IsFront declared text n qs d
-same_front declared text m n ps qs c d e is =
-    let size : m ≡ n = cc in
-    let packets : ps ≡ qs = cc in
-    let after : c ≡ d = cc in
-    rw (← size, ← packets, ← after) is
+same_front declared text m n ps qs c d e is = grind arith
 
 header-is : (text : List ℕ) (size : ℕ) (packets : List Captured) (after : Declared) (fault : Option Fault) → header_fault text ≡ fault
     → header_unless fault text ≡ Whole size packets after → IsFront Nothing text size packets after
@@ -154,13 +143,13 @@ block-is declared first before text size packets after (Some fault) fails e unit
 file-is : (text : List ℕ) (size : ℕ) (packets : List Captured) (after : Declared) (section : Bool) → front_of_file section text ≡ Whole size packets
     after → IsFront Nothing text size packets after
 file-is text size packets after true e = block-is Nothing None None text size packets after (unit_fault None text) refl e (λ bytes is. a_first_block bytes is)
-file-is text size packets after false e = header-is text size packets after (header_fault text) refl e
+file-is text size packets after false e = grind (arith, header-is)
 
 pub front_of-is : (declared : Declared) (text : List ℕ) (size : ℕ) (packets : List Captured) (after : Declared) → front_of declared text ≡ Whole size
     packets after → IsFront declared text size packets after
 front_of-is Nothing text size packets after e = file-is text size packets after (is_pcapng text) e
 front_of-is (PcapFile head) [] size packets after e = (cc)
-front_of-is (PcapFile head) (b ∷ bytes) size packets after e = record-is head (b ∷ bytes) size packets after (record_fault head (b ∷ bytes)) refl e
+front_of-is (PcapFile head) (b ∷ bytes) size packets after e = grind (arith, record-is)
 front_of-is (PcapngFile first section) [] size packets after e = (cc)
 front_of-is (PcapngFile first section) (b ∷ bytes) size packets after e =
     block-is (PcapngFile first section) first (Some section) (b ∷ bytes) size packets after (unit_fault (Some section) (b ∷ bytes)) refl e

@@ -1,5 +1,5 @@
 -- The header that is read is that of the file, or the first check that fails is reported.
-use Rattle.std.proofs.Common.{rules, refl, sym, ap, ◌∙◌, is_some, not}
+use Rattle.std.proofs.Common.{arith, rules, refl, sym, ap, ◌∙◌, is_some, not}
 use Rattle.std.proofs.lemmas.Result.{err_from_is_err_and}
 use Rattle.cap_io.proofs.Came.{first_of, no_magic, none_if_not, rest_of_header, joined_front, header-has_memory, header_came, header_refused, section_of_bytes}
 use Rattle.cap_io.proofs.pcap.read_header.Goals as goal
@@ -29,4 +29,4 @@ returns-clause-err g c =
     (search rules) (section_of_bytes c.read_rest.new.buffer c.args.first.now front (search rules) ∙ c.requires) c.read_head.ensures
 
 pub returns-clause-memory : goal.returns-clause-memory
-returns-clause-memory g c = header-has_memory c.read_rest.new.buffer _ c.read_head.ensures
+returns-clause-memory g c = grind (arith, header-has_memory)

@@ -1,5 +1,5 @@
 -- The bytes that are read follow those at hand, which don't change.
-use Rattle.std.proofs.Common.{rules, ◌≡◌, ◌-◌, ◌≤◌, ◌∙◌, ℕ, List, ◌++◌, length, take, drop, ap, sym, arith, length-append, length-drop, take-append-drop}
+use Rattle.std.proofs.Common.{rules, ◌≡◌, ◌-◌, ◌≤◌, ℕ, List, ◌++◌, length, take, drop, ap, arith, length-append, length-drop, take-append-drop}
 use Rattle.std.proofs.lemmas.List.{append-nil, drop_all, drop_at, length-take-le, take-append-le}
 use Rattle.std.proofs.lemmas.Slice.{overwrites, take-put_mid}
 use Rattle.cap_octet.specs.Device.{Takes}
@@ -11,25 +11,7 @@ filled : (unread unread' whole filling following : List ℕ) (front part size co
     → Takes unread (take part (drop front whole)) count unread' filling → count ≤ part
     → unread ≡ drop front (take size ((take front whole ++ (filling ++ drop part (drop front whole))) ++ following)) ++ unread'
 filled unread unread' whole filling following front part size count within long part_is full takes least =
-    let rest : List ℕ = take part (drop front whole) in
-    let has : length rest ≡ part = length-take-le part (drop front whole) (omega (arith, length-drop front whole)) in
-    let is : filling ≡ take count unread =
-    takes.bytes ∙ ap (λ (l : List ℕ). take count unread ++ l) (drop_all count rest (omega (arith, full))) ∙ append-nil (take count unread) in
-    let fills : length filling ≡ part = ap length is ∙ length-take-le count unread takes.there ∙ omega (arith, has, full, least) in
-    let start : length (take front whole) ≡ front = length-take-le front whole (omega arith) in
-    let put : List ℕ = take front whole ++ (filling ++ drop part (drop front whole)) in
-    let cut : take size (put ++ following) ≡ take front whole ++ filling =
-    take-append-le size put following
-    (omega (
-      arith,
-      length-append (take front whole) (filling ++ drop part (drop front whole)),
-      length-append filling (drop part (drop front whole)),
-      start,
-      fills,
-    ))
-    ∙ take-put_mid front part whole filling size (omega (arith, fills)) (omega arith) in
-    let came : drop front (take size (put ++ following)) ≡ filling = ap (drop front) cut ∙ drop_at (take front whole) filling front start in
-    sym (take-append-drop count unread) ∙ ap (λ (l : List ℕ). take count unread ++ l) (sym takes.rest) ∙ ap (λ (l : List ℕ). l ++ unread') (sym is ∙ sym came)
+    grind (arith, length-take-le, length-drop, drop_all, append-nil, take-append-le, length-append, take-put_mid, drop_at, take-append-drop)
 
 pub returns-clause-same : goal.returns-clause-same
 returns-clause-same g c = search (rules, overwrites)

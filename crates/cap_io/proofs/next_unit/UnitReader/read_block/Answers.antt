@@ -47,7 +47,7 @@ returns-in_err-read_rest g c =
     (λ e. absurd (c.in_err-read_rest.ensures.memory e)))
 
 pub apply_block-requires-clause-section : goal.apply_block-requires-clause-section
-apply_block-requires-clause-section g c = section-fits c.args.self.now.file c.args.self.now.table c.args.front.now c.requires.begins c.requires.consistent
+apply_block-requires-clause-section g c = grind (arith, section-fits)
 
 pub returns-in-Err : goal.returns-in-Err
 returns-in-Err g c =
