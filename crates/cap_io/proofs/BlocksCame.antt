@@ -1,13 +1,12 @@
 -- The effect of reading a block, from one read of the device to the next.
 use Rattle.cap_io.proofs.Common.{◌≡◌, ℕ, true, ◌+◌, ◌<◌, ◌≤◌, ◌⊎◌, inl, inr, List, [], ◌∷◌, ◌++◌, length, take, drop, Option, Some, None, Result, Ok, Err, refl}
-use Rattle.cap_io.proofs.Common.{rules}
-use Rattle.cap_io.proofs.Common.{sym, ap, ap₂, ◌∙◌, subst, arith, unwrap_or, append_assoc, length-append, length-take-le, drop_at, drop-drop}
-use Rattle.cap_io.proofs.Common.{take-append-drop, checked, first_failing, Captured, Fault, NoMemory, ReadFailed, Order, checked_ok, checked_err, Parts}
-use Rattle.cap_io.proofs.Common.{block_checks, parts_in, frame_checks, frame_fault, frame_in, most_block, Described, IsBlock, Section, block_size}
-use Rattle.cap_io.proofs.Common.{checks_among, frame_after, interfaces_before, order_before, packets_in, parts_after, section_after}
-use Rattle.cap_io.proofs.Common.{unit_fault, passes, frame_checks-append, frame_in-append, unit_fault-frame, unit_fault-short, unit_fault-block}
-use Rattle.cap_io.proofs.Common.{unit_fault-among, parts_in-append, block_checks-append, Frame, Enters, held_packet, section_of, AddsInterface}
-use Rattle.cap_io.proofs.Common.{IsBlockFault, IsEntryFault, most_in_unit, block_length, RestMissing, span_bytes, is_interface, PacketSpans}
+use Rattle.cap_io.proofs.Common.{rules, sym, ap, ◌∙◌, subst, arith, unwrap_or, length-append, length-take-le, drop_at, drop-drop, take-append-drop, checked}
+use Rattle.cap_io.proofs.Common.{first_failing, Captured, Fault, NoMemory, ReadFailed, Order, checked_ok, checked_err, block_checks, parts_in, frame_checks}
+use Rattle.cap_io.proofs.Common.{frame_fault, frame_in, most_block, Described, IsBlock, Section, block_size, frame_after, interfaces_before, order_before}
+use Rattle.cap_io.proofs.Common.{packets_in, parts_after, section_after, unit_fault, passes, frame_checks-append, frame_in-append, unit_fault-frame}
+use Rattle.cap_io.proofs.Common.{unit_fault-short, unit_fault-block, unit_fault-among, parts_in-append, block_checks-append, Frame, Enters, held_packet}
+use Rattle.cap_io.proofs.Common.{section_of, AddsInterface, IsBlockFault, IsEntryFault, most_in_unit, block_length, RestMissing, span_bytes, is_interface}
+use Rattle.cap_io.proofs.Common.{PacketSpans}
 use Rattle.cap_io.proofs.Fronts.{decisive_block_length, length_by_header-whole}
 use Rattle.cap_io.proofs.OwnFaults.{entry-not_failed, own-frame, own-not_failed, own-not_memory}
 
@@ -90,7 +89,7 @@ pub frame_refused : (before : Option Section) (section : Option Order) (front un
     → order_before before ≡ section → length front ≡ 12
     → answer ≡ checked (frame_fault section front) (frame_in section front) → answer ≡ Err fault → BlockMissing before (front ++ unread) unread fault
 frame_refused before section front unread answer fault is upper_bound exact err =
-    let fails : frame_fault section front ≡ Some fault = checked_err (frame_fault section front) (frame_in section front) fault (sym exact ∙ err) in
+    let fails : frame_fault section front ≡ Some fault = grind (arith, checked_err) in
     let whole : first_failing (frame_checks (order_before before) (front ++ unread)) ≡ Some fault =
     ap (λ o. first_failing (frame_checks o (front ++ unread))) is ∙ ap first_failing (frame_checks-append section front unread (omega arith)) ∙ fails in
     block_missing before front unread unread fault 0 upper_bound
@@ -115,10 +114,7 @@ pub block-exceeds : (before : Option Section) (section : Option Order) (front un
     → FrontSays section front frame → room < frame.length → room < unwrap_or (block_length before (front ++ unread)) 0
 block-exceeds before section front unread frame room is upper_bound said less =
     let both = says_after before section front unread frame is (omega arith) said in
-    let size : block_size before (front ++ unread) ≡ frame.length = ap (λ (f : Frame). f.length) both.1 in
-    let stated = block_length-whole before front unread (omega arith) both.0 in
-    let long : unwrap_or (block_length before (front ++ unread)) 0 ≡ block_size before (front ++ unread) = ap (λ (o : Option ℕ). unwrap_or o 0) stated in
-    omega (arith, less, size, long)
+    grind (arith, block_size, block_length-whole)
 
 pub frame-has_memory : (section : Option Order) (front : List ℕ) (answer : Result Frame Fault) (fault : Fault)
     → answer ≡ checked (frame_fault section front) (frame_in section front) → answer ≡ Err fault
@@ -136,10 +132,7 @@ rest_of_block before section front unread unread' frame fault is upper_bound sai
     let reads : decisive_block_length before (front ++ unread) ≡ block_size before (front ++ unread) = ap (λ (o : Option ℕ). unwrap_or o 12) stated in
     let long : length (front ++ unread) ≡ length front + length unread = length-append front unread in
     block_missing before front unread unread' fault missing.count upper_bound
-    (elim missing.why [
-      | inl short ↦ inl (rw short.0 (unit_fault-short before (front ++ unread) (omega arith) both.0 (omega (arith, short.1))))
-      | inr failed ↦ inr (inl failed)
-    ])
+    (grind (arith, unit_fault-short))
     (λ none. omega (arith, missing.within)) (λ failed. rw reads (omega (arith, missing.within))) (omega (arith, missing.within)) missing.there missing.rest
 
 -- ---- the complete block
@@ -148,15 +141,8 @@ pub whole_came : (section : Option Order) (front unread unread' unit buffer : Li
     → take frame.length buffer ≡ unit → take (length front) unit ≡ front → unread ≡ drop (length front) unit ++ unread'
     → WholeCame section (front ++ unread) buffer frame unread'
 whole_came section front unread unread' unit buffer frame upper_bound said there same rest =
-    let joined : front ++ drop (length front) unit ≡ unit = ap (λ (l : List ℕ). l ++ drop (length front) unit) (sym same)
-    ∙ take-append-drop (length front) unit in
-    record {
-      passes = rw there (ap (frame_fault section) (sym joined)
-          ∙ ap first_failing (frame_checks-append section front (drop (length front) unit) (omega arith)) ∙ said.passes);
-      says = rw there (ap (frame_in section) (sym joined) ∙ frame_in-append section front (drop (length front) unit) (omega arith) ∙ said.says);
-      splits = rw there (ap (λ (l : List ℕ). front ++ l) rest ∙ sym (append_assoc front (drop (length front) unit) unread')
-          ∙ ap (λ (l : List ℕ). l ++ unread') joined);
-    }
+    let joined : front ++ drop (length front) unit ≡ unit = grind (arith, take-append-drop) in
+    grind (arith, frame_checks-append, frame_in-append)
 
 -- the frame of a block is that of any bytes that begin with it
 record IsFramed (before : Option Section) (block more : List ℕ) (frame : Frame) : Type 0 where
@@ -189,8 +175,7 @@ block_refused before section interfaces text unread' block buffer frame fault is
     let P : List ℕ → Type 0 = λ t. unit_fault before t ≡ Some fault in
     subst P (sym splits) (elim checked [
       | inl fails ↦ unit_fault-block before (block ++ unread') fault (omega arith) f.framed (omega arith) (blocked ∙ fails)
-      | inr among ↦ unit_fault-among before (block ++ unread') (omega arith) f.framed (omega arith) (blocked ∙ among.0)
-          ∙ ap₂ (λ (i : List Described) (p : Parts). first_failing (checks_among i p)) same parts ∙ among.1
+      | inr among ↦ grind (arith, unit_fault-among)
     ])
 
 -- a block that doesn't find its place
@@ -232,19 +217,7 @@ adds-describes before section interfaces text unread' block buffer frame is same
     let splits : text ≡ block ++ unread' = came.splits ∙ ap (λ (l : List ℕ). l ++ unread') (sym block_is) in
     let f = framed_block before section block unread' frame is (omega arith) (ap (frame_fault section) block_is ∙ came.passes)
     (ap (frame_in section) block_is ∙ came.says) in
-    let whole : block_size before (block ++ unread') ≡ frame.length = ap (λ (g : Frame). g.length) f.following in
-    let long : length (block ++ unread') ≡ length block + length unread' = length-append block unread' in
-    let blocked : first_failing (block_checks (frame_after before (block ++ unread')) (block ++ unread')) ≡ first_failing (block_checks frame block) =
-    ap (λ (g : Frame). first_failing (block_checks g (block ++ unread'))) f.following
-    ∙ ap first_failing (block_checks-append frame block unread' least (omega arith)) in
-    let parts : parts_after before (block ++ unread') ≡ parts_in frame block =
-    ap (λ (g : Frame). parts_in g (block ++ unread')) f.following ∙ parts_in-append frame block unread' least (omega arith) in
-    let P : List ℕ → Type 0 = λ t. Describes before t in
-    subst P (sym splits) (record {
-      passes = unit_fault-among before (block ++ unread') (omega arith) f.framed (omega arith) (blocked ∙ adds.passes)
-          ∙ ap₂ (λ (i : List Described) (p : Parts). first_failing (checks_among i p)) same parts ∙ adds.among;
-      is = ap is_interface parts ∙ adds.describes;
-    })
+    grind (arith, block_size, length-append, block_checks-append, parts_in, parts_in-append, unit_fault-among)
 
 -- ---- a block that found it
 

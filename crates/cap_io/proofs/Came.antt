@@ -1,7 +1,7 @@
 -- The effect of reading a unit, from one read of the device to the next.
 use Rattle.cap_io.proofs.Common.{◌≡◌, ℕ, Bool, IsTrue, IfOk, IfErr, ◌+◌, ◌<◌, ◌≤◌, inl, inr, List, [], ◌++◌, length, take, drop, Option, Some, None, is_some}
 use Rattle.cap_io.proofs.Common.{unwrap_or, true, false, Result, Ok, Err, refl, sym, subst, ap, ap₂, ◌∙◌, arith, take_all, length-append, take-append-drop}
-use Rattle.cap_io.proofs.Common.{drop_at, drop-drop, append_assoc, append-nil, TakesFull, checked, first_failing, Fault, NotACaptureFile, Truncated, ReadFailed}
+use Rattle.cap_io.proofs.Common.{drop_at, drop-drop, append_assoc, append-nil, TakesFull, checked, first_failing, Fault, NotACaptureFile, ReadFailed}
 use Rattle.cap_io.proofs.Common.{NoMemory, checked_ok, checked_err, Head, RecordHead, form_in, header_fault, header_in, captured_len, field_checks}
 use Rattle.cap_io.proofs.Common.{record_header_in, record_size, record_packet, form_in-append, header_fault-append, header_fault-no_magic, header_fault-short}
 use Rattle.cap_io.proofs.Common.{field_checks-append, record_header_in-append, captured_len-append, record_fault-fields, record_fault-short, IsRecord-came}
@@ -23,7 +23,7 @@ Taken-following declared unread unread1 unread2 front fault count splits there r
   within = within;
   unfinished = unfinished;
   there = rw splits (simp length-append (omega arith));
-  rest = rest ∙ ap (drop count) (sym (drop_at front unread1 (length front) refl) ∙ ap (drop (length front)) (sym splits))
+  rest = rest ∙ ap (drop count) (grind (arith, drop_at))
       ∙ drop-drop count (length front) unread;
 }
 
@@ -75,12 +75,9 @@ rest_of_header unread unread1 unread2 magic fault whole is splits size other som
     let form : is_some (form_in unread) ≡ true = ap is_some (ap form_in splits ∙ form_in-append magic unread1 (omega arith)) ∙ some in
     let long : length unread ≡ length magic + length unread1 = ap length splits ∙ length-append magic unread1 in
     record {
-      why = elim missing.why [
-        | inl short ↦ inl (rw short.0 (front_of-no_header unread Truncated kind (header_fault-short unread form (omega arith) (omega (arith, short.1)))))
-        | inr failed ↦ inr (inl failed)
-      ];
+      why = grind (arith, front_of-no_header, header_fault-short);
       taken = Taken-following Nothing unread unread1 unread2 magic fault missing.count splits missing.there missing.rest
-          (most_taken-header unread (length magic + missing.count) kind (omega (arith, missing.within)))
+          (grind (arith, most_taken-header))
           (λ failed. rw (decisive_length-header unread kind form) (omega (arith, missing.within)));
     }
 
@@ -118,8 +115,7 @@ header_wrong unread unread2 bytes fault splits size other is =
 -- the first four bytes are those that were read first
 pub section_of_bytes : (bytes first : List ℕ) → take (length first) bytes ≡ first → 4 ≤ length first → is_section bytes ≡ is_section first
 section_of_bytes bytes first front enough =
-    let joined : first ++ drop (length first) bytes ≡ bytes = ap (λ (l : List ℕ). l ++ drop (length first) bytes) (sym front)
-    ∙ take-append-drop (length first) bytes in
+    let joined : first ++ drop (length first) bytes ≡ bytes = grind (arith, take-append-drop) in
     ap is_section (sym joined) ∙ is_section-append first (drop (length first) bytes) enough
 
 pub header_came : (exact : Bool) (unread unread2 bytes : List ℕ) (answer : Result Head Fault) → (IsTrue exact → unread ≡ bytes ++ unread2)
@@ -152,8 +148,7 @@ pub fields_refused : (head : Head) (unread unread1 front : List ℕ) (answer : R
     unread unread1 fault
 fields_refused head unread unread1 front answer fault splits size is err =
     let fails = checked_err (first_failing (field_checks head front)) (record_header_in head front) fault (sym is ∙ err) in
-    let whole : first_failing (field_checks head unread) ≡ Some fault = ap (λ (t : List ℕ). first_failing (field_checks head t)) splits
-    ∙ ap first_failing (field_checks-append head front unread1 (omega arith)) ∙ fails in
+    let whole : first_failing (field_checks head unread) ≡ Some fault = grind (arith, field_checks-append) in
     let long : length unread ≡ length front + length unread1 = ap length splits ∙ length-append front unread1 in
     record {
       why = inl (front_of-no_record head unread fault (omega arith) (record_fault-fields head unread fault (omega arith) whole));
@@ -200,8 +195,17 @@ pub data_missing : (head : Head) (unread unread1 unread2 front : List ℕ) (foun
     → unread ≡ front ++ unread1 → length front ≡ 16 → FieldsCame head front found
     → 16 + found.captured ≤ most_in_unit → RestMissing (length front) size unread1 unread2 fault → NoUnitCame (PcapFile head) unread unread2 fault
 data_missing head unread unread1 unread2 front found fault size is splits upper_bound fields small missing =
-    grind (arith, length-append, captured_len-append, field_checks-append, length_by_header-whole, front_of-no_record, record_fault-short, Taken-following,
-    most_taken-record)
+    grind (
+      arith,
+      length-append,
+      captured_len-append,
+      field_checks-append,
+      length_by_header-whole,
+      front_of-no_record,
+      record_fault-short,
+      Taken-following,
+      most_taken-record,
+    )
 
 pub record_came : (head : Head) (unread unread1 unread2 front unit buffer : List ℕ) (found : RecordHead) (size : ℕ) → unread ≡ front ++ unread1
     → length front ≡ 16 → FieldsCame head front found
@@ -221,8 +225,7 @@ record_came head unread unread1 unread2 front unit buffer found size splits uppe
     let rest : unread1 ≡ drop 16 unit ++ unread2 = following ∙ ap (λ (n : ℕ). drop n unit ++ unread2) upper_bound in
     let said : found.captured ≡ captured_len head front = ap (λ (h : RecordHead). h.captured) fields.says in
     let joined : front ++ drop 16 unit ≡ unit = ap (λ (l : List ℕ). l ++ drop 16 unit) (sym same) ∙ take-append-drop 16 unit in
-    let says : record_header_in head unit ≡ found = ap (record_header_in head) (sym joined) ∙ record_header_in-append head front (drop 16 unit)
-    (omega arith) ∙ sym fields.says in
+    let says : record_header_in head unit ≡ found = grind (arith, record_header_in-append) in
     let bytes : take found.captured (drop 16 unit) ≡ drop 16 unit = take_all found.captured (drop 16 unit) (omega (arith, length-drop 16 unit)) in
     let packet : record {
       link = head.link;

@@ -1,18 +1,15 @@
 -- The effect of reading the units of a capture of any format.
 use Rattle.cap_io.proofs.BlocksCame.{BlockCame, BlockMissing, Describes}
 use Rattle.cap_io.proofs.Came.{Taken-following, most_taken-file}
-use Rattle.cap_io.proofs.Common.{◌≡◌, ℕ, ◌+◌, ◌<◌, ◌≤◌, ◌^◌, IsTrue, Result, Ok, Err, inl, inr, true, List, [], ◌∷◌, ◌++◌, length, take, Option}
-use Rattle.cap_io.proofs.Common.{rules}
-use Rattle.cap_io.proofs.Common.{Some, None, is_some, refl, sym, ap, ◌∙◌, subst, arith, unwrap_or}
-use Rattle.cap_io.proofs.Common.{option_to_list, length-append, length-take-le, Captured, Fault, Truncated, Order, Head}
-use Rattle.cap_io.proofs.Common.{Parts, SectionParts, EnhancedParts, SimpleParts, frame_in, is_section, order_in}
-use Rattle.cap_io.proofs.Common.{Described, FitSection, IsBlock, Section, interfaces_before, order_before, packet_by}
-use Rattle.cap_io.proofs.Common.{packets_in, parts_after, section_after, section_by, unit_fault, passes, unit_fault-few, Frame, PacketSpans, FileState, Enters}
-use Rattle.cap_io.proofs.Common.{KnowsIfAny, held_packet, section_of, Declared, Nothing, PcapFile, PcapngFile, Front, IsUnit, a_pcap_header, a_first_block}
-use Rattle.cap_io.proofs.Common.{a_block, file_after, first_link_after, front_of, is_pcapng, TakesMemory, declared_by, NoMemory, most_in_unit, read_failures}
-use Rattle.cap_io.proofs.Common.{most_taken, packet_in_unit, decisive_length, block_length, BeginsBlock, FrontMissing, HasInterface, HeaderCame}
-use Rattle.cap_io.proofs.Common.{IsConsistent, PacketCame, ReadsUnit, NoUnitCame, RestMissing, UnitPassed, known_first_link, known_order}
-use Rattle.cap_io.proofs.Common.{section_before, unit_size, span_bytes}
+use Rattle.cap_io.proofs.Common.{◌≡◌, ℕ, ◌+◌, ◌<◌, ◌≤◌, ◌^◌, IsTrue, Result, Ok, Err, inl, inr, true, List, [], ◌∷◌, ◌++◌, length, take, Option, rules, Some}
+use Rattle.cap_io.proofs.Common.{None, is_some, refl, sym, ap, ◌∙◌, subst, arith, unwrap_or, option_to_list, length-append, length-take-le, Captured, Fault}
+use Rattle.cap_io.proofs.Common.{Truncated, Order, Head, Parts, SectionParts, EnhancedParts, SimpleParts, frame_in, is_section, order_in, Described, FitSection}
+use Rattle.cap_io.proofs.Common.{IsBlock, Section, interfaces_before, order_before, packet_by, packets_in, parts_after, section_after, section_by, unit_fault}
+use Rattle.cap_io.proofs.Common.{passes, unit_fault-few, Frame, PacketSpans, FileState, Enters, KnowsIfAny, held_packet, section_of, Declared, Nothing}
+use Rattle.cap_io.proofs.Common.{PcapFile, PcapngFile, Front, IsUnit, a_pcap_header, a_first_block, a_block, file_after, first_link_after, front_of, is_pcapng}
+use Rattle.cap_io.proofs.Common.{TakesMemory, declared_by, NoMemory, most_in_unit, read_failures, most_taken, packet_in_unit, decisive_length, block_length}
+use Rattle.cap_io.proofs.Common.{BeginsBlock, FrontMissing, HasInterface, HeaderCame, IsConsistent, PacketCame, ReadsUnit, NoUnitCame, RestMissing, UnitPassed}
+use Rattle.cap_io.proofs.Common.{known_first_link, known_order, section_before, unit_size, span_bytes}
 use Rattle.cap_io.proofs.Fronts.{block_unless, front_of-following, front_of-pcapng, front_of_block-none, is_pcapng-append, most_taken-block}
 use Rattle.cap_io.proofs.Fronts.{decisive_length-pcapng, decisive_block_length, decisive_block_length-few}
 use Rattle.cap_octet.specs.declared.device.Input.{Ghosts}
@@ -29,10 +26,7 @@ missing-refuses : (declared : Declared) (first : Option ℕ) (before : Option Se
 missing-refuses declared first before text unread' fault is reads m =
     let P : Front → Type 0 = λ f. m.count ≤ most_taken f in
     record {
-      why = elim m.why [
-        | inl fails ↦ inl (is ∙ front_of_block-none first before text fault fails)
-        | inr other ↦ inr other
-      ];
+      why = grind (arith, front_of_block-none);
       taken = record {
         count = m.count;
         within = subst P (sym is) (most_taken-block first before text m.count m.within m.upper_bound);
@@ -92,15 +86,14 @@ rest_of_front first unread unread' fault size twelve four is missing =
         | inr failed ↦ inr (inl failed)
       ];
       taken = Taken-following Nothing (first ++ unread) unread unread' first fault missing.count refl missing.there missing.rest
-          (most_taken-file (first ++ unread) (length first + missing.count) (omega (arith, missing.within)))
+          (grind (arith, most_taken-file))
           (λ failed. rw (decisive_length-pcapng (first ++ unread) kind)
-          (decisive_block_length-few None (first ++ unread) (length first + missing.count) (omega (arith, missing.within))));
+          (grind (arith, decisive_block_length-few)));
     }
 
 front-taken : (link : Option ℕ) (section : Section) (text : List ℕ) (count : ℕ) → count ≤ 12 → count ≤ most_taken (front_of (PcapngFile link section) text)
 front-taken link section [] count upper_bound = omega arith
-front-taken link section (b ∷ bytes) count upper_bound =
-    most_taken-block link (Some section) (b ∷ bytes) count (λ none. omega (arith, (passes (Some section) (b ∷ bytes) none).least)) (omega arith)
+front-taken link section (b ∷ bytes) count upper_bound = search (rules, most_taken-block)
 
 -- the front of a later block didn't come
 block_front : (link : Option ℕ) (section : Section) (unread unread' : List ℕ) (fault : Fault) → FrontMissing 12 unread unread' fault
@@ -109,14 +102,11 @@ block_front link section unread unread' fault m =
     elim m.some [
       | inl some ↦ missing-refuses (PcapngFile link section) link (Some section) unread unread' fault (front_of-following link section unread some)
           refl (record {
-            why = elim m.missing.why [
-              | inl short ↦ inl (rw short.0 (unit_fault-few (Some section) unread (omega (arith, short.1))))
-              | inr failed ↦ inr (inl failed)
-            ];
+            why = grind (arith, unit_fault-few);
             count = m.missing.count;
             within = λ none. omega (arith, m.missing.within, (passes (Some section) unread none).least);
             upper_bound = omega (arith, m.missing.within);
-            unfinished = λ failed. decisive_block_length-few (Some section) unread m.missing.count (omega (arith, m.missing.within));
+            unfinished = grind (arith, decisive_block_length-few);
             there = m.missing.there;
             rest = m.missing.rest;
           })
@@ -125,7 +115,7 @@ block_front link section unread unread' fault m =
         taken = record {
           count = m.missing.count;
           within = front-taken link section unread m.missing.count (omega (arith, m.missing.within));
-          unfinished = λ failed. decisive_block_length-few (Some section) unread m.missing.count (omega (arith, m.missing.within));
+          unfinished = grind (arith, decisive_block_length-few);
           there = m.missing.there;
           rest = m.missing.rest;
         };

@@ -1,13 +1,13 @@
 -- Re-exports the names that most proofs of this crate cite; declares nothing.
 pub use Rattle.std.proofs.Common.{◌≡◌, ℕ, ◌+◌, List, [], ◌∷◌, ◌++◌, length, map, None, refl, sym, ap, ap₂, ◌∙◌, true, ◌<◌, ◌≤◌, ◌⊎◌, inl, inr, take, drop}
 pub use Rattle.std.proofs.Common.{Option, Some, Result, Ok, Err, subst, arith, unwrap_or, Bool, IsTrue, IfOk, IfErr, is_some, false, ◌^◌, if◌then◌else◌, nat_le}
-pub use Rattle.std.proofs.Common.{zero, suc, zero-add, ◌&&◌, is_none, add-zero, nat_eq, ◌||◌, not, cond, max, IsPermutation, is_ok, ◌-◌, ◌*◌, ◌/◌, ◌%◌}
-pub use Rattle.std.proofs.Common.{lt-ltb, ◌==◌, rules}
+pub use Rattle.std.proofs.Common.{zero, suc, zero-add, ◌&&◌, is_none, add-zero, nat_eq, ◌||◌, not, cond, max, IsPermutation, is_ok, ◌-◌, ◌*◌, ◌/◌, ◌%◌, lt-ltb}
+pub use Rattle.std.proofs.Common.{◌==◌, rules}
 pub use Rattle.std.proofs.lemmas.Bool.{ltb-true, le-leb, lt-leb}
 pub use Rattle.std.proofs.lemmas.Grind.{common_steps}
 pub use Rattle.std.proofs.lemmas.List.{append_assoc, append-nil, map-append, length-append, length-take-le, drop_at, drop-drop, take-append-drop, take_all}
-pub use Rattle.std.proofs.lemmas.List.{length-drop, take_at, take-take, take-append-le, drop-take, length-take, length-map}
-pub use Rattle.std.proofs.lemmas.List.{Elements.All-nil, Elements.All-append, Sums.fold-append}
+pub use Rattle.std.proofs.lemmas.List.{length-drop, take_at, take-take, take-append-le, drop-take, length-take, length-map, Elements.All-nil}
+pub use Rattle.std.proofs.lemmas.List.{Elements.All-append, Sums.fold-append}
 pub use Rattle.std.proofs.lemmas.{Option.slice_get-map, Option.slice_get_within, Result.err_from_is_err_and}
 pub use Rattle.std.specs.List.{AllByRecursion, slice_get, fold, list_any, position_or_len, flat_map, All}
 pub use Rattle.std.specs.Option.{option_to_list, option_map}
@@ -22,17 +22,17 @@ pub use Rattle.cap_io.specs.RoundTrip.{ReadsBack, Back, InRange, IsPlain, IsCarr
 pub use Rattle.cap_io.specs.Sink.{WritesPacket, SinkView, sink_at, HasPut, HasPackets, AddsPacket, PutsNext, PutsPacket, PutWrites, IsPutAnswer, Finishes}
 pub use Rattle.cap_io.specs.Sink.{FinishWrites, FinishesEmpty, link_or_ethernet, refusal_in, added_in}
 pub use Rattle.cap_io.specs.Source.{SourceView, Reading, Ended, Failed, SkipsUnits, IsBroken, FindsPacket, FindsEnd, FindsFault, block_at, end_offset, phase_at}
-pub use Rattle.cap_io.specs.Source.{Phase, source_at, Advances, Finds, TakesIfAtHand, packet_at, unit_at, view_of}
+pub use Rattle.cap_io.specs.Source.{Phase, source_at, Advances, Finds, TakesIfAtHand, unit_at, view_of}
 pub use Rattle.cap_io.specs.Text.{Interface, interface_of, is_same, new_among, interfaces_after_packet, kept_interfaces, is_among, number_among}
-pub use Rattle.cap_io.specs.Text.{most_output_interfaces, file_start_in, appended_packet, file_start, record_text, has_link, state_after, FitFile}
-pub use Rattle.cap_io.specs.Text.{added_text, has_room, packets_text, refusal_of, state_after_packet, takes_memory, text}
+pub use Rattle.cap_io.specs.Text.{most_output_interfaces, file_start_in, appended_packet, file_start, record_text, has_link, state_after, FitFile, added_text}
+pub use Rattle.cap_io.specs.Text.{has_room, packets_text, refusal_of, state_after_packet, takes_memory, text}
 pub use Rattle.cap_io.specs.declared.file_state.FileState.{FileState}
 pub use Rattle.cap_io.specs.declared.{numbering.InterfaceNumber.InterfaceNumber, sink.SinkState.SinkState}
 pub use Rattle.cap_io.specs.declared.sink.SinkState.TheVariants.{Empty, Started, Broken}
 pub use Rattle.cap_io.specs.inside.Numbering.{HasNumber, IsFirst}
-pub use Rattle.cap_io.specs.inside.Reading.{RestMissing, NoUnitCame, HeaderCame, PacketCame, BeginsBlock, FrontMissing, HasInterface}
-pub use Rattle.cap_io.specs.inside.Reading.{IsConsistent, ReadsUnit, UnitPassed, known_first_link, known_order, section_before, unit_size}
-pub use Rattle.cap_io.specs.inside.Reading.{record_spans, EndCame, BeginsWithPacket, UnitLent}
+pub use Rattle.cap_io.specs.inside.Reading.{RestMissing, NoUnitCame, HeaderCame, PacketCame, BeginsBlock, FrontMissing, HasInterface, IsConsistent, ReadsUnit}
+pub use Rattle.cap_io.specs.inside.Reading.{UnitPassed, known_first_link, known_order, section_before, unit_size, record_spans, EndCame, BeginsWithPacket}
+pub use Rattle.cap_io.specs.inside.Reading.{UnitLent}
 pub use Rattle.cap_io.specs.inside.Sink.{Appends, packet_block_text, description_text}
 pub use Rattle.cap_io.specs.inside.Source.{IsBetween, TakesNext, HoldsIfAny}
 pub use Rattle.cap_octet.specs.Checks.{checked, first_failing}
@@ -52,8 +52,7 @@ pub use Rattle.cap_pcap.specs.declared.header.Resolution.TheVariants.{Microsecon
 pub use Rattle.cap_pcap.proofs.Headers.{form_in-append, header_fault-append, header_fault-no_magic, header_fault-short, header_fault-none, header_in-append}
 pub use Rattle.cap_pcap.proofs.Records.{field_checks-append, record_header_in-append, captured_len-append, record_fault-fields, record_fault-short}
 pub use Rattle.cap_pcap.proofs.Records.{IsRecord-came, record_fault-whole, IsRecord-front, IsRecord-take}
-pub use Rattle.cap_pcapng.specs.Block.{Parts, SectionParts, InterfaceParts, EnhancedParts, SimpleParts, SkippedParts, block_checks, parts_in}
-pub use Rattle.cap_pcapng.specs.Block.{body_checks}
+pub use Rattle.cap_pcapng.specs.Block.{Parts, SectionParts, InterfaceParts, EnhancedParts, SimpleParts, SkippedParts, block_checks, parts_in, body_checks}
 pub use Rattle.cap_pcapng.specs.Effect.{Enters, held_packet, section_of, span_bytes, is_interface, KnowsIfAny, IsBlockFault}
 pub use Rattle.cap_pcapng.specs.Frame.{frame_checks, frame_fault, frame_in, most_block, is_section, order_in, section_type}
 pub use Rattle.cap_pcapng.specs.Interface.{Described, FitSection, most_interfaces}

@@ -20,8 +20,7 @@ enough-at : (m n : ℕ) (f : Front) (b : Declared) (at : ℕ) (text : List ℕ) 
 enough-at m n (NoUnit why) b at text l r sized same = refl
 enough-at m n (Whole size ps d) b at text l r sized same =
     let p = sized size ps d refl in
-    ap (after_packets (placed_at at ps)) (same d (at + size) (drop size text) (simp length-drop (omega (arith, p.0, p.1)))
-    (simp length-drop (omega (arith, p.0, p.1))))
+    grind (arith, placed_at, length-drop)
 
 enough : (m n : ℕ) (b : Declared) (at : ℕ) (text : List ℕ) → length text < m → length text < n → items_within m b at text ≡ items_within n b at text
 unfolding items_within
@@ -45,9 +44,7 @@ items_from-whole : (b d : Declared) (at : ℕ) (text : List ℕ) (size : ℕ) (p
 unfolding items_from
 items_from-whole b d at text size ps e =
     let p = front-sized b text size ps d e in
-    items_from-step b at text
-    ∙ rw e (ap (after_packets (placed_at at ps))
-    (enough (length text) (length (drop size text) + 1) d (at + size) (drop size text) (simp length-drop (omega (arith, p.0, p.1))) (omega arith)))
+    grind (arith, items_from-step, placed_at, enough, length-drop)
 
 pub items_from-unit : {b c : Declared} {u : List ℕ} {qs : List Captured} → IsUnit b u qs c → (at : ℕ) (rest : List ℕ)
     → items_from b at (u ++ rest) ≡ after_packets (placed_at at qs) (items_from c (at + length u) rest)
@@ -197,11 +194,4 @@ units_within (suc most) declared at text enough = grind (arith, units_by, front_
 pub has_cut : EachHasCut
 has_cut text =
     let all = units_within (length text + 1) Nothing 0 text (omega arith) in
-    record {
-      done = all.done;
-      rest = all.rest;
-      packets = all.packets;
-      declared = all.after;
-      cut =
-          record { joined = all.joined; units = all.units; last = all.last };
-    }
+    grind arith

@@ -1,9 +1,7 @@
 -- A record that the device has at hand is the next unit.
-use Rattle.cap_io.proofs.Common.{rules, ◌≡◌, ℕ, Bool, true, IsTrue, is_some, ◌+◌, ◌^◌, ◌<◌, ◌≤◌, List, ◌++◌, length, take, drop, refl, sym, ap, ◌∙◌}
-use Rattle.cap_io.proofs.Common.{arith, length-take, length-take-le, take-take, take-append-drop, HasGiven}
-use Rattle.cap_io.proofs.Common.{PacketSpans, most_in_unit, packet_in_unit, PacketCame, Declared, ap₂}
-use Rattle.cap_io.proofs.Common.{SourceView, Reading, HasInterface, end_offset}
-use Rattle.cap_io.proofs.Common.{BeginsWithPacket, UnitLent, TakesIfAtHand, TakesNext, false}
+use Rattle.cap_io.proofs.Common.{rules, ◌≡◌, ℕ, Bool, true, IsTrue, is_some, ◌+◌, ◌^◌, ◌<◌, ◌≤◌, List, ◌++◌, length, take, drop, refl, ap, ◌∙◌, arith}
+use Rattle.cap_io.proofs.Common.{length-take, length-take-le, take-take, take-append-drop, HasGiven, PacketSpans, most_in_unit, packet_in_unit, PacketCame}
+use Rattle.cap_io.proofs.Common.{Declared, SourceView, Reading, HasInterface, end_offset, BeginsWithPacket, UnitLent, TakesIfAtHand, TakesNext, false}
 use Rattle.cap_io.proofs.Passing.{FindsPacket-next, time-held}
 use Rattle.cap_io.specs.inside.Lending.{Lends}
 use Rattle.cap_io.specs.declared.lending.Lending.{Lending}
@@ -39,13 +37,7 @@ takes-next tells spans hand held old new begins stays starts left declared fits 
     let whole : length (take spans.size held) ≡ spans.size = length-take-le spans.size held (begins-long held hand spans.size stays there) in
     let known : HasInterface new.declared spans = rw declared begins.known in
     let some : is_some new.packet ≡ true = ap is_some packet ∙ packet-there new.declared spans (take spans.size held) known in
-    let next : IsTrue tells → PacketCame old.declared old.unread held spans new.declared new.unread = λ t. record {
-      packet = came.packet;
-      is_lent = rw (← same) came.is_lent;
-      unit = rw (← same) came.unit;
-      same = declared;
-      splits = lent-first old.unread hand spans.size (starts t) there ∙ ap₂ (λ (x y : List ℕ). x ++ y) same (sym left);
-    } in
+    let next : IsTrue tells → PacketCame old.declared old.unread held spans new.declared new.unread = grind (arith, lent-first) in
     record {
       packet = λ t. FindsPacket-next old new spans held (next t) block packet offset (omega (arith, room)) (omega (arith, whole, fits)) phase;
       bounds = search rules;

@@ -1,12 +1,10 @@
 -- The different interfaces of packets, in the order of first use.
-use Rattle.cap_io.proofs.Common.{rules}
-use Rattle.cap_io.proofs.Common.{◌≡◌, ◌≤◌, ◌||◌, ◌+◌, suc, Bool, true, false, not, cond, if◌then◌else◌, Some, number_among, is_among, refl, ap, List, []}
-use Rattle.cap_io.proofs.Common.{◌∷◌, ◌++◌, length, sym, arith, fold, fold-append, Captured, Format, Pcapng, Interface}
-use Rattle.cap_io.proofs.Common.{interface_of, is_same, new_among, interfaces_after_packet, kept_interfaces, ℕ, map, nat_le, ◌<◌, list_any}
-use Rattle.cap_io.proofs.Common.{position_or_len, append-nil, map-append, length-append, le-leb, lt-leb, most_output_interfaces, interface_in, zero, All-append}
-use Rattle.cap_io.proofs.Common.{All-nil, All, HasNumber, IsFirst, FitFile, InterfaceNumber}
+use Rattle.cap_io.proofs.Common.{rules, ◌≡◌, ◌≤◌, ◌||◌, ◌+◌, suc, Bool, true, false, not, cond, if◌then◌else◌, Some, number_among, is_among, refl, ap, List, []}
+use Rattle.cap_io.proofs.Common.{◌∷◌, ◌++◌, length, sym, arith, fold, fold-append, Captured, Format, Pcapng, Interface, interface_of, is_same, new_among}
+use Rattle.cap_io.proofs.Common.{interfaces_after_packet, kept_interfaces, ℕ, map, nat_le, ◌<◌, list_any, position_or_len, append-nil, map-append}
+use Rattle.cap_io.proofs.Common.{length-append, le-leb, lt-leb, most_output_interfaces, interface_in, zero, All-append, All-nil, All, HasNumber, IsFirst}
+use Rattle.cap_io.proofs.Common.{FitFile, InterfaceNumber}
 use Rattle.std.proofs.{Common.length-append, Common.slice_get, Math.Bool.or-true}
-use Rattle.std.proofs.lemmas.Cmp.{nat_eq_equiv, nat_list_eq_equiv}
 use Rattle.cap_io.specs.declared.numbering.InterfaceKey.{InterfaceKey}
 
 -- ---- the same
@@ -84,7 +82,7 @@ some_is : (i j : Interface) → Some i ≡ Some j → i ≡ j
 some_is i j same = (cc)
 
 same-self : (i : Interface) → is_same i i ≡ true
-same-self i = rw (nat_eq_equiv.refl i.link, nat_eq_equiv.refl i.snap) (nat_list_eq_equiv.refl i.name)
+same-self i = search rules
 
 -- ---- its number stays
 

@@ -46,8 +46,7 @@ permuted-insert e [] = IsPermutation-refl (e ∷ [])
 permuted-insert e (x ∷ xs) =
     let later : IsPermutation (e ∷ x ∷ xs) (x ∷ insert_entry e xs) = IsPermutation-trans _ _ _ (IsPermutation-middle (e ∷ []) x xs)
     (IsPermutation-cons x _ _ (permuted-insert e xs)) in
-    elim (comes_before x e) as (λ b. IsPermutation (e ∷ x ∷ xs) (if b then x ∷ insert_entry e xs else e ∷ x ∷ xs))
-    [ true ↦ later | false ↦ IsPermutation-refl (e ∷ x ∷ xs) ]
+    grind arith
 
 permuted : (es : List Entry) → IsPermutation es (sort_entries es)
 permuted [] = IsPermutation-refl []
@@ -93,9 +92,7 @@ leads-other e input ending greatest (p ∷ ps) less =
 
 leads-others : (e : Entry) (input : ℕ) (rs : List InputItems) → e.input < input → Leads e (all_entries input rs)
 leads-others e input [] less = tt
-leads-others e input (r ∷ rs) less =
-    each-append (IsLed e) (entries_of input r.items.ending r.greatest r.items.packets) (all_entries (input + 1) rs)
-    (leads-other e input r.items.ending r.greatest r.items.packets less) (leads-others e (input + 1) rs (omega (arith, less)))
+leads-others e input (r ∷ rs) less = search (arith, each-append, leads-other, (leads-others e (input + 1) rs (omega (arith, less))))
 
 each-leads-own : (input : ℕ) (ending : Ending) (greatest : ℕ) (ps : List Placed) (rest : List Entry) → ((e : Entry) → e.input ≡ input → Leads e rest)
     → EachLeads rest → EachLeads (entries_of input ending greatest ps ++ rest)
@@ -180,15 +177,4 @@ pub merges-sort : MergesSort
 merges-sort rs =
     let es = all_entries 0 rs in
     let c = comes-unless (fault_without_packets 0 rs) (sort_entries es) in
-    record {
-      sorted = sort_entries es;
-      order = sorted es;
-      all = permuted es;
-      places = λ input. places input es (each-leads 0 rs);
-      come = c.come;
-      later = c.later;
-      parts = c.parts;
-      events = c.events;
-      whole = c.whole;
-      stops = c.stops;
-    }
+    grind (arith, sorted, permuted, places, each-leads)

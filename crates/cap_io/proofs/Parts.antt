@@ -1,10 +1,8 @@
 -- What parts add that are written one after another, and what a sink adds with them.
-use Rattle.cap_io.proofs.Common.{rules}
-use Rattle.cap_io.proofs.Common.{◌≡◌, ◌⊎◌, ℕ, ◌+◌, ◌<◌, Bool, true, false, not, if◌then◌else◌, List, [], ◌∷◌, ◌++◌, length, take, Option, Some, None}
-use Rattle.cap_io.proofs.Common.{Result, is_ok, Ok, Err, refl, sym, ap, ◌∙◌, arith, flat_map, append_assoc, append-nil, take-append-le, checked}
-use Rattle.cap_io.proofs.Common.{AppendsOrStops, Stops, Captured, Fault, WriteFailed, Format, Pcap, NsecPcap, Pcapng, InterfaceNumber, SinkState, HasNumber}
-use Rattle.cap_io.proofs.Common.{WritesPacket, file_start_in, appended_packet, Interface, interface_of, file_start, record_text}
-use Rattle.cap_io.proofs.Common.{Appends, packet_block_text, description_text}
+use Rattle.cap_io.proofs.Common.{rules, ◌≡◌, ◌⊎◌, ℕ, ◌+◌, ◌<◌, Bool, true, false, not, if◌then◌else◌, List, [], ◌∷◌, ◌++◌, length, take, Option, Some, None}
+use Rattle.cap_io.proofs.Common.{Result, is_ok, Ok, Err, refl, sym, ap, ◌∙◌, arith, flat_map, append_assoc, append-nil, take-append-le, checked, AppendsOrStops}
+use Rattle.cap_io.proofs.Common.{Stops, Captured, Fault, WriteFailed, Format, Pcap, NsecPcap, Pcapng, InterfaceNumber, SinkState, HasNumber, WritesPacket}
+use Rattle.cap_io.proofs.Common.{file_start_in, appended_packet, Interface, interface_of, file_start, record_text, Appends, packet_block_text, description_text}
 use Rattle.std.proofs.{Common.length-append, Math.Seq.take-append-add}
 use Rattle.cap_octet.specs.Writer.{WritesExactly}
 use Rattle.cap_octet.specs.declared.device.{DeviceFault.DeviceFault, Output.Ghosts, Stopped.Stopped}

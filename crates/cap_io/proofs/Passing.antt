@@ -1,11 +1,10 @@
 -- Units from one place in a file to a later one, and the items after them.
 use Rattle.cap_io.proofs.Common.{◌≡◌, ℕ, ◌+◌, ◌-◌, ◌≤◌, ◌<◌, ◌^◌, Bool, false, Result, Ok, Err, HasGiven, most_in_unit, read_failures, List, [], ◌++◌, length}
-use Rattle.cap_io.proofs.Common.{take, drop, Option, Some, None, is_some, true, refl, sym, ap, ◌∙◌, arith, slice_get, option_map, append_assoc}
-use Rattle.cap_io.proofs.Common.{rules}
-use Rattle.cap_io.proofs.Common.{drop-take, take-take, length-append, length-take-le, Order, Head, Described, packet_of, Fault, NoMemory, PacketSpans, Declared}
-use Rattle.cap_io.proofs.Common.{Nothing, PcapFile, PcapngFile, AreUnits, no_unit, TakesMemory, held_length, no_unit_fits, packet_in_unit, EndCame}
-use Rattle.cap_io.proofs.Common.{HasInterface, PacketCame, NoUnitCame, UnitPassed, span_bytes, SourceView, Reading, Ended, Failed, SkipsUnits, IsBroken}
-use Rattle.cap_io.proofs.Common.{FindsPacket, FindsEnd, FindsFault, block_at, end_offset, phase_at, IsBetween, HoldsIfAny}
+use Rattle.cap_io.proofs.Common.{take, Option, Some, None, is_some, true, refl, sym, ap, ◌∙◌, arith, slice_get, option_map, append_assoc, rules, drop-take}
+use Rattle.cap_io.proofs.Common.{take-take, length-append, length-take-le, Order, Head, Described, packet_of, Fault, NoMemory, PacketSpans, Declared, Nothing}
+use Rattle.cap_io.proofs.Common.{PcapFile, PcapngFile, AreUnits, no_unit, TakesMemory, held_length, no_unit_fits, packet_in_unit, EndCame, HasInterface}
+use Rattle.cap_io.proofs.Common.{PacketCame, NoUnitCame, UnitPassed, span_bytes, SourceView, Reading, Ended, Failed, SkipsUnits, IsBroken, FindsPacket}
+use Rattle.cap_io.proofs.Common.{FindsEnd, FindsFault, block_at, end_offset, phase_at, IsBetween, HoldsIfAny}
 use Rattle.cap_io.proofs.Cuts.{AreUnits-append}
 use Rattle.cap_io.proofs.Units.{FitUnits-append, FitUnits-wider, one_unit_fits, one_unit}
 use Rattle.cap_pcapng.specs.{Comment.comment_in, declared.effect.Span.Span}
@@ -158,11 +157,7 @@ pub part-lent : (span : Span) (size : ℕ) (bytes buffer : List ℕ) → span.st
     → span_bytes span bytes ≡ span_bytes span (take size buffer)
 part-lent span size bytes buffer within same =
     let whole : span.start + (size - span.start) ≡ size = omega arith in
-    let rest : drop span.start (take size buffer) ≡ take (size - span.start) (drop span.start buffer) =
-    ap (λ n. drop span.start (take n buffer)) (sym whole) ∙ drop-take span.start (size - span.start) buffer in
-    ap (span_bytes span) same
-    ∙ sym (take-take span.length (size - span.start) (drop span.start buffer) (omega arith))
-    ∙ ap (take span.length) (sym rest)
+    grind (arith, drop-take, take-take)
 
 pub pcap-lent : (head : Head) (spans : PacketSpans) (bytes block : List ℕ) → bytes ≡ span_bytes spans.bytes block
     → Some (record { link = head.link; snap = head.snap; name = []; time = spans.time; orig = spans.orig; bytes = bytes; comment = [] }) ≡

@@ -1,11 +1,10 @@
 -- A capture that is written in a pcap format reads back.
-use Rattle.cap_io.proofs.Common.{rules}
+use Rattle.cap_io.proofs.Common.{rules, ◌≡◌, ℕ, ◌+◌, ◌*◌, ◌/◌, ◌%◌, ◌^◌, ◌<◌, ◌≤◌, Bool, List, [], ◌∷◌, ◌++◌, length, drop, None, refl, sym, ap, subst, ◌∙◌}
+use Rattle.cap_io.proofs.Common.{arith, lt-ltb, AllByRecursion, flat_map, first_failing, u32_in, Captured, Fault, LinkTypesDiffer, Pcap, NsecPcap, Little}
+use Rattle.cap_io.proofs.Common.{IsHeader, IsRecord, field_checks, most_captured, nanoseconds_of_part, record_packet, parts_of_second, Head, Resolution}
+use Rattle.cap_io.proofs.Common.{Microseconds, Nanoseconds, record_fault-whole, PcapFile, a_pcap_header, a_pcap_record, Back, InRange, IsPlain, ReadsBack}
+use Rattle.cap_io.proofs.Common.{has_link, record_text, state_after}
 use Rattle.cap_io.proofs.Backs.{Holds, each-following, holds-none, holds-unit, reads-back}
-use Rattle.cap_io.proofs.Common.{◌≡◌, ℕ, ◌+◌, ◌*◌, ◌/◌, ◌%◌, ◌^◌, ◌<◌, ◌≤◌, Bool, List, [], ◌∷◌, ◌++◌, length, drop, None, refl, sym, ap, subst, ◌∙◌}
-use Rattle.cap_io.proofs.Common.{arith, lt-ltb, AllByRecursion, flat_map, first_failing, u32_in, Captured, Fault, LinkTypesDiffer}
-use Rattle.cap_io.proofs.Common.{Pcap, NsecPcap, Little, IsHeader, IsRecord, field_checks, most_captured}
-use Rattle.cap_io.proofs.Common.{nanoseconds_of_part, record_packet, parts_of_second, Head, Resolution, Microseconds, Nanoseconds, record_fault-whole, PcapFile}
-use Rattle.cap_io.proofs.Common.{a_pcap_header, a_pcap_record, Back, InRange, IsPlain, ReadsBack, has_link, record_text, state_after}
 use Rattle.cap_io.proofs.Texts.{bare_text, text-start}
 use Rattle.std.proofs.Common.{le-leb}
 use Rattle.cap_octet.specs.Number.{number_in}
@@ -142,8 +141,7 @@ kept-of r first p rest earlier later is in_range plain whole none = search rules
 pub pcap-back : Back Pcap
 pcap-back p ps carries =
     let kept = each-following (IsKept Microseconds p.link) (p ∷ ps)
-    (λ earlier q later is. let one = carries.each earlier q later is in kept-of Microseconds p q ps earlier later is one.in_range one.kept.0
-    one.kept.1 one.taken) [] (p ∷ ps) refl in
+    (grind (arith, kept-of)) [] (p ∷ ps) refl in
     let one = carries.each [] p ps refl in
     let R : List ℕ → Type 0 = λ t. ReadsBack t (p ∷ ps) in
     subst R (sym (text-start Pcap p ps ∙ ap (λ (l : List ℕ). pcap.file_header Microseconds p.link ++ l) (text-pcap [] (p ∷ ps))))
@@ -152,8 +150,7 @@ pcap-back p ps carries =
 pub nanoseconds-back : Back NsecPcap
 nanoseconds-back p ps carries =
     let kept = each-following (IsKept Nanoseconds p.link) (p ∷ ps)
-    (λ earlier q later is. let one = carries.each earlier q later is in kept-of Nanoseconds p q ps earlier later is one.in_range one.kept tt
-    one.taken) [] (p ∷ ps) refl in
+    (grind (arith, kept-of)) [] (p ∷ ps) refl in
     let one = carries.each [] p ps refl in
     let R : List ℕ → Type 0 = λ t. ReadsBack t (p ∷ ps) in
     subst R (sym (text-start NsecPcap p ps ∙ ap (λ (l : List ℕ). pcap.file_header Nanoseconds p.link ++ l) (text-nanoseconds [] (p ∷ ps))))

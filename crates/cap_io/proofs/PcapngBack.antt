@@ -1,12 +1,10 @@
 -- A capture that is written in pcapng reads back.
-use Rattle.cap_io.proofs.Common.{rules}
+use Rattle.cap_io.proofs.Common.{rules, ◌≡◌, ℕ, ◌<◌, ◌≤◌, Bool, true, false, List, [], ◌∷◌, ◌++◌, length, map, if◌then◌else◌, Option, None, Some, refl, sym, ap}
+use Rattle.cap_io.proofs.Common.{subst, ◌∙◌, arith, AllByRecursion, flat_map, slice_get, option_map, fold-append, append_assoc, append-nil, length-map}
+use Rattle.cap_io.proofs.Common.{map-append, slice_get-map, slice_get_within, first_failing, Captured, Pcapng, Described, most_interfaces, Section, packets_in}
+use Rattle.cap_io.proofs.Common.{Nothing, PcapngFile, IsUnit, a_first_block, a_block, first_link_after, Back, InRange, IsCarried, ReadsBack, Interface}
+use Rattle.cap_io.proofs.Common.{interface_of, is_among, kept_interfaces, new_among, number_among}
 use Rattle.cap_io.proofs.Backs.{Holds, each-following, holds-none, holds-unit, reads-back}
-use Rattle.cap_io.proofs.Common.{◌≡◌, ℕ, ◌<◌, ◌≤◌, Bool, true, false, List, [], ◌∷◌, ◌++◌, length, map, if◌then◌else◌, Option, None, Some, refl, sym, ap, subst}
-use Rattle.cap_io.proofs.Common.{◌∙◌, arith, AllByRecursion, flat_map, slice_get, option_map, fold-append, append_assoc, append-nil, length-map}
-use Rattle.cap_io.proofs.Common.{map-append, slice_get-map, slice_get_within, first_failing, Captured, Pcapng, Described}
-use Rattle.cap_io.proofs.Common.{most_interfaces, Section, packets_in, Nothing, PcapngFile, IsUnit, a_first_block, a_block, first_link_after, Back, InRange}
-use Rattle.cap_io.proofs.Common.{IsCarried, ReadsBack, Interface, interface_of, is_among, kept_interfaces, new_among}
-use Rattle.cap_io.proofs.Common.{number_among}
 use Rattle.cap_io.proofs.Interfaces.{found, kept-grows, kept-push}
 use Rattle.cap_io.proofs.Texts.{bare_text, text-start}
 use Rattle.std.proofs.Common.{length-append}

@@ -1,13 +1,11 @@
 -- A sink has written the bytes of the packets that were put to it.
-use Rattle.cap_io.proofs.Common.{arith, rules}
-use Rattle.cap_io.proofs.Common.{◌≡◌, ◌⊎◌, ℕ, Bool, true, false, List, [], ◌∷◌, ◌++◌, Option, None, Some}
-use Rattle.cap_io.proofs.Common.{Result, Ok, Err, refl, sym, ◌∙◌, ap, append_assoc, append-nil, first_failing, AppendsOrStops, Captured, Fault}
-use Rattle.cap_io.proofs.Common.{WriteFailed, NoMemory, LinkTypesDiffer, TooLong, TimeOutOfRange, TooManyOutputInterfaces, Format, Pcap, NsecPcap, Pcapng}
-use Rattle.cap_io.proofs.Common.{SinkState, Empty, Started, Broken, added_text, appended_packet, file_start}
-use Rattle.cap_io.proofs.Common.{has_room, kept_interfaces, packets_text, refusal_of, state_after}
-use Rattle.cap_io.proofs.Common.{state_after_packet, takes_memory, text, SinkView, sink_at, HasPut, HasPackets, AddsPacket, PutsNext}
-use Rattle.cap_io.proofs.Common.{WritesPacket, PutsPacket, PutWrites, IsPutAnswer, Finishes, FinishWrites, FinishesEmpty, link_or_ethernet, refusal_in}
-use Rattle.cap_io.proofs.Common.{added_in, EachPutGoesByPackets, PutExtendsText}
+use Rattle.cap_io.proofs.Common.{arith, rules, ◌≡◌, ◌⊎◌, ℕ, Bool, true, false, List, [], ◌∷◌, ◌++◌, Option, None, Some, Result, Ok, Err, refl, sym, ◌∙◌, ap}
+use Rattle.cap_io.proofs.Common.{append_assoc, append-nil, first_failing, AppendsOrStops, Captured, Fault, WriteFailed, NoMemory, LinkTypesDiffer, TooLong}
+use Rattle.cap_io.proofs.Common.{TimeOutOfRange, TooManyOutputInterfaces, Format, Pcap, NsecPcap, Pcapng, SinkState, Empty, Started, Broken, added_text}
+use Rattle.cap_io.proofs.Common.{appended_packet, file_start, has_room, kept_interfaces, packets_text, refusal_of, state_after, state_after_packet}
+use Rattle.cap_io.proofs.Common.{takes_memory, text, SinkView, sink_at, HasPut, HasPackets, AddsPacket, PutsNext, WritesPacket, PutsPacket, PutWrites}
+use Rattle.cap_io.proofs.Common.{IsPutAnswer, Finishes, FinishWrites, FinishesEmpty, link_or_ethernet, refusal_in, added_in, EachPutGoesByPackets}
+use Rattle.cap_io.proofs.Common.{PutExtendsText}
 use Rattle.cap_io.proofs.Interfaces.{kept-push}
 
 -- ---- faults that refuse no packet
@@ -155,10 +153,7 @@ HasPackets-put before ps old p new has puts writes =
           bytes
           ∙ rw (has.written, adds.format)
           (append_assoc before (text old.format ps) (added_text old.format ps p) ∙ ap (λ (t : List ℕ). before ++ t) (sym (text-push old.format ps p)));
-      put = record {
-        state = adds.state ∙ by.state;
-        interfaces = adds.interfaces ∙ by.interfaces ∙ ap (λ (f : Format). kept_interfaces f (ps ++ p ∷ [])) (sym adds.format);
-      };
+      put = grind arith;
     }
 
 -- ---- its end

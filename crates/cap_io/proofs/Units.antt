@@ -1,13 +1,11 @@
 -- Complete units, and what bytes begin with.
-use Rattle.cap_io.proofs.Common.{rules}
-use Rattle.cap_io.proofs.Common.{◌≡◌, ℕ, Bool, true, false, ◌&&◌, cond, is_some, ◌⊎◌, inl, inr, ◌<◌, ◌≤◌, List, [], ◌∷◌, ◌++◌, length, take, drop, Option, None}
-use Rattle.cap_io.proofs.Common.{Some, refl, sym, ◌∙◌, ap, arith, append-nil, length-append, length-take-le, take-append-drop, take_at, Captured, Fault, Head}
-use Rattle.cap_io.proofs.Common.{Resolution, Microseconds, Nanoseconds, form_in, header_checks, header_fault, header_in, magic, IsHeader, record_fault}
-use Rattle.cap_io.proofs.Common.{record_size, record_packet, IsRecord, header_fault-append, header_fault-none, header_in-append, IsRecord-front, IsRecord-take}
-use Rattle.cap_io.proofs.Common.{◌==◌, nat_le, u32_in, Little, Big, all_met, is_section, section_type, IsBlock, Section, block_size}
-use Rattle.cap_io.proofs.Common.{packets_in, unit_fault, Declared, Nothing, PcapFile, PcapngFile, IsUnit, a_pcap_header, a_pcap_record, a_first_block, a_block}
-use Rattle.cap_io.proofs.Common.{file_after, is_pcapng, placed_at, AreUnits, no_unit, unit_then, Whole, front_of, subst, append_assoc, FitUnits, no_unit_fits}
-use Rattle.cap_io.proofs.Common.{unit_fits, held_length}
+use Rattle.cap_io.proofs.Common.{rules, ◌≡◌, ℕ, Bool, true, false, ◌&&◌, cond, is_some, ◌⊎◌, inl, inr, ◌<◌, ◌≤◌, List, [], ◌∷◌, ◌++◌, length, take, drop}
+use Rattle.cap_io.proofs.Common.{Option, None, Some, refl, sym, ◌∙◌, ap, arith, append-nil, length-append, length-take-le, take-append-drop, take_at, Captured}
+use Rattle.cap_io.proofs.Common.{Fault, Head, Resolution, Microseconds, Nanoseconds, form_in, header_checks, header_fault, header_in, magic, IsHeader}
+use Rattle.cap_io.proofs.Common.{record_fault, record_size, record_packet, IsRecord, header_fault-append, header_fault-none, header_in-append, IsRecord-front}
+use Rattle.cap_io.proofs.Common.{IsRecord-take, ◌==◌, nat_le, u32_in, Little, Big, all_met, section_type, IsBlock, Section, block_size, packets_in, unit_fault}
+use Rattle.cap_io.proofs.Common.{Declared, Nothing, PcapFile, PcapngFile, IsUnit, a_pcap_header, a_pcap_record, a_first_block, a_block, file_after, is_pcapng}
+use Rattle.cap_io.proofs.Common.{placed_at, AreUnits, no_unit, unit_then, Whole, front_of, subst, append_assoc, FitUnits, no_unit_fits, unit_fits, held_length}
 use Rattle.cap_io.proofs.Fronts.{block_unless, front_of_file, header_unless, record_unless, front_of-header, front_of-record, front_of-pcapng}
 use Rattle.cap_io.proofs.Fronts.{front_of-following, front_of_block-whole}
 use Rattle.std.proofs.Common.{eqb-true}
@@ -35,8 +33,7 @@ and_second false b e = absurd (cc)
 
 pub header-other : (text : List ℕ) → is_pcapng text ≡ true → header_fault text ≡ None → ⊥
 header-other text is none =
-    let little : u32_in Little text 0 ≡ section_type = eqb-true (u32_in Little text 0) section_type
-    (and_second (nat_le 4 (length text)) (is_section text) is) in
+    let little : u32_in Little text 0 ≡ section_type = grind (arith, eqb-true, and_second) in
     let some : is_some (form_in text) ≡ true = and_second (nat_le 4 (length text)) (is_some (form_in text)) (all_met (header_checks text) none).0 in
     let form = some_form (u32_in Big text 0 == magic Microseconds) (u32_in Big text 0 == magic Nanoseconds) (Big, Microseconds) (Big, Nanoseconds)
     (rw little at some) in
@@ -70,8 +67,7 @@ pub block-front : (first : Option ℕ) (before : Option Section) (bytes more : L
     (file_after first before bytes)
 block-front first before bytes more is =
     let p = block.IsBlock-front before bytes more is in
-    front_of_block-whole first before (bytes ++ more) p.0
-    ∙ rw (p.1, take_at bytes more (length bytes) refl) refl
+    grind (arith, front_of_block-whole, take_at)
 
 block-sized : (before : Option Section) (bytes : List ℕ) → IsBlock before bytes → 12 ≤ length bytes
 block-sized before bytes is = (block.passes before bytes is.passes).enough
@@ -103,7 +99,7 @@ header-is text size packets after None none e =
     let enough : 24 ≤ length text = header_fault-none text none in
     let joined : take 24 text ++ drop 24 text ≡ text = take-append-drop 24 text in
     let long : length (take 24 text) ≡ 24 = length-take-le 24 text enough in
-    let passes : header_fault (take 24 text) ≡ None = sym (header_fault-append (take 24 text) (drop 24 text) (omega arith)) ∙ ap header_fault joined ∙ none in
+    let passes : header_fault (take 24 text) ≡ None = grind (arith, header_fault-append) in
     let says : header_in text ≡ header_in (take 24 text) = ap header_in (sym joined) ∙ header_in-append (take 24 text) (drop 24 text) (omega arith) in
     let is : IsFront Nothing text 24 [] (PcapFile (header_in text)) =
     record {

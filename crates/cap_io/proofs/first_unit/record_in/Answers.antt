@@ -15,7 +15,4 @@ pub returns-then-bytes-spans-clause-err : goal.returns-then-bytes-spans-clause-e
 returns-then-bytes-spans-clause-err c = grind (arith, record-cut)
 
 pub returns-clause-ok : goal.returns-clause-ok
-returns-clause-ok c =
-    let first = c.in-Some.ensures.cases in
-    rw c.record_spans-spans.ensures (λ interfaces. record-begins c.args.head.now interfaces c.args.bytes.now c.in-Some.front.now c.in-Ok.record first.same
-    c.in-Ok.ensures.answer (rw c.record_spans-spans.ensures at c.if-bytes-spans.false) c.in-Ok.ensures.in_range c.in-Ok.ensures.short)
+returns-clause-ok c = search (arith, record-begins)

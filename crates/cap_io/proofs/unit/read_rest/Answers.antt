@@ -1,5 +1,5 @@
 -- The bytes that are read follow those at hand, which don't change.
-use Rattle.std.proofs.Common.{rules, ◌≡◌, ◌-◌, ◌≤◌, ℕ, List, ◌++◌, length, take, drop, ap, arith, length-append, length-drop, take-append-drop}
+use Rattle.std.proofs.Common.{rules, ◌≡◌, ◌-◌, ◌≤◌, ℕ, List, ◌++◌, length, take, drop, arith, length-append, length-drop, take-append-drop}
 use Rattle.std.proofs.lemmas.List.{append-nil, drop_all, drop_at, length-take-le, take-append-le}
 use Rattle.std.proofs.lemmas.Slice.{overwrites, take-put_mid}
 use Rattle.cap_octet.specs.Device.{Takes}
@@ -17,22 +17,4 @@ pub returns-clause-same : goal.returns-clause-same
 returns-clause-same g c = search (rules, overwrites)
 
 pub returns-clause-ok : goal.returns-clause-ok
-returns-clause-ok g c = λ t.
-    let front = c.args.front.now in
-    let unit : List ℕ = take c.args.size c.args.buffer.now in
-    let whole : List ℕ = c.copy_from_slice.new.self ++ drop (length front) unit in
-    let size : length whole ≡ c.args.size =
-    omega (
-      arith,
-      length-append c.copy_from_slice.new.self (drop (length front) unit),
-      length-drop (length front) unit,
-      length-take-le c.args.size
-          c.args.buffer.now c.requires.room,
-      ap length c.copy_from_slice.ensures.after,
-      c.requires.whole,
-    ) in
-    let part : length whole - length front ≡ c.args.size - length front = ap (λ n. n - length front) size in
-    let taken = (c.in-Ok.ensures.exact t).taken in
-    let there = length-take-le (length whole - length front) (drop (length front) whole) (omega (arith, length-drop (length front) whole)) in
-    filled _ _ whole c.read_full.new.buf _ (length front) (length whole - length front) c.args.size c.in-Ok.count c.requires.whole size part
-    c.if-count-room.false taken (omega (arith, there, c.in-Ok.ensures.within))
+returns-clause-ok g c = search (rules, length-append, length-drop, length-take-le, filled)

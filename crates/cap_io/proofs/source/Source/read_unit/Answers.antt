@@ -1,6 +1,6 @@
 -- Reading a unit takes it from those that the file has left.
-use Rattle.cap_io.proofs.Common.{◌+◌, ◌∙◌, Err, arith, length, length-take-le, refl, ap, ap₂, err_from_is_err_and, length-take, declared_by, SourceView}
-use Rattle.cap_io.proofs.Common.{block_at, packet_at, unit_at, view_of}
+use Rattle.cap_io.proofs.Common.{◌+◌, ◌∙◌, Err, arith, length, length-take-le, refl, ap, err_from_is_err_and, length-take, SourceView}
+use Rattle.cap_io.proofs.Common.{block_at, unit_at, view_of}
 use Rattle.cap_io.proofs.Hands.{packet-there}
 use Rattle.cap_io.proofs.Passing.{FindsEnd-next, FindsPacket-next, IsBroken-next, SkipsUnits-next, bounds-next, no-unit-end, stage_between}
 use Rattle.cap_io.specs.declared.source.Stage.{Stage}
@@ -16,13 +16,12 @@ returns-in_err-unit-clause-packets g c =
     (ap (λ (v : SourceView). v.block) c.self.view_is ∙ c.requires.between.block) c.self.invariant.lies in
     rw (p.1, p.2) (λ t. IsBroken-next c.args.self.now new c.in_err-unit.field-0.0 c.requires.between
     (rw (declared, ap (λ (v : SourceView). v.unread) c.self.view_is) at (c.in_err-unit.ensures.err t))
-    (ap₂ declared_by c.in_err-unit.ensures.kept.0 c.in_err-unit.ensures.kept.1 ∙ declared) (ap (λ (v : SourceView). v.offset) c.self.view_is)
+    (grind arith) (ap (λ (v : SourceView). v.offset) c.self.view_is)
     (omega (arith, c.in_err-unit.ensures.grown, ap (λ (v : SourceView). v.room) c.self.view_is))
     (λ e. rw (declared, ap (λ (v : SourceView). v.unread) c.self.view_is) at (c.in_err-unit.ensures.memory (ap Err e) t))
     (c.in_err-unit.ensures.moves.told t ∙ ap (λ (v : SourceView). v.given + length v.unread) c.self.view_is)
-    (ap (λ s. block_at s c.next_unit.new.self.spans (unit_at g.I.Input s c.next_unit.new.self)) between)
-    (ap (λ s. packet_at s c.next_unit.new.self.spans (declared_by c.next_unit.new.self.file c.next_unit.new.self.table)
-    (unit_at g.I.Input s c.next_unit.new.self)) between))
+    (grind (arith, block_at))
+    (grind arith))
 
 pub returns-in-Packet-clause-packets : goal.returns-in-Packet-clause-packets
 returns-in-Packet-clause-packets g c = λ t.
