@@ -128,8 +128,7 @@ pub header_refused : (exact : Bool) (unread unread2 bytes : List ℕ) (answer : 
     → length bytes ≡ 24 → is_section bytes ≡ false
     → answer ≡ checked (header_fault bytes) (header_in bytes)
     → IfErr answer (λ fault. IsTrue exact → NoUnitCame Nothing unread unread2 fault)
-header_refused exact unread unread2 bytes (Ok head) splits size other is = tt
-header_refused exact unread unread2 bytes (Err fault) splits size other is = λ t. header_wrong unread unread2 bytes fault (splits t) size other is
+header_refused exact unread unread2 bytes answer splits size other is = grind (arith, header_wrong)
 
 -- ---- a record
 
@@ -166,8 +165,7 @@ fields-has_memory head front answer fault is err = grind (arith, own-not_memory,
 -- nor does one of a file header
 pub header-has_memory : (bytes : List ℕ) (answer : Result Head Fault) → answer ≡ checked (header_fault bytes) (header_in bytes)
     → IfErr answer (λ fault. fault ≡ NoMemory → ⊥)
-header-has_memory bytes (Ok head) is = tt
-header-has_memory bytes (Err fault) is = grind (arith, own-not_memory, own-header, checked_err)
+header-has_memory bytes answer is = grind (arith, own-not_memory, own-header, checked_err)
 
 -- a record whose header fails no check needs memory if the buffer has less room
 pub record-takes : (head : Head) (unread unread1 front : List ℕ) (found : RecordHead) (size room : ℕ) → size ≡ 16 + found.captured → unread ≡ front
@@ -257,5 +255,4 @@ record_came head unread unread1 unread2 front unit buffer found size splits uppe
     }
 
 pub none_if_not : {X : Type 0} (o : Option X) → is_some o ≡ false → o ≡ None
-none_if_not None e = refl
-none_if_not (Some x) e = (cc)
+none_if_not o e = grind arith

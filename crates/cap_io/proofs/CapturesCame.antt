@@ -3,7 +3,7 @@ use Rattle.cap_io.proofs.BlocksCame.{BlockCame, BlockMissing, Describes}
 use Rattle.cap_io.proofs.Came.{Taken-following, most_taken-file}
 use Rattle.cap_io.proofs.Common.{◌≡◌, ℕ, ◌+◌, ◌<◌, ◌≤◌, ◌^◌, IsTrue, Result, Ok, Err, inl, inr, true, List, [], ◌∷◌, ◌++◌, length, take, Option, rules, Some}
 use Rattle.cap_io.proofs.Common.{None, is_some, refl, sym, ap, ◌∙◌, subst, arith, unwrap_or, option_to_list, length-append, length-take-le, Captured, Fault}
-use Rattle.cap_io.proofs.Common.{Truncated, Order, Head, Parts, SectionParts, EnhancedParts, SimpleParts, frame_in, is_section, order_in, Described, FitSection}
+use Rattle.cap_io.proofs.Common.{Truncated, Order, Head, Parts, SectionParts, frame_in, is_section, order_in, Described, FitSection}
 use Rattle.cap_io.proofs.Common.{IsBlock, Section, interfaces_before, order_before, packet_by, packets_in, parts_after, section_after, section_by, unit_fault}
 use Rattle.cap_io.proofs.Common.{passes, unit_fault-few, Frame, PacketSpans, FileState, Enters, KnowsIfAny, held_packet, section_of, Declared, Nothing}
 use Rattle.cap_io.proofs.Common.{PcapFile, PcapngFile, Front, IsUnit, a_pcap_header, a_first_block, a_block, file_after, first_link_after, front_of, is_pcapng}
@@ -62,15 +62,11 @@ section-parts before block is = search rules
 -- a block needs memory if it is longer than the buffer, or describes an interface
 pub block-takes : (file : FileState) (interfaces : List Described) (front unread : List ℕ) (room : ℕ) → 12 ≤ length front → BeginsBlock file front
     → room < unwrap_or (block_length (section_before file interfaces) (front ++ unread)) 0 → TakesMemory room (declared_by file interfaces) (front ++ unread)
-block-takes state.Unknown interfaces front unread room enough begins less = grind (arith, is_pcapng-append)
-block-takes (state.Pcap head) interfaces front unread room enough begins less = absurd begins
-block-takes (state.Pcapng order first) interfaces front unread room enough begins less = inl less
+block-takes file interfaces front unread room enough begins less = grind (arith, is_pcapng-append)
 
 pub interface-takes : (file : FileState) (interfaces : List Described) (front unread : List ℕ) (room : ℕ) → 12 ≤ length front → BeginsBlock file front
     → Describes (section_before file interfaces) (front ++ unread) → TakesMemory room (declared_by file interfaces) (front ++ unread)
-interface-takes state.Unknown interfaces front unread room enough begins d = search rules
-interface-takes (state.Pcap head) interfaces front unread room enough begins d = absurd begins
-interface-takes (state.Pcapng order first) interfaces front unread room enough begins d = inr (d.passes, d.is)
+interface-takes file interfaces front unread room enough begins d = grind arith
 
 -- the front of the first block didn't come
 pub rest_of_front : (first unread unread' : List ℕ) (fault : Fault) (size : ℕ) → size ≡ 12 → length first ≡ 4 → is_section first ≡ true
@@ -131,9 +127,7 @@ first-packets block is = search rules
 kept_by : (section : Section) (order : Order) (parts : Parts) (packet : Captured) → order ≡ section.order
     → option_to_list (packet_by section.interfaces parts) ≡ packet ∷ []
     → section_by (Some section) order parts ≡ section
-kept_by section order (EnhancedParts number ticks captured orig own rest) packet same is = grind arith
-kept_by section order (SimpleParts orig rest) packet same is = grind arith
-kept_by section order _ packet same is = (cc)
+kept_by section order parts packet same is = grind arith
 
 pub section-kept : (section : Section) (block : List ℕ) (packet : Captured) → packets_in (Some section) block ≡ packet ∷ []
     → section_after (Some section) block ≡ section
@@ -233,9 +227,7 @@ pub has-section : (file : FileState) (front block : List ℕ) (frame : Frame) (i
     → BeginsBlock file front
     → frame_in (known_order file) front ≡ frame → Enters frame interfaces block (Some spans) interfaces' → KnowsIfAny interfaces' (Some spans)
     → HasInterface (declared_by file interfaces') spans
-has-section state.Unknown front block frame interfaces interfaces' spans begins is enters knows = search rules
-has-section (state.Pcap head) front block frame interfaces interfaces' spans begins is enters knows = absurd begins
-has-section (state.Pcapng order first) front block frame interfaces interfaces' spans begins is enters knows = knows
+has-section file front block frame interfaces interfaces' spans begins is enters knows = grind arith
 
 none-fit : FitSection []
 none-fit = grind arith
@@ -243,9 +235,7 @@ none-fit = grind arith
 -- the interfaces of a section that a block follows are no more than may be
 pub section-fits : (file : FileState) (interfaces : List Described) (front : List ℕ) → BeginsBlock file front → IsConsistent file interfaces
     → FitSection interfaces
-section-fits state.Unknown interfaces front begins none = rw none none-fit
-section-fits (state.Pcap head) interfaces front begins known = absurd begins
-section-fits (state.Pcapng order first) interfaces front begins known = known.1
+section-fits file interfaces front begins none = grind (arith, none-fit)
 
 -- the bytes that a device gave stay few after a block, though it be no longer than its front
 pub small-following : (before following front size : ℕ) → front ≡ 12 → following + front ≡ before + size → 12 ≤ size
@@ -253,15 +243,11 @@ pub small-following : (before following front size : ℕ) → front ≡ 12 → f
 small-following before following front size twelve counted least longer small = grind arith
 
 pub order-held : (file : FileState) (interfaces : List Described) → order_before (section_before file interfaces) ≡ known_order file
-order-held state.Unknown interfaces = refl
-order-held (state.Pcap head) interfaces = refl
-order-held (state.Pcapng order first) interfaces = refl
+order-held file interfaces = grind arith
 
 pub interfaces-held : (file : FileState) (interfaces : List Described) (front : List ℕ) → BeginsBlock file front → IsConsistent file interfaces
     → interfaces_before (section_before file interfaces) ≡ interfaces
-interfaces-held state.Unknown interfaces front begins exact = sym exact
-interfaces-held (state.Pcap head) interfaces front begins exact = absurd begins
-interfaces-held (state.Pcapng order first) interfaces front begins exact = refl
+interfaces-held file interfaces front begins exact = grind arith
 
 -- ---- a block of a file that has begun
 

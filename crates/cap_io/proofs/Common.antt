@@ -6,7 +6,7 @@ pub use Rattle.std.proofs.Common.{◌==◌, rules}
 pub use Rattle.std.proofs.lemmas.Bool.{ltb-true, le-leb, lt-leb}
 pub use Rattle.std.proofs.lemmas.Grind.{common_steps}
 pub use Rattle.std.proofs.lemmas.List.{append_assoc, append-nil, map-append, length-append, length-take-le, drop_at, drop-drop, take-append-drop, take_all}
-pub use Rattle.std.proofs.lemmas.List.{length-drop, take_at, take-take, take-append-le, drop-take, length-take, length-map, Elements.All-nil}
+pub use Rattle.std.proofs.lemmas.List.{length-drop, take_at, take-take, take-append-le, drop-take, length-take, length-map}
 pub use Rattle.std.proofs.lemmas.List.{Elements.All-append, Sums.fold-append}
 pub use Rattle.std.proofs.lemmas.{Option.slice_get-map, Option.slice_get_within, Result.err_from_is_err_and}
 pub use Rattle.std.specs.List.{AllByRecursion, slice_get, fold, list_any, position_or_len, flat_map, All}
@@ -28,7 +28,7 @@ pub use Rattle.cap_io.specs.Text.{most_output_interfaces, file_start_in, appende
 pub use Rattle.cap_io.specs.Text.{has_room, packets_text, refusal_of, state_after_packet, takes_memory, text}
 pub use Rattle.cap_io.specs.declared.file_state.FileState.{FileState}
 pub use Rattle.cap_io.specs.declared.{numbering.InterfaceNumber.InterfaceNumber, sink.SinkState.SinkState}
-pub use Rattle.cap_io.specs.declared.sink.SinkState.TheVariants.{Empty, Started, Broken}
+pub use Rattle.cap_io.specs.declared.sink.SinkState.TheVariants.{Broken}
 pub use Rattle.cap_io.specs.inside.Numbering.{HasNumber, IsFirst}
 pub use Rattle.cap_io.specs.inside.Reading.{RestMissing, NoUnitCame, HeaderCame, PacketCame, BeginsBlock, FrontMissing, HasInterface, IsConsistent, ReadsUnit}
 pub use Rattle.cap_io.specs.inside.Reading.{UnitPassed, known_first_link, known_order, section_before, unit_size, record_spans, EndCame, BeginsWithPacket}

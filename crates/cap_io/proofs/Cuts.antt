@@ -17,10 +17,7 @@ enough-at : (m n : ℕ) (f : Front) (b : Declared) (at : ℕ) (text : List ℕ) 
     → ((size : ℕ) (ps : List Captured) (d : Declared) → f ≡ Whole size ps d → (0 < size) × (0 < length text))
     → ((d : Declared) (at' : ℕ) (xs : List ℕ) → length xs < m → length xs < n → items_within m d at' xs ≡ items_within n d at' xs)
     → items_with f b at (λ size d. items_within m d (at + size) (drop size text)) ≡ items_with f b at (λ size d. items_within n d (at + size) (drop size text))
-enough-at m n (NoUnit why) b at text l r sized same = refl
-enough-at m n (Whole size ps d) b at text l r sized same =
-    let p = sized size ps d refl in
-    grind (arith, placed_at, length-drop)
+enough-at m n f b at text l r sized same = grind (arith, placed_at, length-drop)
 
 enough : (m n : ℕ) (b : Declared) (at : ℕ) (text : List ℕ) → length text < m → length text < n → items_within m b at text ≡ items_within n b at text
 unfolding items_within

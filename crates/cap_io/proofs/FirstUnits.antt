@@ -8,7 +8,7 @@ use Rattle.cap_io.proofs.Common.{field_checks-append, record_header_in, record_h
 use Rattle.cap_io.proofs.Common.{captured_len, most_captured, most_in_unit, is_section, frame_checks-append, frame_in-append, frame_fault, frame_in}
 use Rattle.cap_io.proofs.Common.{most_interfaces, Described, Section, block_size, interfaces_before, order_before, packets_in, parts_after, parts_in}
 use Rattle.cap_io.proofs.Common.{parts_in-append, unit_fault, unit_fault-frame, unit_fault-short, Frame, PacketSpans, IsBlockFault, section_of, FileState}
-use Rattle.cap_io.proofs.Common.{Declared, Nothing, PcapFile, PcapngFile, Whole, NoUnit, IsUnit, a_pcap_header, a_pcap_record, a_first_block, a_block}
+use Rattle.cap_io.proofs.Common.{Declared, Nothing, PcapFile, PcapngFile, Whole, NoUnit, IsUnit}
 use Rattle.cap_io.proofs.Common.{file_after, first_link_after, front_of, is_pcapng, declared_by, packet_in_unit, known_first_link, known_order, section_before}
 use Rattle.cap_io.proofs.Common.{HasInterface, IsConsistent, BeginsWithPacket, PacketCame, append_assoc, record_spans}
 use Rattle.cap_io.proofs.Fronts.{block_unless, front_of-following, front_of-pcapng, front_of-no_record, front_of_block-none, is_pcapng-append}
@@ -156,9 +156,7 @@ block-none file interfaces text fault begins some fails = grind (arith, front_at
 
 interfaces-at : (file : FileState) (interfaces : List Described) (text : List ℕ) → BeginsAt file text → (file ≡ state.Unknown → interfaces ≡ [])
     → interfaces_before (section_before file interfaces) ≡ interfaces
-interfaces-at state.Unknown interfaces text begins bare = sym (bare refl)
-interfaces-at (state.Pcap head) interfaces text begins bare = absurd begins
-interfaces-at (state.Pcapng order first) interfaces text begins bare = refl
+interfaces-at file interfaces text begins bare = grind arith
 
 -- the whole block at the start of the bytes
 whole : (section : Option Order) (text front : List ℕ) (frame : Frame) → 12 ≤ length text → front ≡ take 12 text
@@ -202,10 +200,7 @@ packets-at file interfaces text rest order size link does.Nothing begins b fits 
 
 fits-after : (frame : Frame) (interfaces : List Described) (block : List ℕ) (effect : BlockEffect) → HasEffect frame interfaces block effect
     → length interfaces ≤ most_interfaces → length (interfaces_after effect interfaces) ≤ most_interfaces
-fits-after frame interfaces block does.Section has few = omega arith
-fits-after frame interfaces block (does.Interface i) has few = grind (arith, parts_in, length-append)
-fits-after frame interfaces block (does.Packet spans) has few = few
-fits-after frame interfaces block does.Nothing has few = few
+fits-after frame interfaces block effect has few = grind (arith, parts_in, length-append)
 
 pub block-begins : (file : FileState) (interfaces : List Described) (text front : List ℕ) (frame : Frame) (effect : BlockEffect) (link : Option ℕ)
     → BeginsAt file text → (file ≡ state.Unknown → interfaces ≡ []) → 12 ≤ length text → front ≡ take 12 text
@@ -246,9 +241,7 @@ block-begins file interfaces text front frame effect link begins bare enough sam
 -- its interface is declared
 pub has-interface : (declared : Declared) (spans : PacketSpans) (block : List ℕ) (packet : Captured) → packet_in_unit declared spans block ≡ Some packet
     → HasInterface declared spans
-has-interface Nothing spans block packet is = absurd (cc)
-has-interface (PcapFile head) spans block packet is = tt
-has-interface (PcapngFile first section) spans block packet is = grind arith
+has-interface declared spans block packet is = grind arith
 
 -- what is declared before it stays
 abbrev IsExact : Declared → Type 0
@@ -256,15 +249,10 @@ IsExact (PcapngFile first section) = first_link_after first section ≡ first
 IsExact declared = Unit {0}
 
 exact : (file : FileState) (interfaces : List Described) → IsConsistent file interfaces → IsExact (declared_by file interfaces)
-exact state.Unknown interfaces consistent = tt
-exact (state.Pcap head) interfaces consistent = tt
-exact (state.Pcapng order first) interfaces consistent = consistent.0
+exact file interfaces consistent = grind arith
 
 kept : {b : Declared} {u : List ℕ} {qs : List Captured} {c : Declared} (packet : Captured) → IsUnit b u qs c → qs ≡ packet ∷ [] → IsExact b → c ≡ b
-kept packet (a_pcap_header bytes head is) one fixed = absurd (cc)
-kept packet (a_pcap_record head bytes is) one fixed = refl
-kept packet (a_first_block bytes is) one fixed = grind (arith, first-packets)
-kept packet (a_block first section bytes is) one fixed = grind (arith, section-kept)
+kept packet h one fixed = grind (arith, first-packets, section-kept)
 
 -- the place of its packet
 pub packet-first : (file after : FileState) (interfaces : List Described) (bytes : List ℕ) (size : ℕ) (spans : PacketSpans)

@@ -1,5 +1,5 @@
 -- The first unit of some bytes depends only on their prefix.
-use Rattle.cap_io.proofs.Common.{rules, ◌≡◌, ℕ, ◌<◌, ◌≤◌, Bool, List, [], ◌∷◌, ◌++◌, length, take, Option, Some, None, true, false, refl, ap, arith, le-leb}
+use Rattle.cap_io.proofs.Common.{rules, ◌≡◌, ℕ, ◌<◌, ◌≤◌, Bool, List, [], ◌∷◌, ◌++◌, length, take, Option, Some, None, true, false, ap, arith, le-leb}
 use Rattle.cap_io.proofs.Common.{length-append, Fault, Head, first_failing, form_in, header_fault, header_in, record_size, record_fault, record_packet}
 use Rattle.cap_io.proofs.Common.{is_section, Section, block_size, packets_in, unit_fault, least_length, is_some, is_none, unwrap_or, if◌then◌else◌, Nothing}
 use Rattle.cap_io.proofs.Common.{PcapFile, PcapngFile, Front, Whole, NoUnit, file_after, front_of, front_of_block, is_pcapng, unit_unless, most_in_unit}
@@ -44,8 +44,7 @@ front_of-no_header text fault other fails = grind (arith, front_of-pcap)
 
 pub front_of-no_record : (head : Head) (text : List ℕ) (fault : Fault) → 0 < length text → record_fault head text ≡ Some fault
     → front_of (PcapFile head) text ≡ NoUnit (Some fault)
-front_of-no_record head [] fault some fails = absurd (omega arith)
-front_of-no_record head (b ∷ bytes) fault some fails = grind arith
+front_of-no_record head text fault some fails = grind arith
 
 -- ---- units
 
@@ -54,14 +53,12 @@ front_of-header text other none = grind (arith, front_of-pcap)
 
 pub front_of-record : (head : Head) (text : List ℕ) → record_fault head text ≡ None
     → front_of (PcapFile head) text ≡ Whole (record_size head text) (record_packet head (take (record_size head text) text) ∷ []) (PcapFile head)
-front_of-record head [] none = grind arith
-front_of-record head (b ∷ bytes) none = grind arith
+front_of-record head text none = grind arith
 
 -- what follows a section, where anything does
 pub front_of-following : (first : Option ℕ) (section : Section) (text : List ℕ) → 0 < length text
     → front_of (PcapngFile first section) text ≡ block_unless (unit_fault (Some section) text) first (Some section) text
-front_of-following first section [] some = absurd (omega arith)
-front_of-following first section (b ∷ bytes) some = refl
+front_of-following first section text some = grind arith
 
 -- a block
 pub front_of_block-whole : (first : Option ℕ) (before : Option Section) (text : List ℕ) → unit_fault before text ≡ None
@@ -80,8 +77,7 @@ most_taken-header text count other upper_bound = search rules
 
 pub most_taken-record : (head : Head) (text : List ℕ) (count : ℕ) → count ≤ record_size head text → count ≤ most_in_unit
     → count ≤ most_taken (front_of (PcapFile head) text)
-most_taken-record head [] count within upper_bound = upper_bound
-most_taken-record head (b ∷ bytes) count within upper_bound = grind arith
+most_taken-record head text count within upper_bound = grind arith
 
 -- the fields before a record's data
 pub most_taken-front : (head : Head) (text : List ℕ) (count : ℕ) → count ≤ 16 → count ≤ most_taken (front_of (PcapFile head) text)

@@ -1,5 +1,5 @@
 -- A record that the device has at hand is the next unit.
-use Rattle.cap_io.proofs.Common.{rules, ◌≡◌, ℕ, Bool, true, IsTrue, is_some, ◌+◌, ◌^◌, ◌<◌, ◌≤◌, List, ◌++◌, length, take, drop, refl, ap, ◌∙◌, arith}
+use Rattle.cap_io.proofs.Common.{rules, ◌≡◌, ℕ, Bool, true, IsTrue, is_some, ◌+◌, ◌^◌, ◌<◌, ◌≤◌, List, ◌++◌, length, take, drop, ap, ◌∙◌, arith}
 use Rattle.cap_io.proofs.Common.{length-take, length-take-le, take-take, take-append-drop, HasGiven, PacketSpans, most_in_unit, packet_in_unit, PacketCame}
 use Rattle.cap_io.proofs.Common.{Declared, SourceView, Reading, HasInterface, end_offset, BeginsWithPacket, UnitLent, TakesIfAtHand, TakesNext, false}
 use Rattle.cap_io.proofs.Passing.{FindsPacket-next, time-held}
@@ -53,5 +53,4 @@ unit-lent device declared room hand packet spans old new begins same comes place
 -- what `take_at_hand` returns
 pub if-at-hand : (tells : Bool) (old new : SourceView) (r : Bool) → old.phase ≡ Reading → (IsTrue r → TakesNext tells old new)
     → (r ≡ false → new ≡ old) → TakesIfAtHand tells old r new
-if-at-hand tells old new true reading found nothing = search rules
-if-at-hand tells old new false reading found nothing = nothing refl
+if-at-hand tells old new r reading found nothing = grind arith

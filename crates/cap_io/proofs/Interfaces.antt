@@ -2,7 +2,7 @@
 use Rattle.cap_io.proofs.Common.{rules, ◌≡◌, ◌≤◌, ◌||◌, ◌+◌, suc, Bool, true, false, not, cond, if◌then◌else◌, Some, number_among, is_among, refl, ap, List, []}
 use Rattle.cap_io.proofs.Common.{◌∷◌, ◌++◌, length, sym, arith, fold, fold-append, Captured, Format, Pcapng, Interface, interface_of, is_same, new_among}
 use Rattle.cap_io.proofs.Common.{interfaces_after_packet, kept_interfaces, ℕ, map, nat_le, ◌<◌, list_any, position_or_len, append-nil, map-append}
-use Rattle.cap_io.proofs.Common.{length-append, le-leb, lt-leb, most_output_interfaces, interface_in, zero, All-append, All-nil, All, HasNumber, IsFirst}
+use Rattle.cap_io.proofs.Common.{length-append, le-leb, lt-leb, most_output_interfaces, interface_in, zero, All-append, All, HasNumber, IsFirst}
 use Rattle.cap_io.proofs.Common.{FitFile, InterfaceNumber}
 use Rattle.std.proofs.{Common.length-append, Common.slice_get, Math.Bool.or-true}
 use Rattle.cap_io.specs.declared.numbering.InterfaceKey.{InterfaceKey}
@@ -50,8 +50,7 @@ number-keys (x ∷ keys) k = grind (arith, not, (number-keys keys k))
 
 push-key : (b : Bool) (keys : List InterfaceKey) (k : InterfaceKey) → map interface_in (if b then keys else keys ++ k ∷ []) ≡ map interface_in keys
     ++ (if b then [] else interface_in k ∷ [])
-push-key true keys k = sym (append-nil (map interface_in keys))
-push-key false keys k = map-append interface_in keys (k ∷ [])
+push-key b keys k = grind (arith, append-nil, map-append)
 
 pub insert-keys : (keys : List InterfaceKey) (k : InterfaceKey)
     → map interface_in (if list_any (same_key k) keys then keys else keys ++ k ∷ []) ≡ map interface_in keys ++ new_among (map interface_in keys)
@@ -61,8 +60,7 @@ insert-keys keys k = grind (arith, push-key, among-keys)
 -- ---- room
 
 fewer : (b : Bool) (n : ℕ) (keys : List Interface) (i : Interface) → length keys < n → length (keys ++ (if b then [] else i ∷ [])) ≤ n
-fewer true n keys i upper_bound = simp append-nil (omega arith)
-fewer false n keys i upper_bound = simp length-append (omega arith)
+fewer b n keys i upper_bound = grind (arith, append-nil, length-append)
 
 -- one more may be had where there are fewer
 pub room-below : (keys : List Interface) (i : Interface) → length keys < most_output_interfaces → nat_le (length (keys ++ new_among keys i))
@@ -70,8 +68,7 @@ pub room-below : (keys : List Interface) (i : Interface) → length keys < most_
 room-below keys i upper_bound = grind (arith, le-leb, fewer)
 
 full-by : (b : Bool) (n : ℕ) (keys : List Interface) (i : Interface) → length keys ≡ n → nat_le (length (keys ++ (if b then [] else i ∷ []))) n ≡ b
-full-by true n keys i full = grind (arith, le-leb, append-nil)
-full-by false n keys i full = grind (arith, lt-leb, length-append)
+full-by b n keys i full = grind (arith, le-leb, append-nil, lt-leb, length-append)
 
 -- if there are as many interfaces as may be, there is room only for one of them
 pub room-full : (keys : List Interface) (i : Interface) → length keys ≡ most_output_interfaces → nat_le (length (keys ++ new_among keys i))
@@ -88,8 +85,7 @@ same-self i = search rules
 
 number-by : (b : Bool) (i : Interface) (xs : List Interface) → number_among (xs ++ new_among xs i) i ≡ number_among xs i
     → cond (not b) (1 + number_among (xs ++ (if b || is_among xs i then [] else i ∷ [])) i) 0 ≡ cond (not b) (1 + number_among xs i) 0
-number-by true i xs stays = refl
-number-by false i xs stays = ap (λ (n : ℕ). 1 + n) stays
+number-by b i xs stays = grind arith
 
 number-stays : (old : List Interface) (i : Interface) → number_among (old ++ new_among old i) i ≡ number_among old i
 number-stays [] i = grind (arith, not, same-self)
@@ -105,8 +101,7 @@ IsShort i = length i.name ≤ 255
 
 new-short : (b : Bool) (i : Interface) → length i.name ≤ 255 → All IsShort (if b then [] else i ∷ [])
 unfolding IsShort
-new-short true i short = All-nil IsShort
-new-short false i short = grind (arith, IsShort)
+new-short b i short = grind (arith, IsShort)
 
 pub few-following : (old new : List Interface) (i : Interface) (place : InterfaceNumber) → FitFile old → length (old ++ new_among old i) ≤
     most_output_interfaces → length i.name ≤ 255

@@ -1,5 +1,5 @@
 -- The order of a merge is sorted, has each packet once, and keeps the order of each input.
-use Rattle.cap_io.proofs.Common.{◌≡◌, inl, inr, ℕ, ◌+◌, ◌<◌, ◌≤◌, true, false, if◌then◌else◌, max, List, [], ◌∷◌, ◌++◌, refl, sym, ap, arith, nat_eq}
+use Rattle.cap_io.proofs.Common.{◌≡◌, ℕ, ◌+◌, ◌<◌, ◌≤◌, true, false, if◌then◌else◌, max, List, [], ◌∷◌, ◌++◌, refl, sym, ap, arith, nat_eq}
 use Rattle.cap_io.proofs.Common.{subst, IsPermutation, Placed, Ending}
 use Rattle.std.specs.List.{AllByRecursion}
 use Rattle.std.proofs.lemmas.List.Sorted.{IsPermutation-refl, IsPermutation-trans, IsPermutation-cons, IsPermutation-middle}
@@ -16,10 +16,7 @@ not-before : (x y : Entry) → comes_before x y ≡ false → IsNoLater y x
 not-before x y is = grind arith
 
 no-later-trans : (x y z : Entry) → IsNoLater x y → IsNoLater y z → IsNoLater x z
-no-later-trans x y z (inl a) (inl b) = inl (omega (arith, a, b))
-no-later-trans x y z (inl a) (inr b) = inl (let e = b.0 in omega (arith, a, e))
-no-later-trans x y z (inr a) (inl b) = inl (let e = a.0 in omega (arith, b, e))
-no-later-trans x y z (inr a) (inr b) = grind arith
+no-later-trans x y z h h1 = grind arith
 
 no-later-all : (e x : Entry) (xs : List Entry) → IsNoLater e x → IsNoLaterThan x xs → IsNoLaterThan e xs
 no-later-all e x [] first all = tt
@@ -170,8 +167,7 @@ comes (e ∷ es) = by_end (comes es) e.end refl
         }
 
 comes-unless : (c : SequenceEnd) (es : List Entry) → Come c es (unless_fault c (sequence_of_entries es))
-comes-unless Complete es = comes es
-comes-unless (FaultIn input fault offset) es = grind arith
+comes-unless c es = grind (arith, comes)
 
 pub merges-sort : MergesSort
 merges-sort rs =

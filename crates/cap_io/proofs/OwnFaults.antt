@@ -20,8 +20,7 @@ IsOwn fault = is_own fault ≡ true
 
 -- it counts no failure
 pub own-unfailed : (X : Type 0) (fault : Fault) → IsOwn fault → read_failures {X = X} (Err fault) ≡ 0
-own-unfailed X ReadFailed own = (cc)
-own-unfailed X fault own = refl
+own-unfailed X fault own = grind arith
 
 abbrev AreOwn : List (Bool × Fault) → Type 0
 AreOwn rows = AreAll IsOwn rows
@@ -36,9 +35,7 @@ own_among interfaces (SimpleParts orig rest) = (refl, (refl, tt))
 own_among interfaces SkippedParts = tt
 
 own_body : (kind : BlockType) (order : Order) (body : List ℕ) → AreOwn (body_checks kind order body)
-own_body BlockType.Section order body = (refl, (refl, tt))
-own_body BlockType.Other order body = tt
-own_body _ order body = (refl, tt)
+own_body kind order body = grind arith
 
 own-block : (frame : Frame) (block : List ℕ) (fault : Fault) → first_failing (block_checks frame block) ≡ Some fault → IsOwn fault
 own-block frame block fault fails = grind (arith, all_failing, own_body)
@@ -94,8 +91,7 @@ entry-not_failed frame interfaces block fault is failed = let own : read_failure
 -- ---- a fault of an interface that fails no check
 
 first_met : (met : Bool) (fault : Fault) (rows : List (Bool × Fault)) → first_failing ((met, fault) ∷ rows) ≡ None → met ≡ true
-first_met true fault rows none = refl
-first_met false fault rows none = (cc)
+first_met met fault rows none = grind arith
 
 pub one_more : (order : Order) (interfaces : List Described) (d : Described) (parts : Parts) → section_by (Some (section_of order interfaces)) order
     parts ≡ section_of order (interfaces ++ d ∷ [])

@@ -1,6 +1,6 @@
 -- What parts add that are written one after another, and what a sink adds with them.
-use Rattle.cap_io.proofs.Common.{rules, ◌≡◌, ◌⊎◌, ℕ, ◌+◌, ◌<◌, Bool, true, false, not, if◌then◌else◌, List, [], ◌∷◌, ◌++◌, length, take, Option, Some, None}
-use Rattle.cap_io.proofs.Common.{Result, is_ok, Ok, Err, refl, sym, ap, ◌∙◌, arith, flat_map, append_assoc, append-nil, take-append-le, checked, AppendsOrStops}
+use Rattle.cap_io.proofs.Common.{rules, ◌≡◌, ◌⊎◌, ℕ, ◌+◌, ◌<◌, Bool, not, if◌then◌else◌, List, [], ◌∷◌, ◌++◌, length, take, Option}
+use Rattle.cap_io.proofs.Common.{Result, is_ok, Ok, Err, sym, ap, ◌∙◌, arith, flat_map, append_assoc, append-nil, take-append-le, checked, AppendsOrStops}
 use Rattle.cap_io.proofs.Common.{Stops, Captured, Fault, WriteFailed, Format, Pcap, NsecPcap, Pcapng, InterfaceNumber, SinkState, HasNumber, WritesPacket}
 use Rattle.cap_io.proofs.Common.{file_start_in, appended_packet, Interface, interface_of, file_start, record_text, Appends, packet_block_text, description_text}
 use Rattle.std.proofs.{Common.length-append, Math.Seq.take-append-add}
@@ -40,10 +40,7 @@ appends-following (Err fault) written done part mid written' first stops = stops
 pub appends-exactly : {Device : Type 0} (d : Ghosts Device) (old new : Device) (bytes : List ℕ) (r : Result (Unit {0}) Stopped)
     (r' : Result (Unit {0}) DeviceFault)
     → is_ok r' ≡ is_ok r → WritesExactly d old bytes r new → Appends d old bytes r' new
-appends-exactly d old new bytes (Ok done) (Ok done') same writes = grind arith
-appends-exactly d old new bytes (Err stopped) (Err fault) same writes = grind arith
-appends-exactly d old new bytes (Ok done) (Err fault) same writes = absurd (cc)
-appends-exactly d old new bytes (Err stopped) (Ok done) same writes = absurd (cc)
+appends-exactly d old new bytes r r' same writes = grind arith
 
 pub appends-nothing : {Device : Type 0} (d : Ghosts Device) (old : Device) → Appends d old [] (Ok tt) old
 appends-nothing d old = grind (arith, append-nil)
@@ -59,25 +56,18 @@ appends-then d old mid new done part r first second = grind (arith, appends-foll
 -- ---- by format
 
 pub is-pcap : (format : Format) → (format ≡ Pcap) ⊎ (format ≡ NsecPcap) → IsPcap format
-is-pcap Pcap is = tt
-is-pcap NsecPcap is = tt
-is-pcap Pcapng is = grind arith
+is-pcap format is = grind arith
 
 pub pcap-file_header : (format : Format) (link : ℕ) → IsPcap format → pcap_header (resolution_of format) link ≡ file_start format link
-pcap-file_header Pcap link is = refl
-pcap-file_header NsecPcap link is = refl
-pcap-file_header Pcapng link is = absurd is
+pcap-file_header format link is = grind arith
 
 pub packet-record : (format : Format) (interfaces : List Interface) (p : Captured) → IsPcap format → record_text (resolution_of format) p ≡
     appended_packet format interfaces p
-packet-record Pcap interfaces p is = refl
-packet-record NsecPcap interfaces p is = refl
-packet-record Pcapng interfaces p is = absurd is
+packet-record format interfaces p is = grind arith
 
 described : (b : Bool) (p : Captured) → description_text (not b) p ≡ flat_map (λ (i : Interface). interface_text i.link i.snap i.name)
     (if b then [] else interface_of p ∷ [])
-described true p = refl
-described false p = grind (arith, append-nil)
+described b p = grind (arith, append-nil)
 
 -- ---- what a sink adds
 
@@ -99,5 +89,4 @@ block-adds r format state interfaces p place new written written' form has appen
 -- a packet that isn't refused, where the device failed
 pub adds-failed : (refusal : Option Fault) (bytes written written' : List ℕ) → Ok (tt {0}) ≡ checked refusal (tt {0}) → Stops written bytes written'
     → WritesPacket refusal bytes written (Err WriteFailed) written'
-adds-failed None bytes written written' allowed stops = stops
-adds-failed (Some fault) bytes written written' allowed stops = absurd (cc)
+adds-failed refusal bytes written written' allowed stops = grind arith

@@ -1,7 +1,7 @@
 -- Units from one place in a file to a later one, and the items after them.
 use Rattle.cap_io.proofs.Common.{◌≡◌, ℕ, ◌+◌, ◌-◌, ◌≤◌, ◌<◌, ◌^◌, Bool, false, Result, Ok, Err, HasGiven, most_in_unit, read_failures, List, [], ◌++◌, length}
 use Rattle.cap_io.proofs.Common.{take, Option, Some, None, is_some, true, refl, sym, ap, ◌∙◌, arith, slice_get, option_map, append_assoc, rules, drop-take}
-use Rattle.cap_io.proofs.Common.{take-take, length-append, length-take-le, Order, Head, Described, packet_of, Fault, NoMemory, PacketSpans, Declared, Nothing}
+use Rattle.cap_io.proofs.Common.{take-take, length-append, length-take-le, Order, Head, Described, packet_of, Fault, NoMemory, PacketSpans, Declared}
 use Rattle.cap_io.proofs.Common.{PcapFile, PcapngFile, AreUnits, no_unit, TakesMemory, held_length, no_unit_fits, packet_in_unit, EndCame, HasInterface}
 use Rattle.cap_io.proofs.Common.{PacketCame, NoUnitCame, UnitPassed, span_bytes, SourceView, Reading, Ended, Failed, SkipsUnits, IsBroken, FindsPacket}
 use Rattle.cap_io.proofs.Common.{FindsEnd, FindsFault, block_at, end_offset, phase_at, IsBetween, HoldsIfAny}
@@ -116,9 +116,7 @@ found_by (Err fault) = Err fault
 pub bounds-then : (first old new : SourceView) (read : Result NextUnit Fault) → first.given ≤ old.given → old.failures ≡ first.failures
     → old.sure ≡ first.sure → first.room ≤ old.room
     → old.given + end_offset first ≡ first.given + end_offset old → NextBounds old read new → KeepsBounds first (found_by read) new
-bounds-then first old new (Ok NextUnit.Packet) given failures sure room counted next = search rules
-bounds-then first old new (Ok unit) given failures sure room counted next = search rules
-bounds-then first old new (Err fault) given failures sure room counted next = search rules
+bounds-then first old new read given failures sure room counted next = grind arith
 
 -- what `read_unit` knows of the unit that it read
 abbrev IsRead : SourceView → Result NextUnit Fault → SourceView → Type 0
@@ -132,10 +130,7 @@ pub bounds-next : (old new : SourceView) (read : Result NextUnit Fault) → old.
     → new.sure ≡ old.sure → (0 < new.failures → HasGiven new.sure new.given)
     → length new.block ≤ new.room → new.room ≤ most_in_unit → old.room ≤ new.room
     → OnOk read (new.given + end_offset old ≡ old.given + end_offset new) → IsRead old read new → NextBounds old read new
-bounds-next old new (Ok NextUnit.Packet) given failures sure enough block held room counted is = search rules
-bounds-next old new (Ok (NextUnit.Other size)) given failures sure enough block held room counted is = search rules
-bounds-next old new (Ok NextUnit.End) given failures sure enough block held room counted is = search rules
-bounds-next old new (Err fault) given failures sure enough block held room counted is = search rules
+bounds-next old new read given failures sure enough block held room counted is = grind arith
 
 -- ---- from past the current unit
 
@@ -143,9 +138,7 @@ pub past-between : (old between : SourceView) → old.phase ≡ Reading → betw
 past-between old between reading is = grind arith
 
 pub past-continues : (old between new : SourceView) (r : Result Bool Fault) → between ≡ past_unit old → Continues between r new → Continues old r new
-past-continues old between new (Ok true) is c = search rules
-past-continues old between new (Ok false) is c = search rules
-past-continues old between new (Err fault) is c = search rules
+past-continues old between new r is c = grind arith
 
 pub past-bounds : (old between new : SourceView) (r : Result Bool Fault) → between ≡ past_unit old → KeepsBounds between r new → KeepsBounds old r new
 past-bounds old between new r is kept = search rules
@@ -172,9 +165,7 @@ pcapng-lent order first interfaces i spans bytes comment options block known sam
 
 pub time-held : (declared : Declared) (spans : PacketSpans) (block : List ℕ) → HasInterface declared spans → Some spans.time ≡ option_map
     (λ p. p.time) (packet_in_unit declared spans block)
-time-held Nothing spans block known = absurd known
-time-held (PcapFile head) spans block known = refl
-time-held (PcapngFile first section) spans block known = grind arith
+time-held declared spans block known = grind arith
 
 -- ---- nothing is in hand
 

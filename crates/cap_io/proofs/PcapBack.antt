@@ -22,17 +22,14 @@ IsWhole Microseconds time = time % 1000 ≡ 0
 IsWhole Nanoseconds time = Unit {0}
 
 part-fits : (r : Resolution) (time : ℕ) → time % 1000000000 / nanoseconds_of_part r < parts_of_second r
-part-fits Microseconds time = omega arith
-part-fits Nanoseconds time = omega arith
+part-fits r time = grind arith
 
 part-small : (r : Resolution) (time : ℕ) → time % 1000000000 / nanoseconds_of_part r < 256 ^ 4
-part-small Microseconds time = omega arith
-part-small Nanoseconds time = omega arith
+part-small r time = grind arith
 
 time-back : (r : Resolution) (time : ℕ) → IsWhole r time → time / 1000000000 * 1000000000 + time % 1000000000 / nanoseconds_of_part r *
     nanoseconds_of_part r ≡ time
-time-back Microseconds time whole = omega arith
-time-back Nanoseconds time whole = omega arith
+time-back r time whole = grind arith
 
 -- a packet that a form keeps
 record IsKept (r : Resolution) (link : ℕ) (p : Captured) : Type 0 where

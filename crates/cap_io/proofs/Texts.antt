@@ -1,11 +1,10 @@
 -- A sink has written the bytes of the packets that were put to it.
-use Rattle.cap_io.proofs.Common.{arith, rules, ◌≡◌, ◌⊎◌, ℕ, Bool, true, false, List, [], ◌∷◌, ◌++◌, Option, None, Some, Result, Ok, Err, refl, sym, ◌∙◌, ap}
-use Rattle.cap_io.proofs.Common.{append_assoc, append-nil, first_failing, AppendsOrStops, Captured, Fault, WriteFailed, NoMemory, LinkTypesDiffer, TooLong}
-use Rattle.cap_io.proofs.Common.{TimeOutOfRange, TooManyOutputInterfaces, Format, Pcap, NsecPcap, Pcapng, SinkState, Empty, Started, Broken, added_text}
-use Rattle.cap_io.proofs.Common.{appended_packet, file_start, has_room, kept_interfaces, packets_text, refusal_of, state_after, state_after_packet}
-use Rattle.cap_io.proofs.Common.{takes_memory, text, SinkView, sink_at, HasPut, HasPackets, AddsPacket, PutsNext, WritesPacket, PutsPacket, PutWrites}
-use Rattle.cap_io.proofs.Common.{IsPutAnswer, Finishes, FinishWrites, FinishesEmpty, link_or_ethernet, refusal_in, added_in, EachPutGoesByPackets}
-use Rattle.cap_io.proofs.Common.{PutExtendsText}
+use Rattle.cap_io.proofs.Common.{arith, rules, ◌≡◌, ◌⊎◌, ℕ, Bool, List, [], ◌∷◌, ◌++◌, Option, None, Some, Result, Ok, Err, refl, sym, ◌∙◌, ap, append_assoc}
+use Rattle.cap_io.proofs.Common.{append-nil, first_failing, AppendsOrStops, Captured, Fault, WriteFailed, NoMemory, LinkTypesDiffer, TooLong, TimeOutOfRange}
+use Rattle.cap_io.proofs.Common.{TooManyOutputInterfaces, Format, SinkState, Broken, added_text, appended_packet, file_start, has_room, kept_interfaces}
+use Rattle.cap_io.proofs.Common.{packets_text, refusal_of, state_after, state_after_packet, takes_memory, text, SinkView, sink_at, HasPut, HasPackets}
+use Rattle.cap_io.proofs.Common.{AddsPacket, PutsNext, WritesPacket, PutsPacket, PutWrites, IsPutAnswer, Finishes, FinishWrites, FinishesEmpty}
+use Rattle.cap_io.proofs.Common.{link_or_ethernet, refusal_in, added_in, EachPutGoesByPackets, PutExtendsText}
 use Rattle.cap_io.proofs.Interfaces.{kept-push}
 
 -- ---- faults that refuse no packet
@@ -53,20 +52,13 @@ text-start format p ps = grind (arith, bare-following)
 
 -- no packet is refused for a failure of the device or of memory
 record_by : (a b c : Bool) (fault : Fault) → IsFailure fault → first_failing ((a, LinkTypesDiffer) ∷ (b, TooLong) ∷ (c, TimeOutOfRange) ∷ []) ≡ Some fault → ⊥
-record_by true true true fault is e = (cc)
-record_by true true false fault is e = grind (arith, is-failure)
-record_by true false c fault is e = grind (arith, is-failure)
-record_by false b c fault is e = grind (arith, is-failure)
+record_by a b c fault is e = grind (arith, is-failure)
 
 block_by : (a b : Bool) (fault : Fault) → IsFailure fault → first_failing ((a, TooLong) ∷ (b, TooManyOutputInterfaces) ∷ []) ≡ Some fault → ⊥
-block_by true true fault is e = (cc)
-block_by true false fault is e = grind (arith, is-failure)
-block_by false b fault is e = grind (arith, is-failure)
+block_by a b fault is e = grind (arith, is-failure)
 
 pub refused-failure : (format : Format) (ps : List Captured) (p : Captured) (fault : Fault) → IsFailure fault → refusal_of format ps p ≡ Some fault → ⊥
-refused-failure Pcap ps p fault is e = grind (arith, record_by)
-refused-failure NsecPcap ps p fault is e = grind (arith, record_by)
-refused-failure Pcapng ps p fault is e = grind (arith, block_by, has_room)
+refused-failure format ps p fault is e = grind (arith, record_by, block_by, has_room)
 
 pub refused-write_failed : (format : Format) (ps : List Captured) (p : Captured) → refusal_of format ps p ≡ Some WriteFailed → ⊥
 refused-write_failed format ps p e = grind (arith, refused-failure)
@@ -83,8 +75,7 @@ HasPackets-none format written failures room = grind (arith, append-nil)
 -- ---- by what a sink keeps
 
 state-after : (ps : List Captured) (p : Captured) → state_after_packet (state_after ps) p ≡ state_after (ps ++ p ∷ [])
-state-after [] p = refl
-state-after (q ∷ qs) p = refl
+state-after ps p = grind arith
 
 -- what a sink keeps decides what all of these packets do
 pub by-packets : EachPutGoesByPackets
@@ -101,23 +92,18 @@ adds-broken old p fault mid new adds is = grind arith
 pub puts-tell : (state : SinkState) (old : SinkView) (p : Captured) (r : Result (Unit {0}) Fault) (new : SinkView)
     → ((fault : Fault) → state ≡ Broken fault → ⊥)
     → PutsNext old p r new → PutsPacket state old p r new
-puts-tell Empty old p r new sound puts = puts
-puts-tell (Started link) old p r new sound puts = puts
-puts-tell (Broken fault) old p r new sound puts = absurd (sound fault refl)
+puts-tell state old p r new sound puts = grind arith
 
 pub put-writes-tell : (state : SinkState) (old : SinkView) (p : Captured) (r : Result (Unit {0}) Fault) (new : SinkView)
     → ((fault : Fault) → state ≡ Broken fault → ⊥)
     → WritesPacket (refusal_in old p) (added_in old p) old.written r new.written → PutWrites state old p r new
-put-writes-tell Empty old p r new sound writes = writes
-put-writes-tell (Started link) old p r new sound writes = writes
-put-writes-tell (Broken fault) old p r new sound writes = absurd (sound fault refl)
+put-writes-tell state old p r new sound writes = grind arith
 
 -- ---- a put to a sink to which these packets were put
 
 next-after : (ps : List Captured) (old : SinkView) (p : Captured) (r : Result (Unit {0}) Fault) (new : SinkView) → PutsPacket (state_after ps) old p r
     new → PutsNext old p r new
-next-after [] old p r new puts = puts
-next-after (q ∷ qs) old p r new puts = puts
+next-after ps old p r new puts = grind arith
 
 pub put-next : (ps : List Captured) (old : SinkView) (p : Captured) (r : Result (Unit {0}) Fault) (new : SinkView)
     → HasPut old ps → PutsPacket old.state old p r new → PutsNext old p r new
@@ -135,8 +121,7 @@ put-writes ps old p r new has writes = search rules
 
 -- a packet that is put isn't refused
 pub put-taken : (refusal : Option Fault) (takes : Bool) → IsPutAnswer refusal takes (Ok tt) → refusal ≡ None
-put-taken None takes answer = refl
-put-taken (Some fault) takes answer = absurd answer
+put-taken refusal takes answer = grind arith
 
 written-ok : (refusal : Option Fault) (bytes written written' : List ℕ) → WritesPacket refusal bytes written (Ok tt) written' → written' ≡ written ++ bytes
 written-ok refusal bytes written written' writes = writes

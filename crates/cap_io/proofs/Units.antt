@@ -18,18 +18,13 @@ use Rattle.cap_pcapng.proofs.Units as block
 -- The four bytes of a section header's type read as no magic number of pcap, in no order.
 not_swapped : (text : List ℕ) (resolution : Resolution) → 4 ≤ length text → u32_in Little text 0 ≡ section_type → u32_in Big text 0 ≡ magic resolution → ⊥
 unfolding number_in
-not_swapped (a ∷ b ∷ c ∷ d ∷ text) Microseconds enough little big = absurd (omega (arith, little, big))
-not_swapped (a ∷ b ∷ c ∷ d ∷ text) Nanoseconds enough little big = absurd (omega (arith, little, big))
-not_swapped _ resolution enough little big = absurd (omega arith)
+not_swapped text resolution enough little big = grind arith
 
 some_form : {X : Type 0} (a b : Bool) (x y : X) → is_some (cond a (Some x) (cond b (Some y) None)) ≡ true → (a ≡ true) ⊎ (b ≡ true)
-some_form true b x y e = inl refl
-some_form false true x y e = inr refl
-some_form false false x y e = absurd (cc)
+some_form a b x y e = grind arith
 
 pub and_second : (a b : Bool) → (a && b) ≡ true → b ≡ true
-and_second true b e = e
-and_second false b e = absurd (cc)
+and_second a b e = grind arith
 
 pub header-other : (text : List ℕ) → is_pcapng text ≡ true → header_fault text ≡ None → ⊥
 header-other text is none =
@@ -174,5 +169,4 @@ one_unit_fits {room} {size} {b} {d} {u} unit whole fits =
 
 -- no more of a unit is held than it has
 pub held_length-le : (b c : Declared) (size : ℕ) → held_length b c size ≤ size
-held_length-le Nothing Nothing size = omega arith
-held_length-le _ c size = omega arith
+held_length-le b c size = grind arith
