@@ -1,6 +1,6 @@
 -- Units that hold packets and end cleanly read back as these packets.
-use Rattle.cap_io.proofs.Common.{◌≡◌, ℕ, ◌+◌, List, [], ◌∷◌, ◌++◌, length, map, None, refl, sym, ap, ap₂, ◌∙◌, append_assoc, append-nil, map-append}
-use Rattle.cap_io.proofs.Common.{AllByRecursion, Captured, Declared, Nothing, IsUnit, Placed, placed_at, AreUnits, no_unit, unit_then, NoUnit, front_of, Items}
+use Rattle.cap_io.proofs.Common.{arith, ◌≡◌, ℕ, ◌+◌, List, [], ◌∷◌, ◌++◌, length, map, None, refl, sym, ap, ap₂, ◌∙◌, append_assoc, append-nil, map-append}
+use Rattle.cap_io.proofs.Common.{AllByRecursion, Captured, Declared, Nothing, IsUnit, Placed, placed_at, AreUnits, no_unit, unit_then, NoUnit, front_of}
 use Rattle.cap_io.proofs.Common.{End, items, after_packets, ReadsBack}
 use Rattle.cap_io.proofs.Cuts.{items_from-units, items_from-stops}
 
@@ -37,11 +37,7 @@ reads-back text ps holds =
     ap items (sym (append-nil text))
     ∙ items_from-units holds.units []
     ∙ ap (after_packets holds.placed) (items_from-stops holds.after (0 + length text) [] None holds.ends) in
-    record {
-      packets = ap (λ (i : Items). map (λ (q : Placed). q.packet) i.packets) all ∙ ap (map (λ (q : Placed). q.packet)) (append-nil holds.placed)
-          ∙ holds.packets;
-      ending = ap (λ (i : Items). i.ending) all;
-    }
+    grind (arith, append-nil)
 
 -- what is true of each packet after those before it is also true of those after some
 pub each-following : (Q : Captured → Type 0) (all : List Captured) → ((earlier : List Captured) (p : Captured) (later : List Captured) → all ≡ earlier

@@ -1,13 +1,12 @@
 -- The effect of reading a block, from one read of the device to the next.
 use Rattle.cap_io.proofs.Common.{◌≡◌, ℕ, true, ◌+◌, ◌<◌, ◌≤◌, ◌⊎◌, inl, inr, List, [], ◌∷◌, ◌++◌, length, take, drop, Option, Some, None, Result, Ok, Err, refl}
-use Rattle.cap_io.proofs.Common.{rules}
-use Rattle.cap_io.proofs.Common.{sym, ap, ap₂, ◌∙◌, subst, arith, unwrap_or, option_to_list, append_assoc, length-append, length-take-le, drop_at, drop-drop}
-use Rattle.cap_io.proofs.Common.{take-append-drop, checked, first_failing, Captured, Fault, NoMemory, ReadFailed, Order, checked_ok, checked_err, Parts}
-use Rattle.cap_io.proofs.Common.{SectionParts, block_checks, parts_in, frame_checks, frame_fault, frame_in, most_block, Described, IsBlock, Section, block_size}
-use Rattle.cap_io.proofs.Common.{checks_among, frame_after, interfaces_before, order_before, packet_by, packets_in, parts_after, section_after, section_by}
-use Rattle.cap_io.proofs.Common.{unit_fault, passes, frame_checks-append, frame_in-append, unit_fault-frame, unit_fault-short, unit_fault-block}
-use Rattle.cap_io.proofs.Common.{unit_fault-among, parts_in-append, block_checks-append, Frame, Enters, PacketIfAny, held_packet, section_of, AddsInterface}
-use Rattle.cap_io.proofs.Common.{IsBlockFault, IsEntryFault, most_in_unit, block_length, RestMissing, span_bytes, is_interface, PacketSpans}
+use Rattle.cap_io.proofs.Common.{rules, sym, ap, ◌∙◌, subst, arith, unwrap_or, length-append, length-take-le, drop_at, drop-drop, take-append-drop, checked}
+use Rattle.cap_io.proofs.Common.{first_failing, Captured, Fault, NoMemory, ReadFailed, Order, checked_ok, checked_err, block_checks, parts_in, frame_checks}
+use Rattle.cap_io.proofs.Common.{frame_fault, frame_in, most_block, Described, IsBlock, Section, block_size, frame_after, interfaces_before, order_before}
+use Rattle.cap_io.proofs.Common.{packets_in, parts_after, section_after, unit_fault, passes, frame_checks-append, frame_in-append, unit_fault-frame}
+use Rattle.cap_io.proofs.Common.{unit_fault-short, unit_fault-block, unit_fault-among, parts_in-append, block_checks-append, Frame, Enters, held_packet}
+use Rattle.cap_io.proofs.Common.{section_of, AddsInterface, IsBlockFault, IsEntryFault, most_in_unit, block_length, RestMissing, span_bytes, is_interface}
+use Rattle.cap_io.proofs.Common.{PacketSpans}
 use Rattle.cap_io.proofs.Fronts.{decisive_block_length, length_by_header-whole}
 use Rattle.cap_io.proofs.OwnFaults.{entry-not_failed, own-frame, own-not_failed, own-not_memory}
 
@@ -58,18 +57,13 @@ pub record FrontSays (section : Option Order) (front : List ℕ) (frame : Frame)
 pub front_says : (section : Option Order) (front : List ℕ) (answer : Result Frame Fault) (frame : Frame)
     → answer ≡ checked (frame_fault section front) (frame_in section front) → answer ≡ Ok frame
     → FrontSays section front frame
-front_says section front answer frame is ok =
-    let both = checked_ok (frame_fault section front) (frame_in section front) frame (sym is ∙ ok) in
-    record { passes = both.0; says = both.1 }
+front_says section front answer frame is ok = grind (arith, checked_ok)
 
 -- the same for bytes that begin with them
 pub says_after : (before : Option Section) (section : Option Order) (front more : List ℕ) (frame : Frame) → order_before before ≡ section
     → 12 ≤ length front → FrontSays section front frame
     → (first_failing (frame_checks (order_before before) (front ++ more)) ≡ None) × (frame_after before (front ++ more) ≡ frame)
-says_after before section front more frame is enough said = (
-  ap (λ o. first_failing (frame_checks o (front ++ more))) is ∙ ap first_failing (frame_checks-append section front more enough) ∙ said.passes,
-  ap (λ o. frame_in o (front ++ more)) is ∙ frame_in-append section front more enough ∙ said.says,
-)
+says_after before section front more frame is enough said = grind (arith, frame_checks-append, frame_in-append)
 
 -- a given number of bytes were taken, the front among them
 taken_after : (front unread unread' : List ℕ) (count : ℕ) → unread' ≡ drop count unread → unread' ≡ drop (length front + count) (front ++ unread)
@@ -95,7 +89,7 @@ pub frame_refused : (before : Option Section) (section : Option Order) (front un
     → order_before before ≡ section → length front ≡ 12
     → answer ≡ checked (frame_fault section front) (frame_in section front) → answer ≡ Err fault → BlockMissing before (front ++ unread) unread fault
 frame_refused before section front unread answer fault is upper_bound exact err =
-    let fails : frame_fault section front ≡ Some fault = checked_err (frame_fault section front) (frame_in section front) fault (sym exact ∙ err) in
+    let fails : frame_fault section front ≡ Some fault = grind (arith, checked_err) in
     let whole : first_failing (frame_checks (order_before before) (front ++ unread)) ≡ Some fault =
     ap (λ o. first_failing (frame_checks o (front ++ unread))) is ∙ ap first_failing (frame_checks-append section front unread (omega arith)) ∙ fails in
     block_missing before front unread unread fault 0 upper_bound
@@ -112,9 +106,7 @@ no_room_for_block before front unread upper_bound =
 block_length-whole : (before : Option Section) (front unread : List ℕ) → 12 ≤ length front
     → first_failing (frame_checks (order_before before) (front ++ unread)) ≡ None
     → block_length before (front ++ unread) ≡ Some (block_size before (front ++ unread))
-block_length-whole before front unread enough none =
-    length_by_header-whole 12 (front ++ unread) (frame_checks (order_before before) (front ++ unread)) (block_size before (front ++ unread))
-    (omega (arith, enough, length-append front unread)) none
+block_length-whole before front unread enough none = grind (arith, length_by_header-whole, block_size, length-append)
 
 -- a block whose first bytes pass takes memory where there is less room
 pub block-exceeds : (before : Option Section) (section : Option Order) (front unread : List ℕ) (frame : Frame) (room : ℕ)
@@ -122,16 +114,12 @@ pub block-exceeds : (before : Option Section) (section : Option Order) (front un
     → FrontSays section front frame → room < frame.length → room < unwrap_or (block_length before (front ++ unread)) 0
 block-exceeds before section front unread frame room is upper_bound said less =
     let both = says_after before section front unread frame is (omega arith) said in
-    let size : block_size before (front ++ unread) ≡ frame.length = ap (λ (f : Frame). f.length) both.1 in
-    let stated = block_length-whole before front unread (omega arith) both.0 in
-    let long : unwrap_or (block_length before (front ++ unread)) 0 ≡ block_size before (front ++ unread) = ap (λ (o : Option ℕ). unwrap_or o 0) stated in
-    omega (arith, less, size, long)
+    grind (arith, block_size, block_length-whole)
 
 pub frame-has_memory : (section : Option Order) (front : List ℕ) (answer : Result Frame Fault) (fault : Fault)
     → answer ≡ checked (frame_fault section front) (frame_in section front) → answer ≡ Err fault
     → fault ≡ NoMemory → ⊥
-frame-has_memory section front answer fault is err =
-    own-not_memory fault (own-frame section front fault (checked_err (frame_fault section front) (frame_in section front) fault (sym is ∙ err)))
+frame-has_memory section front answer fault is err = grind (arith, own-not_memory, own-frame, checked_err)
 
 pub rest_of_block : (before : Option Section) (section : Option Order) (front unread unread' : List ℕ) (frame : Frame) (fault : Fault)
     → order_before before ≡ section → length front ≡ 12
@@ -144,10 +132,7 @@ rest_of_block before section front unread unread' frame fault is upper_bound sai
     let reads : decisive_block_length before (front ++ unread) ≡ block_size before (front ++ unread) = ap (λ (o : Option ℕ). unwrap_or o 12) stated in
     let long : length (front ++ unread) ≡ length front + length unread = length-append front unread in
     block_missing before front unread unread' fault missing.count upper_bound
-    (elim missing.why [
-      | inl short ↦ inl (rw short.0 (unit_fault-short before (front ++ unread) (omega arith) both.0 (omega (arith, short.1))))
-      | inr failed ↦ inr (inl failed)
-    ])
+    (grind (arith, unit_fault-short))
     (λ none. omega (arith, missing.within)) (λ failed. rw reads (omega (arith, missing.within))) (omega (arith, missing.within)) missing.there missing.rest
 
 -- ---- the complete block
@@ -156,15 +141,8 @@ pub whole_came : (section : Option Order) (front unread unread' unit buffer : Li
     → take frame.length buffer ≡ unit → take (length front) unit ≡ front → unread ≡ drop (length front) unit ++ unread'
     → WholeCame section (front ++ unread) buffer frame unread'
 whole_came section front unread unread' unit buffer frame upper_bound said there same rest =
-    let joined : front ++ drop (length front) unit ≡ unit = ap (λ (l : List ℕ). l ++ drop (length front) unit) (sym same)
-    ∙ take-append-drop (length front) unit in
-    record {
-      passes = rw there (ap (frame_fault section) (sym joined)
-          ∙ ap first_failing (frame_checks-append section front (drop (length front) unit) (omega arith)) ∙ said.passes);
-      says = rw there (ap (frame_in section) (sym joined) ∙ frame_in-append section front (drop (length front) unit) (omega arith) ∙ said.says);
-      splits = rw there (ap (λ (l : List ℕ). front ++ l) rest ∙ sym (append_assoc front (drop (length front) unit) unread')
-          ∙ ap (λ (l : List ℕ). l ++ unread') joined);
-    }
+    let joined : front ++ drop (length front) unit ≡ unit = grind (arith, take-append-drop) in
+    grind (arith, frame_checks-append, frame_in-append)
 
 -- the frame of a block is that of any bytes that begin with it
 record IsFramed (before : Option Section) (block more : List ℕ) (frame : Frame) : Type 0 where
@@ -174,11 +152,7 @@ record IsFramed (before : Option Section) (block more : List ℕ) (frame : Frame
 
 framed_block : (before : Option Section) (section : Option Order) (block more : List ℕ) (frame : Frame) → order_before before ≡ section → 12 ≤ length block
     → frame_fault section block ≡ None → frame_in section block ≡ frame → IsFramed before block more frame
-framed_block before section block more frame is enough none says = record {
-  framed = ap (λ o. first_failing (frame_checks o (block ++ more))) is ∙ ap first_failing (frame_checks-append section block more enough) ∙ none;
-  following = ap (λ o. frame_in o (block ++ more)) is ∙ frame_in-append section block more enough ∙ says;
-  alone = ap (λ o. frame_in o block) is ∙ says;
-}
+framed_block before section block more frame is enough none says = grind (arith, frame_checks-append, frame_in-append)
 
 -- a block that fails a check
 pub block_refused : (before : Option Section) (section : Option Order) (interfaces : List Described) (text unread' block buffer : List ℕ)
@@ -201,8 +175,7 @@ block_refused before section interfaces text unread' block buffer frame fault is
     let P : List ℕ → Type 0 = λ t. unit_fault before t ≡ Some fault in
     subst P (sym splits) (elim checked [
       | inl fails ↦ unit_fault-block before (block ++ unread') fault (omega arith) f.framed (omega arith) (blocked ∙ fails)
-      | inr among ↦ unit_fault-among before (block ++ unread') (omega arith) f.framed (omega arith) (blocked ∙ among.0)
-          ∙ ap₂ (λ (i : List Described) (p : Parts). first_failing (checks_among i p)) same parts ∙ among.1
+      | inr among ↦ grind (arith, unit_fault-among)
     ])
 
 -- a block that doesn't find its place
@@ -244,34 +217,9 @@ adds-describes before section interfaces text unread' block buffer frame is same
     let splits : text ≡ block ++ unread' = came.splits ∙ ap (λ (l : List ℕ). l ++ unread') (sym block_is) in
     let f = framed_block before section block unread' frame is (omega arith) (ap (frame_fault section) block_is ∙ came.passes)
     (ap (frame_in section) block_is ∙ came.says) in
-    let whole : block_size before (block ++ unread') ≡ frame.length = ap (λ (g : Frame). g.length) f.following in
-    let long : length (block ++ unread') ≡ length block + length unread' = length-append block unread' in
-    let blocked : first_failing (block_checks (frame_after before (block ++ unread')) (block ++ unread')) ≡ first_failing (block_checks frame block) =
-    ap (λ (g : Frame). first_failing (block_checks g (block ++ unread'))) f.following
-    ∙ ap first_failing (block_checks-append frame block unread' least (omega arith)) in
-    let parts : parts_after before (block ++ unread') ≡ parts_in frame block =
-    ap (λ (g : Frame). parts_in g (block ++ unread')) f.following ∙ parts_in-append frame block unread' least (omega arith) in
-    let P : List ℕ → Type 0 = λ t. Describes before t in
-    subst P (sym splits) (record {
-      passes = unit_fault-among before (block ++ unread') (omega arith) f.framed (omega arith) (blocked ∙ adds.passes)
-          ∙ ap₂ (λ (i : List Described) (p : Parts). first_failing (checks_among i p)) same parts ∙ adds.among;
-      is = ap is_interface parts ∙ adds.describes;
-    })
+    grind (arith, block_size, length-append, block_checks-append, parts_in, parts_in-append, unit_fault-among)
 
 -- ---- a block that found it
-
--- a section header begins one, whatever stood before it
-section_same : (before : Option Section) (order : Order) (interfaces : List Described) (parts : Parts) → interfaces_before before ≡ interfaces
-    → section_by before order parts ≡ section_by (Some (section_of order interfaces)) order parts
-section_same before order interfaces SectionParts same = refl
-section_same before order interfaces _ same = rw same refl
-
-packet_if_any : (order : Order) (before : Option Section) (interfaces : List Described) (block : List ℕ) (parts : Parts) (spans : Option PacketSpans)
-    → interfaces_before before ≡ interfaces → parts_after before block ≡ parts
-    → PacketIfAny order interfaces parts block spans → BlockPacketIfAny order before block spans
-packet_if_any order before interfaces block parts None same is none = ap₂ (λ (i : List Described) (p : Parts). option_to_list (packet_by i p)) same is
-    ∙ ap option_to_list none
-packet_if_any order before interfaces block parts (Some spans) same is stands = search rules
 
 pub block_came : (before : Option Section) (section : Option Order) (interfaces interfaces' : List Described) (text unread' block buffer : List ℕ)
     (frame : Frame) (spans : Option PacketSpans)

@@ -1,7 +1,7 @@
 -- The effect of reading a unit, from one read of the device to the next.
 use Rattle.cap_io.proofs.Common.{◌≡◌, ℕ, Bool, IsTrue, IfOk, IfErr, ◌+◌, ◌<◌, ◌≤◌, inl, inr, List, [], ◌++◌, length, take, drop, Option, Some, None, is_some}
 use Rattle.cap_io.proofs.Common.{unwrap_or, true, false, Result, Ok, Err, refl, sym, subst, ap, ap₂, ◌∙◌, arith, take_all, length-append, take-append-drop}
-use Rattle.cap_io.proofs.Common.{drop_at, drop-drop, append_assoc, append-nil, TakesFull, checked, first_failing, Fault, NotACaptureFile, Truncated, ReadFailed}
+use Rattle.cap_io.proofs.Common.{drop_at, drop-drop, append_assoc, append-nil, TakesFull, checked, first_failing, Fault, NotACaptureFile, ReadFailed}
 use Rattle.cap_io.proofs.Common.{NoMemory, checked_ok, checked_err, Head, RecordHead, form_in, header_fault, header_in, captured_len, field_checks}
 use Rattle.cap_io.proofs.Common.{record_header_in, record_size, record_packet, form_in-append, header_fault-append, header_fault-no_magic, header_fault-short}
 use Rattle.cap_io.proofs.Common.{field_checks-append, record_header_in-append, captured_len-append, record_fault-fields, record_fault-short, IsRecord-came}
@@ -23,15 +23,13 @@ Taken-following declared unread unread1 unread2 front fault count splits there r
   within = within;
   unfinished = unfinished;
   there = rw splits (simp length-append (omega arith));
-  rest = rest ∙ ap (drop count) (sym (drop_at front unread1 (length front) refl) ∙ ap (drop (length front)) (sym splits))
+  rest = rest ∙ ap (drop count) (grind (arith, drop_at))
       ∙ drop-drop count (length front) unread;
 }
 
 -- a read that filled the buffer
 pub filled : (unread buf unread' buf' : List ℕ) (n : ℕ) → TakesFull unread buf n unread' buf' → length buf ≤ n → unread ≡ buf' ++ unread'
-filled unread buf unread' buf' n came full =
-    sym (take-append-drop n unread)
-    ∙ ap₂ (λ (x y : List ℕ). x ++ y) (sym (came.taken.bytes ∙ (rw (drop_of_length-le buf full) (append-nil (take n unread))))) (sym came.taken.rest)
+filled unread buf unread' buf' n came full = grind (arith, take-append-drop, drop_of_length-le, append-nil)
 
 -- ---- the first four bytes
 
@@ -51,13 +49,12 @@ most_taken-file text count upper_bound = by_kind (is_pcapng text) refl
 -- what is refused after the first four bytes is refused with them
 pub NoUnitCame-following : (unread unread1 unread2 first : List ℕ) (fault : Fault) → unread ≡ first ++ unread1 → NoUnitCame Nothing (first ++ unread1)
     unread2 fault → NoUnitCame Nothing unread unread2 fault
-NoUnitCame-following unread unread1 unread2 first fault splits refuses = let P : List ℕ → Type 0 = λ t. NoUnitCame Nothing t unread2 fault in
-    subst P (sym splits) refuses
+NoUnitCame-following unread unread1 unread2 first fault splits refuses = grind arith
 
 -- ---- the file header
 
 other_kind : (unread unread' magic : List ℕ) → unread ≡ magic ++ unread' → length magic ≡ 4 → is_section magic ≡ false → is_pcapng unread ≡ false
-other_kind unread unread' magic splits size other = ap is_pcapng splits ∙ is_pcapng-append magic unread' (omega arith) ∙ other
+other_kind unread unread' magic splits size other = grind (arith, is_pcapng-append)
 
 pub no_magic : (unread unread' magic : List ℕ) → unread ≡ magic ++ unread' → length magic ≡ 4 → is_section magic ≡ false → form_in magic ≡ None
     → NoUnitCame Nothing unread unread' NotACaptureFile
@@ -78,18 +75,15 @@ rest_of_header unread unread1 unread2 magic fault whole is splits size other som
     let form : is_some (form_in unread) ≡ true = ap is_some (ap form_in splits ∙ form_in-append magic unread1 (omega arith)) ∙ some in
     let long : length unread ≡ length magic + length unread1 = ap length splits ∙ length-append magic unread1 in
     record {
-      why = elim missing.why [
-        | inl short ↦ inl (rw short.0 (front_of-no_header unread Truncated kind (header_fault-short unread form (omega arith) (omega (arith, short.1)))))
-        | inr failed ↦ inr (inl failed)
-      ];
+      why = grind (arith, front_of-no_header, header_fault-short);
       taken = Taken-following Nothing unread unread1 unread2 magic fault missing.count splits missing.there missing.rest
-          (most_taken-header unread (length magic + missing.count) kind (omega (arith, missing.within)))
+          (grind (arith, most_taken-header))
           (λ failed. rw (decisive_length-header unread kind form) (omega (arith, missing.within)));
     }
 
 -- bytes that were read completely after the first ones, which are unchanged
 pub first_of : (first bytes : List ℕ) (size : ℕ) → length bytes ≡ size → take (length first) (take size bytes) ≡ first → take (length first) bytes ≡ first
-first_of first bytes size whole came = ap (take (length first)) (sym (take_all size bytes (omega arith))) ∙ came
+first_of first bytes size whole came = grind (arith, take_all)
 
 pub joined_front : (unread unread1 unread2 first bytes : List ℕ) (size : ℕ) → length bytes ≡ size → unread ≡ first ++ unread1
     → take (length first) (take size bytes) ≡ first
@@ -103,9 +97,7 @@ joined_front unread unread1 unread2 first bytes size whole splits front rest =
 
 header_says : (unread unread2 bytes : List ℕ) (head : Head) → unread ≡ bytes ++ unread2 → length bytes ≡ 24 → Ok head ≡ checked (header_fault bytes)
     (header_in bytes) → HeaderCame unread head unread2
-header_says unread unread2 bytes head splits size is =
-    let both = checked_ok (header_fault bytes) (header_in bytes) head (sym is) in
-    record { bytes = bytes; header = record { passes = both.0; whole = size; says = sym both.1 }; splits = splits }
+header_says unread unread2 bytes head splits size is = grind (arith, checked_ok)
 
 header_wrong : (unread unread2 bytes : List ℕ) (fault : Fault) → unread ≡ bytes ++ unread2 → length bytes ≡ 24 → is_section bytes ≡ false
     → Err fault ≡ checked (header_fault bytes) (header_in bytes) → NoUnitCame Nothing unread unread2 fault
@@ -123,8 +115,7 @@ header_wrong unread unread2 bytes fault splits size other is =
 -- the first four bytes are those that were read first
 pub section_of_bytes : (bytes first : List ℕ) → take (length first) bytes ≡ first → 4 ≤ length first → is_section bytes ≡ is_section first
 section_of_bytes bytes first front enough =
-    let joined : first ++ drop (length first) bytes ≡ bytes = ap (λ (l : List ℕ). l ++ drop (length first) bytes) (sym front)
-    ∙ take-append-drop (length first) bytes in
+    let joined : first ++ drop (length first) bytes ≡ bytes = grind (arith, take-append-drop) in
     ap is_section (sym joined) ∙ is_section-append first (drop (length first) bytes) enough
 
 pub header_came : (exact : Bool) (unread unread2 bytes : List ℕ) (answer : Result Head Fault) → (IsTrue exact → unread ≡ bytes ++ unread2)
@@ -137,8 +128,7 @@ pub header_refused : (exact : Bool) (unread unread2 bytes : List ℕ) (answer : 
     → length bytes ≡ 24 → is_section bytes ≡ false
     → answer ≡ checked (header_fault bytes) (header_in bytes)
     → IfErr answer (λ fault. IsTrue exact → NoUnitCame Nothing unread unread2 fault)
-header_refused exact unread unread2 bytes (Ok head) splits size other is = tt
-header_refused exact unread unread2 bytes (Err fault) splits size other is = λ t. header_wrong unread unread2 bytes fault (splits t) size other is
+header_refused exact unread unread2 bytes answer splits size other is = grind (arith, header_wrong)
 
 -- ---- a record
 
@@ -149,9 +139,7 @@ pub record FieldsCame (head : Head) (front : List ℕ) (found : RecordHead) : Ty
 pub fields_came : (head : Head) (front : List ℕ) (answer : Result RecordHead Fault) (found : RecordHead)
     → answer ≡ checked (first_failing (field_checks head front)) (record_header_in head front) → answer ≡ Ok found
     → FieldsCame head front found
-fields_came head front answer found is ok =
-    let both = checked_ok (first_failing (field_checks head front)) (record_header_in head front) found (sym is ∙ ok) in
-    record { none = both.0; says = sym both.1 }
+fields_came head front answer found is ok = grind (arith, checked_ok)
 
 pub fields_refused : (head : Head) (unread unread1 front : List ℕ) (answer : Result RecordHead Fault) (fault : Fault) → unread ≡ front ++ unread1
     → length front ≡ 16
@@ -159,8 +147,7 @@ pub fields_refused : (head : Head) (unread unread1 front : List ℕ) (answer : R
     unread unread1 fault
 fields_refused head unread unread1 front answer fault splits size is err =
     let fails = checked_err (first_failing (field_checks head front)) (record_header_in head front) fault (sym is ∙ err) in
-    let whole : first_failing (field_checks head unread) ≡ Some fault = ap (λ (t : List ℕ). first_failing (field_checks head t)) splits
-    ∙ ap first_failing (field_checks-append head front unread1 (omega arith)) ∙ fails in
+    let whole : first_failing (field_checks head unread) ≡ Some fault = grind (arith, field_checks-append) in
     let long : length unread ≡ length front + length unread1 = ap length splits ∙ length-append front unread1 in
     record {
       why = inl (front_of-no_record head unread fault (omega arith) (record_fault-fields head unread fault (omega arith) whole));
@@ -173,15 +160,12 @@ fields_refused head unread unread1 front answer fault splits size is err =
 pub fields-has_memory : (head : Head) (front : List ℕ) (answer : Result RecordHead Fault) (fault : Fault)
     → answer ≡ checked (first_failing (field_checks head front)) (record_header_in head front) → answer ≡ Err fault
     → fault ≡ NoMemory → ⊥
-fields-has_memory head front answer fault is err =
-    own-not_memory fault (own-fields head front fault (checked_err (first_failing (field_checks head front)) (record_header_in head front) fault
-    (sym is ∙ err)))
+fields-has_memory head front answer fault is err = grind (arith, own-not_memory, own-fields, checked_err)
 
 -- nor does one of a file header
 pub header-has_memory : (bytes : List ℕ) (answer : Result Head Fault) → answer ≡ checked (header_fault bytes) (header_in bytes)
     → IfErr answer (λ fault. fault ≡ NoMemory → ⊥)
-header-has_memory bytes (Ok head) is = tt
-header-has_memory bytes (Err fault) is = own-not_memory fault (own-header bytes fault (checked_err (header_fault bytes) (header_in bytes) fault (sym is)))
+header-has_memory bytes answer is = grind (arith, own-not_memory, own-header, checked_err)
 
 -- a record whose header fails no check needs memory if the buffer has less room
 pub record-takes : (head : Head) (unread unread1 front : List ℕ) (found : RecordHead) (size room : ℕ) → size ≡ 16 + found.captured → unread ≡ front
@@ -209,24 +193,17 @@ pub data_missing : (head : Head) (unread unread1 unread2 front : List ℕ) (foun
     → unread ≡ front ++ unread1 → length front ≡ 16 → FieldsCame head front found
     → 16 + found.captured ≤ most_in_unit → RestMissing (length front) size unread1 unread2 fault → NoUnitCame (PcapFile head) unread unread2 fault
 data_missing head unread unread1 unread2 front found fault size is splits upper_bound fields small missing =
-    let long : length unread ≡ length front + length unread1 = ap length splits ∙ length-append front unread1 in
-    let said : found.captured ≡ captured_len head front = ap (λ (h : RecordHead). h.captured) fields.says in
-    let captured : captured_len head unread ≡ captured_len head front = ap (captured_len head) splits ∙ captured_len-append head front unread1 (omega arith) in
-    let none : first_failing (field_checks head unread) ≡ None = ap (λ (t : List ℕ). first_failing (field_checks head t)) splits
-    ∙ ap first_failing (field_checks-append head front unread1 (omega arith)) ∙ fields.none in
-    let stated : stated_length (PcapFile head) unread ≡ Some (record_size head unread) = length_by_header-whole 16 unread (field_checks head unread)
-    (record_size head unread) (omega (arith, long, upper_bound)) none in
-    let reads : decisive_length (PcapFile head) unread ≡ record_size head unread = ap (λ (o : Option ℕ). unwrap_or o 16) stated in
-    record {
-      why = elim missing.why [
-        | inl short ↦ inl (rw short.0 (front_of-no_record head unread Truncated (omega arith)
-            (record_fault-short head unread (omega arith) none (omega (arith, short.1)))))
-        | inr failed ↦ inr (inl failed)
-      ];
-      taken = Taken-following (PcapFile head) unread unread1 unread2 front fault missing.count splits missing.there missing.rest
-          (most_taken-record head unread (length front + missing.count) (omega (arith, missing.within)) (omega (arith, missing.within)))
-          (λ failed. rw reads (omega (arith, missing.within)));
-    }
+    grind (
+      arith,
+      length-append,
+      captured_len-append,
+      field_checks-append,
+      length_by_header-whole,
+      front_of-no_record,
+      record_fault-short,
+      Taken-following,
+      most_taken-record,
+    )
 
 pub record_came : (head : Head) (unread unread1 unread2 front unit buffer : List ℕ) (found : RecordHead) (size : ℕ) → unread ≡ front ++ unread1
     → length front ≡ 16 → FieldsCame head front found
@@ -246,8 +223,7 @@ record_came head unread unread1 unread2 front unit buffer found size splits uppe
     let rest : unread1 ≡ drop 16 unit ++ unread2 = following ∙ ap (λ (n : ℕ). drop n unit ++ unread2) upper_bound in
     let said : found.captured ≡ captured_len head front = ap (λ (h : RecordHead). h.captured) fields.says in
     let joined : front ++ drop 16 unit ≡ unit = ap (λ (l : List ℕ). l ++ drop 16 unit) (sym same) ∙ take-append-drop 16 unit in
-    let says : record_header_in head unit ≡ found = ap (record_header_in head) (sym joined) ∙ record_header_in-append head front (drop 16 unit)
-    (omega arith) ∙ sym fields.says in
+    let says : record_header_in head unit ≡ found = grind (arith, record_header_in-append) in
     let bytes : take found.captured (drop 16 unit) ≡ drop 16 unit = take_all found.captured (drop 16 unit) (omega (arith, length-drop 16 unit)) in
     let packet : record {
       link = head.link;
@@ -279,5 +255,4 @@ record_came head unread unread1 unread2 front unit buffer found size splits uppe
     }
 
 pub none_if_not : {X : Type 0} (o : Option X) → is_some o ≡ false → o ≡ None
-none_if_not None e = refl
-none_if_not (Some x) e = (cc)
+none_if_not o e = grind arith

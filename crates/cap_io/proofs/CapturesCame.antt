@@ -1,19 +1,15 @@
 -- The effect of reading the units of a capture of any format.
-use Rattle.std.proofs.lemmas.Bool.{cases_lt}
 use Rattle.cap_io.proofs.BlocksCame.{BlockCame, BlockMissing, Describes}
 use Rattle.cap_io.proofs.Came.{Taken-following, most_taken-file}
-use Rattle.cap_io.proofs.Common.{◌≡◌, ℕ, ◌+◌, ◌<◌, ◌≤◌, ◌^◌, IsTrue, Result, Ok, Err, inl, inr, Bool, true, false, List, [], ◌∷◌, ◌++◌, length, take, Option}
-use Rattle.cap_io.proofs.Common.{rules}
-use Rattle.cap_io.proofs.Common.{Some, None, is_some, refl, sym, ap, ◌∙◌, subst, arith, unwrap_or, if◌then◌else◌, slice_get, option_map, option_or}
-use Rattle.cap_io.proofs.Common.{option_to_list, length-append, length-take-le, All-nil, Captured, Fault, Truncated, Order, Little, Head}
-use Rattle.cap_io.proofs.Common.{Parts, SectionParts, EnhancedParts, SimpleParts, frame_in, is_section, magic_order, order_in}
-use Rattle.cap_io.proofs.Common.{Described, FitSection, IsBlock, Section, interfaces_before, order_before, packet_by}
-use Rattle.cap_io.proofs.Common.{packets_in, parts_after, section_after, section_by, unit_fault, passes, unit_fault-few, Frame, PacketSpans, FileState, Enters}
-use Rattle.cap_io.proofs.Common.{KnowsIfAny, held_packet, section_of, Declared, Nothing, PcapFile, PcapngFile, Front, IsUnit, a_pcap_header, a_first_block}
-use Rattle.cap_io.proofs.Common.{a_block, file_after, first_link_after, front_of, is_pcapng, TakesMemory, declared_by, NoMemory, most_in_unit, read_failures}
-use Rattle.cap_io.proofs.Common.{most_taken, packet_in_unit, decisive_length, block_length, BeginsBlock, FrontMissing, HasInterface, HeaderCame, IsSized}
-use Rattle.cap_io.proofs.Common.{IsConsistent, PacketCame, ReadsUnit, NoUnitCame, RestMissing, UnitPassed, known_first_link, known_order}
-use Rattle.cap_io.proofs.Common.{section_before, unit_size, span_bytes}
+use Rattle.cap_io.proofs.Common.{◌≡◌, ℕ, ◌+◌, ◌<◌, ◌≤◌, ◌^◌, IsTrue, Result, Ok, Err, inl, inr, true, List, [], ◌∷◌, ◌++◌, length, take, Option, rules, Some}
+use Rattle.cap_io.proofs.Common.{None, is_some, refl, sym, ap, ◌∙◌, subst, arith, unwrap_or, option_to_list, length-append, length-take-le, Captured, Fault}
+use Rattle.cap_io.proofs.Common.{Truncated, Order, Head, Parts, SectionParts, frame_in, is_section, order_in, Described, FitSection}
+use Rattle.cap_io.proofs.Common.{IsBlock, Section, interfaces_before, order_before, packet_by, packets_in, parts_after, section_after, section_by, unit_fault}
+use Rattle.cap_io.proofs.Common.{passes, unit_fault-few, Frame, PacketSpans, FileState, Enters, KnowsIfAny, held_packet, section_of, Declared, Nothing}
+use Rattle.cap_io.proofs.Common.{PcapFile, PcapngFile, Front, IsUnit, a_pcap_header, a_first_block, a_block, file_after, first_link_after, front_of, is_pcapng}
+use Rattle.cap_io.proofs.Common.{TakesMemory, declared_by, NoMemory, most_in_unit, read_failures, most_taken, packet_in_unit, decisive_length, block_length}
+use Rattle.cap_io.proofs.Common.{BeginsBlock, FrontMissing, HasInterface, HeaderCame, IsConsistent, PacketCame, ReadsUnit, NoUnitCame, RestMissing, UnitPassed}
+use Rattle.cap_io.proofs.Common.{known_first_link, known_order, section_before, unit_size, span_bytes}
 use Rattle.cap_io.proofs.Fronts.{block_unless, front_of-following, front_of-pcapng, front_of_block-none, is_pcapng-append, most_taken-block}
 use Rattle.cap_io.proofs.Fronts.{decisive_length-pcapng, decisive_block_length, decisive_block_length-few}
 use Rattle.cap_octet.specs.declared.device.Input.{Ghosts}
@@ -30,10 +26,7 @@ missing-refuses : (declared : Declared) (first : Option ℕ) (before : Option Se
 missing-refuses declared first before text unread' fault is reads m =
     let P : Front → Type 0 = λ f. m.count ≤ most_taken f in
     record {
-      why = elim m.why [
-        | inl fails ↦ inl (is ∙ front_of_block-none first before text fault fails)
-        | inr other ↦ inr other
-      ];
+      why = grind (arith, front_of_block-none);
       taken = record {
         count = m.count;
         within = subst P (sym is) (most_taken-block first before text m.count m.within m.upper_bound);
@@ -50,12 +43,9 @@ record StandsAt (declared : Declared) (first : Option ℕ) (before : Option Sect
 
 stands_at : (file : FileState) (interfaces : List Described) (front more : List ℕ) → 12 ≤ length front → BeginsBlock file front
     → StandsAt (declared_by file interfaces) (known_first_link file) (section_before file interfaces) (front ++ more)
-stands_at state.Unknown interfaces front more enough begins =
-    let kind : is_pcapng (front ++ more) ≡ true = is_pcapng-append front more (omega arith) ∙ begins in
-    record { front = front_of-pcapng (front ++ more) kind; reads = decisive_length-pcapng (front ++ more) kind }
+stands_at state.Unknown interfaces front more enough begins = grind (arith, is_pcapng-append, front_of-pcapng, decisive_length-pcapng)
 stands_at (state.Pcap head) interfaces front more enough begins = absurd begins
-stands_at (state.Pcapng order first) interfaces front more enough begins =
-    record { front = front_of-following first (section_of order interfaces) (front ++ more) (omega (arith, length-append front more)); reads = refl }
+stands_at (state.Pcapng order first) interfaces front more enough begins = grind (arith, front_of-following, length-append)
 
 pub refused-block : (file : FileState) (interfaces : List Described) (front unread unread' : List ℕ) (fault : Fault) → length front ≡ 12
     → BeginsBlock file front
@@ -72,17 +62,11 @@ section-parts before block is = search rules
 -- a block needs memory if it is longer than the buffer, or describes an interface
 pub block-takes : (file : FileState) (interfaces : List Described) (front unread : List ℕ) (room : ℕ) → 12 ≤ length front → BeginsBlock file front
     → room < unwrap_or (block_length (section_before file interfaces) (front ++ unread)) 0 → TakesMemory room (declared_by file interfaces) (front ++ unread)
-block-takes state.Unknown interfaces front unread room enough begins less =
-    let kind : is_pcapng (front ++ unread) ≡ true = is_pcapng-append front unread (omega arith) ∙ begins in
-    inl (rw kind less)
-block-takes (state.Pcap head) interfaces front unread room enough begins less = absurd begins
-block-takes (state.Pcapng order first) interfaces front unread room enough begins less = inl less
+block-takes file interfaces front unread room enough begins less = grind (arith, is_pcapng-append)
 
 pub interface-takes : (file : FileState) (interfaces : List Described) (front unread : List ℕ) (room : ℕ) → 12 ≤ length front → BeginsBlock file front
     → Describes (section_before file interfaces) (front ++ unread) → TakesMemory room (declared_by file interfaces) (front ++ unread)
-interface-takes state.Unknown interfaces front unread room enough begins d = search rules
-interface-takes (state.Pcap head) interfaces front unread room enough begins d = absurd begins
-interface-takes (state.Pcapng order first) interfaces front unread room enough begins d = inr (d.passes, d.is)
+interface-takes file interfaces front unread room enough begins d = grind arith
 
 -- the front of the first block didn't come
 pub rest_of_front : (first unread unread' : List ℕ) (fault : Fault) (size : ℕ) → size ≡ 12 → length first ≡ 4 → is_section first ≡ true
@@ -98,15 +82,14 @@ rest_of_front first unread unread' fault size twelve four is missing =
         | inr failed ↦ inr (inl failed)
       ];
       taken = Taken-following Nothing (first ++ unread) unread unread' first fault missing.count refl missing.there missing.rest
-          (most_taken-file (first ++ unread) (length first + missing.count) (omega (arith, missing.within)))
+          (grind (arith, most_taken-file))
           (λ failed. rw (decisive_length-pcapng (first ++ unread) kind)
-          (decisive_block_length-few None (first ++ unread) (length first + missing.count) (omega (arith, missing.within))));
+          (grind (arith, decisive_block_length-few)));
     }
 
 front-taken : (link : Option ℕ) (section : Section) (text : List ℕ) (count : ℕ) → count ≤ 12 → count ≤ most_taken (front_of (PcapngFile link section) text)
 front-taken link section [] count upper_bound = omega arith
-front-taken link section (b ∷ bytes) count upper_bound =
-    most_taken-block link (Some section) (b ∷ bytes) count (λ none. omega (arith, (passes (Some section) (b ∷ bytes) none).least)) (omega arith)
+front-taken link section (b ∷ bytes) count upper_bound = search (rules, most_taken-block)
 
 -- the front of a later block didn't come
 block_front : (link : Option ℕ) (section : Section) (unread unread' : List ℕ) (fault : Fault) → FrontMissing 12 unread unread' fault
@@ -115,14 +98,11 @@ block_front link section unread unread' fault m =
     elim m.some [
       | inl some ↦ missing-refuses (PcapngFile link section) link (Some section) unread unread' fault (front_of-following link section unread some)
           refl (record {
-            why = elim m.missing.why [
-              | inl short ↦ inl (rw short.0 (unit_fault-few (Some section) unread (omega (arith, short.1))))
-              | inr failed ↦ inr (inl failed)
-            ];
+            why = grind (arith, unit_fault-few);
             count = m.missing.count;
             within = λ none. omega (arith, m.missing.within, (passes (Some section) unread none).least);
             upper_bound = omega (arith, m.missing.within);
-            unfinished = λ failed. decisive_block_length-few (Some section) unread m.missing.count (omega (arith, m.missing.within));
+            unfinished = grind (arith, decisive_block_length-few);
             there = m.missing.there;
             rest = m.missing.rest;
           })
@@ -131,7 +111,7 @@ block_front link section unread unread' fault m =
         taken = record {
           count = m.missing.count;
           within = front-taken link section unread m.missing.count (omega (arith, m.missing.within));
-          unfinished = λ failed. decisive_block_length-few (Some section) unread m.missing.count (omega (arith, m.missing.within));
+          unfinished = grind (arith, decisive_block_length-few);
           there = m.missing.there;
           rest = m.missing.rest;
         };
@@ -147,29 +127,15 @@ first-packets block is = search rules
 kept_by : (section : Section) (order : Order) (parts : Parts) (packet : Captured) → order ≡ section.order
     → option_to_list (packet_by section.interfaces parts) ≡ packet ∷ []
     → section_by (Some section) order parts ≡ section
-kept_by section order (EnhancedParts number ticks captured orig own rest) packet same is = ap (λ o. section_of o section.interfaces) same
-kept_by section order (SimpleParts orig rest) packet same is = ap (λ o. section_of o section.interfaces) same
-kept_by section order _ packet same is = (cc)
+kept_by section order parts packet same is = grind arith
 
 pub section-kept : (section : Section) (block : List ℕ) (packet : Captured) → packets_in (Some section) block ≡ packet ∷ []
     → section_after (Some section) block ≡ section
-section-kept section block packet is = by_kind (is_section block) refl
-  where
-    by_kind : (b : Bool) → is_section block ≡ b → section_after (Some section) block ≡ section
-    by_kind true kind =
-        let none : [] ≡ packet ∷ [] = sym (ap (λ p. option_to_list (packet_by section.interfaces p)) (section-parts (Some section) block kind)) ∙ is
-        in absurd (cc)
-    by_kind false kind =
-        kept_by section (order_in (Some section.order) block) (parts_after (Some section) block) packet
-        (ap (λ (b : Bool). unwrap_or (if b then magic_order block else Some section.order) Little) kind) is
+section-kept section block packet is = grind (arith, section-parts, kept_by, order_in)
 
 -- what is first stays first
 pub first-again : (link : Option ℕ) (section : Section) → first_link_after (first_link_after link section) section ≡ first_link_after link section
-first-again link section = by_link link (option_map (λ (i : Described). i.link) (slice_get section.interfaces 0))
-  where
-    by_link : (a b : Option ℕ) → option_or (option_or a b) b ≡ option_or a b
-    by_link None None = refl
-    by_link _ b = refl
+first-again link section = grind arith
 
 -- ---- a block as a unit
 
@@ -184,8 +150,7 @@ header_passed unread unread' head came = record {
 -- the same units after equal bytes
 pub UnitPassed-following : (unread unread1 unread' first : List ℕ) (size : ℕ) (declared : Declared) → unread ≡ first ++ unread1
     → UnitPassed Nothing (first ++ unread1) size declared unread' → UnitPassed Nothing unread size declared unread'
-UnitPassed-following unread unread1 unread' first size declared splits came =
-    record { bytes = came.bytes; unit = came.unit; sized = came.sized; splits = splits ∙ came.splits }
+UnitPassed-following unread unread1 unread' first size declared splits came = grind arith
 
 -- a packet whose unit has a given number of bytes
 packet_at_size : (link : Option ℕ) (section : Section) (unread buffer : List ℕ) (spans : PacketSpans) (packet : Captured) (declared' : Declared)
@@ -233,7 +198,7 @@ pub packet-block : (file : FileState) (interfaces interfaces' : List Described) 
     → BlockCame (section_before file interfaces) (front ++ unread) buffer order size (Some spans) interfaces' unread'
     → PacketCame (declared_by file interfaces) (front ++ unread) buffer spans (declared_by file interfaces') unread'
 packet-block state.Unknown interfaces interfaces' front unread buffer unread' order size spans begins there exact whole stays came =
-    let none : [] ≡ came.packet.packet ∷ [] = sym (first-packets (take size buffer) came.is_block) ∙ came.packet.stands in absurd (cc)
+    grind (arith, first-packets)
 packet-block (state.Pcap head) interfaces interfaces' front unread buffer unread' order size spans begins there exact whole stays came = absurd begins
 packet-block (state.Pcapng own link) interfaces interfaces' front unread buffer unread' order size spans begins there exact whole stays came =
     let section = section_of own interfaces in
@@ -262,36 +227,27 @@ pub has-section : (file : FileState) (front block : List ℕ) (frame : Frame) (i
     → BeginsBlock file front
     → frame_in (known_order file) front ≡ frame → Enters frame interfaces block (Some spans) interfaces' → KnowsIfAny interfaces' (Some spans)
     → HasInterface (declared_by file interfaces') spans
-has-section state.Unknown front block frame interfaces interfaces' spans begins is enters knows = search rules
-has-section (state.Pcap head) front block frame interfaces interfaces' spans begins is enters knows = absurd begins
-has-section (state.Pcapng order first) front block frame interfaces interfaces' spans begins is enters knows = knows
+has-section file front block frame interfaces interfaces' spans begins is enters knows = grind arith
 
 none-fit : FitSection []
-none-fit = record { count = omega arith; names = All-nil (λ (i : Described). length i.name ≤ 255) }
+none-fit = grind arith
 
 -- the interfaces of a section that a block follows are no more than may be
 pub section-fits : (file : FileState) (interfaces : List Described) (front : List ℕ) → BeginsBlock file front → IsConsistent file interfaces
     → FitSection interfaces
-section-fits state.Unknown interfaces front begins none = rw none none-fit
-section-fits (state.Pcap head) interfaces front begins known = absurd begins
-section-fits (state.Pcapng order first) interfaces front begins known = known.1
+section-fits file interfaces front begins none = grind (arith, none-fit)
 
 -- the bytes that a device gave stay few after a block, though it be no longer than its front
 pub small-following : (before following front size : ℕ) → front ≡ 12 → following + front ≡ before + size → 12 ≤ size
     → (front < size → following < 2 ^ 63) → before < 2 ^ 63 → following < 2 ^ 63
-small-following before following front size twelve counted least longer small =
-    elim (cases_lt front size) [ inl less ↦ longer less | inr most ↦ omega (arith, twelve, counted, least, most, small) ]
+small-following before following front size twelve counted least longer small = grind arith
 
 pub order-held : (file : FileState) (interfaces : List Described) → order_before (section_before file interfaces) ≡ known_order file
-order-held state.Unknown interfaces = refl
-order-held (state.Pcap head) interfaces = refl
-order-held (state.Pcapng order first) interfaces = refl
+order-held file interfaces = grind arith
 
 pub interfaces-held : (file : FileState) (interfaces : List Described) (front : List ℕ) → BeginsBlock file front → IsConsistent file interfaces
     → interfaces_before (section_before file interfaces) ≡ interfaces
-interfaces-held state.Unknown interfaces front begins exact = sym exact
-interfaces-held (state.Pcap head) interfaces front begins exact = absurd begins
-interfaces-held (state.Pcapng order first) interfaces front begins exact = refl
+interfaces-held file interfaces front begins exact = grind arith
 
 -- ---- a block of a file that has begun
 
@@ -342,10 +298,5 @@ pub ReadsUnit-following : {I A : Type 0} (device : Ghosts I) (old : UnitReader I
     → (IsTrue device.tells → device.unread old.input ≡ front ++ device.unread mid)
     → ReadsUnit device (record { input = mid; file = old.file; buffer = old.buffer; table = old.table; spans = old.spans }) front r new
     → ReadsUnit device old [] r new
-ReadsUnit-following device old mid front (Ok c) new given failed sure told small splits reads = search (rules, is_small)
-  where
-    is_small : (c : NextUnit) → IsSized new.spans c new.buffer.items (device.given new.input) → 0 < unit_size new.spans c → device.given new.input < 2 ^ 63
-    is_small (NextUnit.Other size) sized some = sized.1
-    is_small NextUnit.Packet sized some = sized.1
-    is_small NextUnit.End sized some = absurd (omega arith)
+ReadsUnit-following device old mid front (Ok c) new given failed sure told small splits reads = grind arith
 ReadsUnit-following device old mid front (Err fault) new given failed sure told small splits reads = search rules

@@ -17,11 +17,7 @@ enough-at : (m n : ℕ) (f : Front) (b : Declared) (at : ℕ) (text : List ℕ) 
     → ((size : ℕ) (ps : List Captured) (d : Declared) → f ≡ Whole size ps d → (0 < size) × (0 < length text))
     → ((d : Declared) (at' : ℕ) (xs : List ℕ) → length xs < m → length xs < n → items_within m d at' xs ≡ items_within n d at' xs)
     → items_with f b at (λ size d. items_within m d (at + size) (drop size text)) ≡ items_with f b at (λ size d. items_within n d (at + size) (drop size text))
-enough-at m n (NoUnit why) b at text l r sized same = refl
-enough-at m n (Whole size ps d) b at text l r sized same =
-    let p = sized size ps d refl in
-    ap (after_packets (placed_at at ps)) (same d (at + size) (drop size text) (simp length-drop (omega (arith, p.0, p.1)))
-    (simp length-drop (omega (arith, p.0, p.1))))
+enough-at m n f b at text l r sized same = grind (arith, placed_at, length-drop)
 
 enough : (m n : ℕ) (b : Declared) (at : ℕ) (text : List ℕ) → length text < m → length text < n → items_within m b at text ≡ items_within n b at text
 unfolding items_within
@@ -45,9 +41,7 @@ items_from-whole : (b d : Declared) (at : ℕ) (text : List ℕ) (size : ℕ) (p
 unfolding items_from
 items_from-whole b d at text size ps e =
     let p = front-sized b text size ps d e in
-    items_from-step b at text
-    ∙ rw e (ap (after_packets (placed_at at ps))
-    (enough (length text) (length (drop size text) + 1) d (at + size) (drop size text) (simp length-drop (omega (arith, p.0, p.1))) (omega arith)))
+    grind (arith, items_from-step, placed_at, enough, length-drop)
 
 pub items_from-unit : {b c : Declared} {u : List ℕ} {qs : List Captured} → IsUnit b u qs c → (at : ℕ) (rest : List ℕ)
     → items_from b at (u ++ rest) ≡ after_packets (placed_at at qs) (items_from c (at + length u) rest)
@@ -82,8 +76,7 @@ AreUnits-append {at = at} {ys = ys} {qs = qs'} (unit_then {u = u} {more = more} 
 -- nothing of a rest is a unit where it stops
 pub no_unit_in : (declared : Declared) (rest : List ℕ) (why : Option Fault) → front_of declared rest ≡ NoUnit why
     → (u more : List ℕ) (qs : List Captured) (d : Declared) → IsUnit declared u qs d → rest ≡ u ++ more → ⊥
-no_unit_in declared rest why stops u more qs d one splits =
-    let e : NoUnit why ≡ Whole (length u) qs d = sym stops ∙ ap (front_of declared) splits ∙ front_of-unit one more in cc
+no_unit_in declared rest why stops u more qs d one splits = grind (arith, front_of, front_of-unit)
 
 -- a rest without a unit stops
 pub stops_for : (declared : Declared) (rest : List ℕ) (front : Front) → front_of declared rest ≡ front
@@ -120,7 +113,7 @@ Last declared rest = (u more : List ℕ) (qs : List Captured) (d : Declared) →
 
 same_units : {b c d : Declared} {at : ℕ} {us vs : List ℕ} {ps qs : List Placed} → AreUnits b at us ps c → AreUnits b at vs qs d → (x y : List ℕ) → us
     ++ x ≡ vs ++ y → Last c x → Last d y → Same us vs x y ps qs c d
-same_units no_unit no_unit x y same last_x last_y = record { bytes = refl; rest = same; packets = refl; declared = refl }
+same_units no_unit no_unit x y same last_x last_y = grind arith
 same_units no_unit (unit_then {u = v} {more = more} one units) x y same last_x last_y =
     absurd (last_x v (more ++ y) _ _ one (same ∙ append_assoc v more y))
 same_units (unit_then {u = u} {more = more} one units) no_unit x y same last_x last_y =
@@ -138,9 +131,7 @@ same_units {at = at} (unit_then {c = c} {u = u} {more = more} {qs = qs} {ps = ps
     }
 
 pub one_cut : EachHasOneCut
-one_cut text one other =
-    let same = same_units one.cut.units other.cut.units one.rest other.rest (sym one.cut.joined ∙ other.cut.joined) one.cut.last other.cut.last in
-    record { done = same.bytes; rest = same.rest; packets = same.packets; declared = same.declared }
+one_cut text one other = grind (arith, same_units)
 
 -- ---- the items that a cut shows
 
@@ -195,16 +186,9 @@ units_by most declared at text (Whole size packets after) is enough following =
 
 units_within : (most : ℕ) (declared : Declared) (at : ℕ) (text : List ℕ) → length text < most → Units declared at text
 units_within zero declared at text enough = absurd (omega arith)
-units_within (suc most) declared at text enough = units_by most declared at text (front_of declared text) refl (omega arith) (units_within most)
+units_within (suc most) declared at text enough = grind (arith, units_by, front_of, (units_within most))
 
 pub has_cut : EachHasCut
 has_cut text =
     let all = units_within (length text + 1) Nothing 0 text (omega arith) in
-    record {
-      done = all.done;
-      rest = all.rest;
-      packets = all.packets;
-      declared = all.after;
-      cut =
-          record { joined = all.joined; units = all.units; last = all.last };
-    }
+    grind arith

@@ -1,29 +1,23 @@
 -- The unit that some bytes begin with.
-use Rattle.cap_io.proofs.Common.{rules}
 use Rattle.cap_io.proofs.BlocksCame.{BlockCame, FrontSays, WholeCame, block_came, block_refused, front_says}
 use Rattle.cap_io.proofs.CapturesCame.{first-packets, order-held, section-kept}
-use Rattle.cap_io.proofs.Common.{◌≡◌, ℕ, ◌+◌, ◌^◌, ◌<◌, ◌≤◌, List, [], ◌∷◌, ◌++◌, length, take, drop, Option, Some, None, Ok, Err, true, false, is_some, refl}
-use Rattle.cap_io.proofs.Common.{sym, ap, ◌∙◌, subst, arith, lt-leb, option_map, slice_get, take-take, length-take-le, take-append-drop, length-append}
-use Rattle.cap_io.proofs.Common.{checked, first_failing, checked_ok, checked_err, Captured, Fault, Truncated, Order, Head, RecordHead, header_fault}
-use Rattle.cap_io.proofs.Common.{header_in, header_in-append, header_fault-append, field_checks, field_checks-append, record_header_in}
-use Rattle.cap_io.proofs.Common.{record_header_in-append, record_fault, record_fault-fields, record_fault-short, captured_len, most_captured, most_in_unit}
-use Rattle.cap_io.proofs.Common.{is_section, frame_checks-append, frame_in-append, frame_fault, frame_in, most_interfaces, Described, Section, block_size}
-use Rattle.cap_io.proofs.Common.{interfaces_before, order_before, packets_in, parts_after, parts_in, parts_in-append, unit_fault, unit_fault-frame}
-use Rattle.cap_io.proofs.Common.{unit_fault-short, Frame, PacketSpans, IsBlockFault, section_of, FileState, Declared, Nothing, PcapFile, PcapngFile, Whole}
-use Rattle.cap_io.proofs.Common.{NoUnit, IsUnit, a_pcap_header, a_pcap_record, a_first_block, a_block, file_after, first_link_after, front_of, is_pcapng}
-use Rattle.cap_io.proofs.Common.{declared_by, packet_in_unit, known_first_link, known_order, section_before, HasInterface, IsConsistent}
-use Rattle.cap_io.proofs.Common.{BeginsWithPacket, PacketCame, append_assoc}
-use Rattle.cap_io.proofs.Common.{record_spans}
-use Rattle.cap_io.proofs.Fronts.{block_unless, front_of-following, front_of-pcapng, front_of-no_header, front_of-no_record}
-use Rattle.cap_io.proofs.Fronts.{front_of_block-none, is_pcapng-append}
+use Rattle.cap_io.proofs.Common.{◌≡◌, ℕ, ◌+◌, ◌^◌, ◌<◌, ◌≤◌, List, [], ◌∷◌, ◌++◌, length, take, drop, Option, Some, Ok, Err, refl, sym, ap, ◌∙◌, subst, arith}
+use Rattle.cap_io.proofs.Common.{lt-leb, take-take, length-take-le, take-append-drop, length-append, checked, first_failing, checked_ok, checked_err, Captured}
+use Rattle.cap_io.proofs.Common.{Fault, Truncated, Order, Head, RecordHead, header_fault, header_in, header_in-append, header_fault-append, field_checks}
+use Rattle.cap_io.proofs.Common.{field_checks-append, record_header_in, record_header_in-append, record_fault, record_fault-fields, record_fault-short}
+use Rattle.cap_io.proofs.Common.{captured_len, most_captured, most_in_unit, is_section, frame_checks-append, frame_in-append, frame_fault, frame_in}
+use Rattle.cap_io.proofs.Common.{most_interfaces, Described, Section, block_size, interfaces_before, order_before, packets_in, parts_after, parts_in}
+use Rattle.cap_io.proofs.Common.{parts_in-append, unit_fault, unit_fault-frame, unit_fault-short, Frame, PacketSpans, IsBlockFault, section_of, FileState}
+use Rattle.cap_io.proofs.Common.{Declared, Nothing, PcapFile, PcapngFile, Whole, NoUnit, IsUnit}
+use Rattle.cap_io.proofs.Common.{file_after, first_link_after, front_of, is_pcapng, declared_by, packet_in_unit, known_first_link, known_order, section_before}
+use Rattle.cap_io.proofs.Common.{HasInterface, IsConsistent, BeginsWithPacket, PacketCame, append_assoc, record_spans}
+use Rattle.cap_io.proofs.Fronts.{block_unless, front_of-following, front_of-pcapng, front_of-no_record, front_of_block-none, is_pcapng-append}
 use Rattle.cap_io.proofs.Came.{fields_came, record_came}
-use Rattle.cap_io.proofs.OwnFaults.{one_more}
 use Rattle.cap_io.proofs.Units.{block-front, front_of-is, front_of-unit}
 use Rattle.cap_io.specs.FirstUnit.{BeginsWithUnit, HoldsPackets}
 use Rattle.cap_io.specs.inside.Reading.{BeginsAt}
 use Rattle.cap_pcapng.specs.Block.{Parts}
-use Rattle.cap_pcapng.specs.Effect.{FitsIfAny, HasEffect, LieAsSaid, LiesAsSaid, interfaces_after, packet_in_effect}
-use Rattle.cap_pcapng.specs.Interface.{description_of}
+use Rattle.cap_pcapng.specs.Effect.{FitsIfAny, HasEffect, LiesAsSaid, interfaces_after, packet_in_effect}
 use Rattle.cap_pcapng.specs.declared.effect.BlockEffect.{BlockEffect}
 use Rattle.cap_io.specs.declared.file_state.FileState.TheVariants as state
 use Rattle.cap_pcapng.specs.declared.effect.BlockEffect.TheVariants as does
@@ -39,20 +33,7 @@ pub head_taken : (text : List ℕ) → 24 ≤ length text → checked (header_fa
     (header_in text)
 head_taken text enough =
     let joined : take 24 text ++ drop 24 text ≡ text = take-append-drop 24 text in
-    let front : length (take 24 text) ≡ 24 = length-take-le 24 text enough in
-    let fault : header_fault text ≡ header_fault (take 24 text) = ap header_fault (sym joined) ∙ header_fault-append (take 24 text) (drop 24 text)
-    (omega arith) in
-    let head : header_in text ≡ header_in (take 24 text) = ap header_in (sym joined) ∙ header_in-append (take 24 text) (drop 24 text) (omega arith) in
-    ap (λ f. checked f (header_in (take 24 text))) (sym fault) ∙ ap (checked (header_fault text)) (sym head)
-
-pub header-begins : (interfaces : List Described) (text : List ℕ) (head : Head) → is_pcapng text ≡ false
-    → Ok head ≡ checked (header_fault text) (header_in text)
-    → BeginsWithUnit state.Unknown interfaces text (record { size = 24; file = state.Pcap head; effect = does.Nothing })
-header-begins interfaces text head other is = search rules
-
-pub header-refused : (text : List ℕ) (fault : Fault) → is_pcapng text ≡ false → Err fault ≡ checked (header_fault text) (header_in text)
-    → front_of Nothing text ≡ NoUnit (Some fault)
-header-refused text fault other is = front_of-no_header text fault other (checked_err (header_fault text) (header_in text) fault (sym is))
+    grind (arith, length-take-le, header_fault-append, header_in-append, checked)
 
 -- ---- a record
 
@@ -143,12 +124,7 @@ framed section text front frame enough same is =
     let upper_bound : length (take 12 text) ≡ 12 = length-take-le 12 text enough in
     let joined : take 12 text ++ drop 12 text ≡ text = take-append-drop 12 text in
     let said = front_says section front (Ok frame) frame is refl in
-    record {
-      passes = ap (frame_fault section) (sym joined) ∙ ap first_failing (frame_checks-append section (take 12 text) (drop 12 text) (omega arith))
-          ∙ ap (frame_fault section) (sym same) ∙ said.passes;
-      says = ap (frame_in section) (sym joined) ∙ frame_in-append section (take 12 text) (drop 12 text) (omega arith) ∙ ap (frame_in section) (sym same)
-          ∙ said.says;
-    }
+    grind (arith, frame_checks-append, frame_in-append)
 
 pub frame_fails : (before : Option Section) (section : Option Order) (text front : List ℕ) (fault : Fault) → order_before before ≡ section
     → 12 ≤ length text → front ≡ take 12 text
@@ -158,14 +134,11 @@ frame_fails before section text front fault is enough same exact =
     let fails : frame_fault section front ≡ Some fault = checked_err (frame_fault section front) (frame_in section front) fault (sym exact) in
     let upper_bound : length (take 12 text) ≡ 12 = length-take-le 12 text enough in
     unit_fault-frame before text fault enough
-    (ap (λ o. frame_fault o text) is ∙ ap (frame_fault section) (sym joined)
-    ∙ ap first_failing (frame_checks-append section (take 12 text) (drop 12 text) (omega arith)) ∙ ap (frame_fault section) (sym same) ∙ fails)
+    (grind (arith, frame_checks-append))
 
 pub block_cut : (before : Option Section) (text : List ℕ) (frame : Frame) → 12 ≤ length text → FrontSays (order_before before) text frame
     → length text < frame.length → unit_fault before text ≡ Some Truncated
-block_cut before text frame enough f short =
-    let size : block_size before text ≡ frame.length = ap (λ (g : Frame). g.length) f.says in
-    unit_fault-short before text enough f.passes (omega (arith, short, size))
+block_cut before text frame enough f short = grind (arith, block_size, unit_fault-short)
 
 -- ---- a block
 
@@ -174,19 +147,16 @@ front_at : (file : FileState) (interfaces : List Described) (text : List ℕ) �
     ≡ block_unless (unit_fault (section_before file interfaces) text) (known_first_link file) (section_before file interfaces) text
 front_at state.Unknown interfaces text begins some = front_of-pcapng text begins
 front_at (state.Pcap head) interfaces text begins some = absurd begins
-front_at (state.Pcapng order first) interfaces text begins some = front_of-following first (section_of order interfaces) text some
+front_at (state.Pcapng order first) interfaces text begins some = grind (arith, front_of-following)
 
 -- a block that fails a check
 pub block-none : (file : FileState) (interfaces : List Described) (text : List ℕ) (fault : Fault) → BeginsAt file text → 0 < length text
     → unit_fault (section_before file interfaces) text ≡ Some fault → front_of (declared_by file interfaces) text ≡ NoUnit (Some fault)
-block-none file interfaces text fault begins some fails =
-    front_at file interfaces text begins some ∙ front_of_block-none (known_first_link file) (section_before file interfaces) text fault fails
+block-none file interfaces text fault begins some fails = grind (arith, front_at, front_of_block-none)
 
 interfaces-at : (file : FileState) (interfaces : List Described) (text : List ℕ) → BeginsAt file text → (file ≡ state.Unknown → interfaces ≡ [])
     → interfaces_before (section_before file interfaces) ≡ interfaces
-interfaces-at state.Unknown interfaces text begins bare = sym (bare refl)
-interfaces-at (state.Pcap head) interfaces text begins bare = absurd begins
-interfaces-at (state.Pcapng order first) interfaces text begins bare = refl
+interfaces-at file interfaces text begins bare = grind arith
 
 -- the whole block at the start of the bytes
 whole : (section : Option Order) (text front : List ℕ) (frame : Frame) → 12 ≤ length text → front ≡ take 12 text
@@ -195,7 +165,7 @@ whole : (section : Option Order) (text front : List ℕ) (frame : Frame) → 12 
 whole section text front frame enough same is least there =
     let size : length (take frame.length text) ≡ frame.length = length-take-le frame.length text there in
     let f = framed section (take frame.length text) front frame (omega arith) (same ∙ sym (take-take 12 frame.length text least)) is in
-    record { passes = f.passes; says = f.says; splits = sym (take-append-drop frame.length text) }
+    grind (arith, take-append-drop)
 
 pub block-refused : (file : FileState) (interfaces : List Described) (text front : List ℕ) (frame : Frame) (fault : Fault) → BeginsAt file text
     → (file ≡ state.Unknown → interfaces ≡ []) → 12 ≤ length text → front ≡ take 12 text
@@ -221,34 +191,16 @@ packets-at : (file : FileState) (interfaces : List Described) (text rest : List 
     → FitsIfAny (packet_in_effect effect) size → LiesAsSaid (parts_after (section_before file interfaces) text) effect
     → HoldsPackets (PcapngFile link (section_of order (interfaces_after effect interfaces))) text size effect
     (packets_in (section_before file interfaces) (take size text))
-packets-at state.Unknown interfaces text rest order size link (does.Packet spans) begins b fits lies =
-    let none : [] ≡ b.packet.packet ∷ [] = sym (first-packets (take size text) b.is_block) ∙ b.packet.stands in absurd (cc)
+packets-at state.Unknown interfaces text rest order size link (does.Packet spans) begins b fits lies = grind (arith, first-packets)
 packets-at (state.Pcap head) interfaces text rest order size link (does.Packet spans) begins b fits lies = absurd begins
-packets-at (state.Pcapng own first) interfaces text rest order size link (does.Packet spans) begins b fits lies =
-    let kept : section_of order interfaces ≡ section_of own interfaces =
-    sym b.section ∙ section-kept (section_of own interfaces) (take size text) b.packet.packet b.packet.stands in
-    record {
-      packet = b.packet.packet;
-      only = b.packet.stands;
-      is_lent = b.packet.is_lent;
-      lies = subst (λ (s : Section). LieAsSaid (parts_after (Some s) text) spans) (sym kept) lies;
-      whole = fits.0;
-      bytes = fits.1;
-      options = fits.3;
-      time = fits.2;
-    }
+packets-at (state.Pcapng own first) interfaces text rest order size link (does.Packet spans) begins b fits lies = search (arith, section-kept, whole)
 packets-at file interfaces text rest order size link does.Section begins b fits lies = b.packet
 packets-at file interfaces text rest order size link (does.Interface i) begins b fits lies = b.packet
 packets-at file interfaces text rest order size link does.Nothing begins b fits lies = b.packet
 
 fits-after : (frame : Frame) (interfaces : List Described) (block : List ℕ) (effect : BlockEffect) → HasEffect frame interfaces block effect
     → length interfaces ≤ most_interfaces → length (interfaces_after effect interfaces) ≤ most_interfaces
-fits-after frame interfaces block does.Section has few = omega arith
-fits-after frame interfaces block (does.Interface i) has few =
-    let one = one_more frame.order interfaces (description_of i) (parts_in frame block) has.section has.among in
-    omega (arith, one.0, length-append interfaces (description_of i ∷ []))
-fits-after frame interfaces block (does.Packet spans) has few = few
-fits-after frame interfaces block does.Nothing has few = few
+fits-after frame interfaces block effect has few = grind (arith, parts_in, length-append)
 
 pub block-begins : (file : FileState) (interfaces : List Described) (text front : List ℕ) (frame : Frame) (effect : BlockEffect) (link : Option ℕ)
     → BeginsAt file text → (file ≡ state.Unknown → interfaces ≡ []) → 12 ≤ length text → front ≡ take 12 text
@@ -276,8 +228,7 @@ block-begins file interfaces text front frame effect link begins bare enough sam
           ∙ ap (λ n. Whole n (packets_in before block) (file_after first before block)) (length-take-le size text there)
           ∙ ap (λ (s : Section). Whole size (packets_in before block) (PcapngFile (first_link_after first s) s)) b.section
           ∙ ap (λ l. Whole size (packets_in before block) (PcapngFile l (section_of frame.order (interfaces_after effect interfaces)))) (sym link_is);
-      has = packets-at file interfaces text (drop size text) frame.order size link effect begins b has.fits
-          (subst L (sym (parts_taken before text frame least there f)) lies);
+      has = grind (arith, packets-at, parts_taken);
       there = there;
       some = omega arith;
       small = small;
@@ -290,13 +241,7 @@ block-begins file interfaces text front frame effect link begins bare enough sam
 -- its interface is declared
 pub has-interface : (declared : Declared) (spans : PacketSpans) (block : List ℕ) (packet : Captured) → packet_in_unit declared spans block ≡ Some packet
     → HasInterface declared spans
-has-interface Nothing spans block packet is = absurd (cc)
-has-interface (PcapFile head) spans block packet is = tt
-has-interface (PcapngFile first section) spans block packet is = by_found (slice_get section.interfaces spans.interface) _ is
-  where
-    by_found : (found : Option Described) (f : Described → Captured) → option_map f found ≡ Some packet → is_some found ≡ true
-    by_found None f is = absurd (cc)
-    by_found (Some i) f is = refl
+has-interface declared spans block packet is = grind arith
 
 -- what is declared before it stays
 abbrev IsExact : Declared → Type 0
@@ -304,17 +249,10 @@ IsExact (PcapngFile first section) = first_link_after first section ≡ first
 IsExact declared = Unit {0}
 
 exact : (file : FileState) (interfaces : List Described) → IsConsistent file interfaces → IsExact (declared_by file interfaces)
-exact state.Unknown interfaces consistent = tt
-exact (state.Pcap head) interfaces consistent = tt
-exact (state.Pcapng order first) interfaces consistent = consistent.0
+exact file interfaces consistent = grind arith
 
 kept : {b : Declared} {u : List ℕ} {qs : List Captured} {c : Declared} (packet : Captured) → IsUnit b u qs c → qs ≡ packet ∷ [] → IsExact b → c ≡ b
-kept packet (a_pcap_header bytes head is) one fixed = absurd (cc)
-kept packet (a_pcap_record head bytes is) one fixed = refl
-kept packet (a_first_block bytes is) one fixed = absurd (let none : [] ≡ packet ∷ [] = sym (first-packets bytes is) ∙ one in cc)
-kept packet (a_block first section bytes is) one fixed =
-    ap (λ (s : Section). PcapngFile (first_link_after first s) s) (section-kept section bytes packet one)
-    ∙ ap (λ l. PcapngFile l section) fixed
+kept packet h one fixed = grind (arith, first-packets, section-kept)
 
 -- the place of its packet
 pub packet-first : (file after : FileState) (interfaces : List Described) (bytes : List ℕ) (size : ℕ) (spans : PacketSpans)
@@ -325,23 +263,4 @@ packet-first file after interfaces bytes size spans consistent b =
     let p = b.has in
     let is = front_of-is declared bytes size b.packets (declared_by after interfaces) b.front in
     let stays : declared_by after interfaces ≡ declared = kept p.packet is.unit p.only (exact file interfaces consistent) in
-    let block : take size bytes ≡ take spans.size bytes = ap (λ n. take n bytes) (sym p.whole) in
-    let lent : packet_in_unit declared spans (take spans.size bytes) ≡ Some p.packet = rw (stays, block) at p.is_lent in
-    record {
-      lies = record {
-        bytes = omega (arith, p.whole, p.bytes);
-        options = omega (arith, p.whole, p.options);
-        there = omega (arith, p.whole, b.there);
-        some = omega (arith, p.whole, b.some);
-        small = omega (arith, p.whole, b.small);
-        time = p.time;
-      };
-      known = has-interface declared spans (take spans.size bytes) p.packet lent;
-      came = record {
-        packet = p.packet;
-        is_lent = lent;
-        unit = rw (stays, p.only, block) at is.unit;
-        same = refl;
-        splits = sym (take-append-drop spans.size bytes);
-      };
-    }
+    grind (arith, has-interface, take-append-drop)

@@ -1,9 +1,7 @@
 -- A record that the device has at hand is the next unit.
-use Rattle.cap_io.proofs.Common.{rules, ◌≡◌, ℕ, Bool, true, IsTrue, is_some, ◌+◌, ◌^◌, ◌<◌, ◌≤◌, List, ◌++◌, length, take, drop, refl, sym, ap, ◌∙◌}
-use Rattle.cap_io.proofs.Common.{arith, length-take, length-take-le, take-take, take-append-drop, HasGiven}
-use Rattle.cap_io.proofs.Common.{PacketSpans, most_in_unit, packet_in_unit, PacketCame, Declared, ap₂}
-use Rattle.cap_io.proofs.Common.{SourceView, Reading, HasInterface, Option, Some, None, option_map, Captured, end_offset}
-use Rattle.cap_io.proofs.Common.{BeginsWithPacket, UnitLent, TakesIfAtHand, TakesNext, false}
+use Rattle.cap_io.proofs.Common.{rules, ◌≡◌, ℕ, Bool, true, IsTrue, is_some, ◌+◌, ◌^◌, ◌<◌, ◌≤◌, List, ◌++◌, length, take, drop, ap, ◌∙◌, arith}
+use Rattle.cap_io.proofs.Common.{length-take, length-take-le, take-take, take-append-drop, HasGiven, PacketSpans, most_in_unit, packet_in_unit, PacketCame}
+use Rattle.cap_io.proofs.Common.{Declared, SourceView, Reading, HasInterface, end_offset, BeginsWithPacket, UnitLent, TakesIfAtHand, TakesNext, false}
 use Rattle.cap_io.proofs.Passing.{FindsPacket-next, time-held}
 use Rattle.cap_io.specs.inside.Lending.{Lends}
 use Rattle.cap_io.specs.declared.lending.Lending.{Lending}
@@ -11,25 +9,19 @@ use Rattle.cap_octet.specs.declared.device.Input.{Ghosts}
 
 -- bytes that begin with others begin alike
 pub begins-same : (bytes front : List ℕ) (size : ℕ) → take (length front) bytes ≡ front → size ≤ length front → take size front ≡ take size bytes
-begins-same bytes front size begins within = ap (take size) (sym begins) ∙ take-take size (length front) bytes within
+begins-same bytes front size begins within = grind (arith, take-take)
 
 pub begins-long : (bytes front : List ℕ) (size : ℕ) → take (length front) bytes ≡ front → size ≤ length front → size ≤ length bytes
-begins-long bytes front size begins within = omega (arith, within, length-take (length front) bytes, ap length begins)
+begins-long bytes front size begins within = grind (arith, length-take)
 
 -- it is the first of what comes
 pub lent-first : (unread hand : List ℕ) (size : ℕ) → take (length hand) unread ≡ hand → size ≤ length hand → unread ≡ take size hand ++ drop size unread
-lent-first unread hand size starts within =
-    let same : take size unread ≡ take size hand = sym (take-take size (length hand) unread within) ∙ ap (take size) starts in
-    sym (take-append-drop size unread) ∙ ap (λ (x : List ℕ). x ++ drop size unread) same
+lent-first unread hand size starts within = grind (arith, take-take, take-append-drop)
 
 -- a packet whose interface is known is there
 pub packet-there : (declared : Declared) (spans : PacketSpans) (block : List ℕ) → HasInterface declared spans
     → is_some (packet_in_unit declared spans block) ≡ true
-packet-there declared spans block known = by_packet (packet_in_unit declared spans block) (time-held declared spans block known)
-  where
-    by_packet : (packet : Option Captured) → Some spans.time ≡ option_map (λ p. p.time) packet → is_some packet ≡ true
-    by_packet None told = (cc)
-    by_packet (Some packet) told = refl
+packet-there declared spans block known = grind (arith, time-held)
 
 -- A source ended its current unit, and took the next one, which begins at hand with a packet: the device still has it at hand, as `held`.
 pub takes-next : (tells : Bool) (spans : PacketSpans) (hand held : List ℕ) (old new : SourceView) → BeginsWithPacket old.declared hand spans
@@ -45,13 +37,7 @@ takes-next tells spans hand held old new begins stays starts left declared fits 
     let whole : length (take spans.size held) ≡ spans.size = length-take-le spans.size held (begins-long held hand spans.size stays there) in
     let known : HasInterface new.declared spans = rw declared begins.known in
     let some : is_some new.packet ≡ true = ap is_some packet ∙ packet-there new.declared spans (take spans.size held) known in
-    let next : IsTrue tells → PacketCame old.declared old.unread held spans new.declared new.unread = λ t. record {
-      packet = came.packet;
-      is_lent = rw (← same) came.is_lent;
-      unit = rw (← same) came.unit;
-      same = declared;
-      splits = lent-first old.unread hand spans.size (starts t) there ∙ ap₂ (λ (x y : List ℕ). x ++ y) same (sym left);
-    } in
+    let next : IsTrue tells → PacketCame old.declared old.unread held spans new.declared new.unread = grind (arith, lent-first) in
     record {
       packet = λ t. FindsPacket-next old new spans held (next t) block packet offset (omega (arith, room)) (omega (arith, whole, fits)) phase;
       bounds = search rules;
@@ -62,15 +48,9 @@ pub unit-lent : {I : Type 0} (device : Ghosts I) (declared : Declared) (room : �
     (old new : Lending I device) → BeginsWithPacket declared hand packet → hand ≡ drop old.lent (device.held old.input)
     → (IsTrue device.tells → take (length hand) (drop old.lent (device.unread old.input)) ≡ hand) → (spans ≡ packet) × (packet.size ≤ room)
     → Lends device packet.size old.input old.lent new.input new.lent → UnitLent device declared room old spans new
-unit-lent device declared room hand packet spans old new begins same comes place lends = rw place.0 (record {
-  begins = rw (← same) begins;
-  comes = λ t. rw (← same) (comes t);
-  fits = place.1;
-  lends = lends;
-})
+unit-lent device declared room hand packet spans old new begins same comes place lends = grind arith
 
 -- what `take_at_hand` returns
 pub if-at-hand : (tells : Bool) (old new : SourceView) (r : Bool) → old.phase ≡ Reading → (IsTrue r → TakesNext tells old new)
     → (r ≡ false → new ≡ old) → TakesIfAtHand tells old r new
-if-at-hand tells old new true reading found nothing = search rules
-if-at-hand tells old new false reading found nothing = nothing refl
+if-at-hand tells old new r reading found nothing = grind arith

@@ -1,13 +1,10 @@
 -- The different interfaces of packets, in the order of first use.
-use Rattle.cap_io.proofs.Common.{rules}
-use Rattle.cap_io.proofs.Common.{◌≡◌, ◌≤◌, ◌&&◌, ◌||◌, ◌+◌, suc, Bool, true, false, not, cond, if◌then◌else◌, Some, number_among, is_among, refl, ap, List, []}
-use Rattle.cap_io.proofs.Common.{◌∷◌, ◌++◌, length, nat_eq, sym, arith, fold, fold-append, and_parts, eqb-true, Captured, Format, Pcapng, Interface}
-use Rattle.cap_io.proofs.Common.{interface_of, is_same, new_among, interfaces_after_packet, kept_interfaces, ℕ, map, nat_le, ◌∙◌, ◌<◌, list_any}
-use Rattle.cap_io.proofs.Common.{position_or_len, append-nil, map-append, length-append, le-leb, lt-leb, most_output_interfaces, interface_in, zero, All-append}
-use Rattle.cap_io.proofs.Common.{All-nil, All-push, All, HasNumber, IsFirst, FitFile, InterfaceNumber}
+use Rattle.cap_io.proofs.Common.{rules, ◌≡◌, ◌≤◌, ◌||◌, ◌+◌, suc, Bool, true, false, not, cond, if◌then◌else◌, Some, number_among, is_among, refl, ap, List, []}
+use Rattle.cap_io.proofs.Common.{◌∷◌, ◌++◌, length, sym, arith, fold, fold-append, Captured, Format, Pcapng, Interface, interface_of, is_same, new_among}
+use Rattle.cap_io.proofs.Common.{interfaces_after_packet, kept_interfaces, ℕ, map, nat_le, ◌<◌, list_any, position_or_len, append-nil, map-append}
+use Rattle.cap_io.proofs.Common.{length-append, le-leb, lt-leb, most_output_interfaces, interface_in, zero, All-append, All, HasNumber, IsFirst}
+use Rattle.cap_io.proofs.Common.{FitFile, InterfaceNumber}
 use Rattle.std.proofs.{Common.length-append, Common.slice_get, Math.Bool.or-true}
-use Rattle.std.proofs.lemmas.Cmp.{nat_eq_equiv, nat_list_eq_equiv}
-use Rattle.std.specs.Cmp.Lexicographic.{pointwise, same_text}
 use Rattle.cap_io.specs.declared.numbering.InterfaceKey.{InterfaceKey}
 
 -- ---- the same
@@ -19,15 +16,12 @@ same_interface i j same = search rules
 
 pub kept-push : (format : Format) (ps : List Captured) (p : Captured) → kept_interfaces format (ps ++ p ∷ []) ≡ interfaces_after_packet format
     (kept_interfaces format ps) p
-kept-push format ps p = fold-append (interfaces_after_packet format) [] ps (p ∷ [])
+kept-push format ps p = grind (arith, fold-append)
 
 -- no interface is given up
 pub kept-grows : (interfaces : List Interface) (ps : List Captured) → length interfaces ≤ length (fold (interfaces_after_packet Pcapng) interfaces ps)
 kept-grows interfaces [] = omega arith
-kept-grows interfaces (p ∷ ps) =
-    let more = kept-grows (interfaces ++ new_among interfaces (interface_of p)) ps in
-    let size = length-append interfaces (new_among interfaces (interface_of p)) in
-    omega (arith, more, size)
+kept-grows interfaces (p ∷ ps) = grind (arith, length-append, (kept-grows (interfaces ++ new_among interfaces (interface_of p)) ps))
 
 -- ---- an interface has its number
 
@@ -35,7 +29,7 @@ found-by : (b : Bool) (x i : Interface) (xs : List Interface) → is_same i x �
     → slice_get (xs ++ new_among xs i) (number_among xs i) ≡ Some i
     → slice_get ((x ∷ xs) ++ (if (b || is_among xs i) then [] else i ∷ [])) (cond (not b) (1 + number_among xs i) 0) ≡ Some i
 found-by true x i xs same later = ap Some (sym (same_interface i x same))
-found-by false x i xs same later = let e : 1 + number_among xs i ≡ suc (number_among xs i) = omega arith in rw e later
+found-by false x i xs same later = grind arith
 
 -- it is found at its number, also where it is new
 pub found : (interfaces : List Interface) (i : Interface) → slice_get (interfaces ++ new_among interfaces i) (number_among interfaces i) ≡ Some i
@@ -48,66 +42,57 @@ same_key k l = is_same (interface_in k) (interface_in l)
 
 pub among-keys : (keys : List InterfaceKey) (k : InterfaceKey) → list_any (same_key k) keys ≡ is_among (map interface_in keys) (interface_in k)
 among-keys [] k = refl
-among-keys (x ∷ keys) k = ap (λ (b : Bool). same_key k x || b) (among-keys keys k)
+among-keys (x ∷ keys) k = grind (arith, (among-keys keys k))
 
 pub number-keys : (keys : List InterfaceKey) (k : InterfaceKey) → position_or_len (same_key k) keys ≡ number_among (map interface_in keys) (interface_in k)
 number-keys [] k = refl
-number-keys (x ∷ keys) k = ap (λ (n : ℕ). cond (not (same_key k x)) (1 + n) 0) (number-keys keys k)
+number-keys (x ∷ keys) k = grind (arith, not, (number-keys keys k))
 
 push-key : (b : Bool) (keys : List InterfaceKey) (k : InterfaceKey) → map interface_in (if b then keys else keys ++ k ∷ []) ≡ map interface_in keys
     ++ (if b then [] else interface_in k ∷ [])
-push-key true keys k = sym (append-nil (map interface_in keys))
-push-key false keys k = map-append interface_in keys (k ∷ [])
+push-key b keys k = grind (arith, append-nil, map-append)
 
 pub insert-keys : (keys : List InterfaceKey) (k : InterfaceKey)
     → map interface_in (if list_any (same_key k) keys then keys else keys ++ k ∷ []) ≡ map interface_in keys ++ new_among (map interface_in keys)
     (interface_in k)
-insert-keys keys k = push-key (list_any (same_key k) keys) keys k
-    ∙ ap (λ (b : Bool). map interface_in keys ++ (if b then [] else interface_in k ∷ [])) (among-keys keys k)
+insert-keys keys k = grind (arith, push-key, among-keys)
 
 -- ---- room
 
 fewer : (b : Bool) (n : ℕ) (keys : List Interface) (i : Interface) → length keys < n → length (keys ++ (if b then [] else i ∷ [])) ≤ n
-fewer true n keys i upper_bound = simp append-nil (omega arith)
-fewer false n keys i upper_bound = simp length-append (omega arith)
+fewer b n keys i upper_bound = grind (arith, append-nil, length-append)
 
 -- one more may be had where there are fewer
 pub room-below : (keys : List Interface) (i : Interface) → length keys < most_output_interfaces → nat_le (length (keys ++ new_among keys i))
     most_output_interfaces ≡ true
-room-below keys i upper_bound = le-leb (length (keys ++ new_among keys i)) most_output_interfaces
-    (fewer (is_among keys i) most_output_interfaces keys i upper_bound)
+room-below keys i upper_bound = grind (arith, le-leb, fewer)
 
 full-by : (b : Bool) (n : ℕ) (keys : List Interface) (i : Interface) → length keys ≡ n → nat_le (length (keys ++ (if b then [] else i ∷ []))) n ≡ b
-full-by true n keys i full = le-leb (length (keys ++ [])) n (simp append-nil (omega arith))
-full-by false n keys i full = lt-leb (length (keys ++ i ∷ [])) n (simp length-append (omega arith))
+full-by b n keys i full = grind (arith, le-leb, append-nil, lt-leb, length-append)
 
 -- if there are as many interfaces as may be, there is room only for one of them
 pub room-full : (keys : List Interface) (i : Interface) → length keys ≡ most_output_interfaces → nat_le (length (keys ++ new_among keys i))
     most_output_interfaces ≡ is_among keys i
-room-full keys i full = full-by (is_among keys i) most_output_interfaces keys i full
+room-full keys i full = grind (arith, full-by)
 
 some_is : (i j : Interface) → Some i ≡ Some j → i ≡ j
 some_is i j same = (cc)
 
 same-self : (i : Interface) → is_same i i ≡ true
-same-self i = rw (nat_eq_equiv.refl i.link, nat_eq_equiv.refl i.snap) (nat_list_eq_equiv.refl i.name)
+same-self i = search rules
 
 -- ---- its number stays
 
 number-by : (b : Bool) (i : Interface) (xs : List Interface) → number_among (xs ++ new_among xs i) i ≡ number_among xs i
     → cond (not b) (1 + number_among (xs ++ (if b || is_among xs i then [] else i ∷ [])) i) 0 ≡ cond (not b) (1 + number_among xs i) 0
-number-by true i xs stays = refl
-number-by false i xs stays = ap (λ (n : ℕ). 1 + n) stays
+number-by b i xs stays = grind arith
 
 number-stays : (old : List Interface) (i : Interface) → number_among (old ++ new_among old i) i ≡ number_among old i
-number-stays [] i = ap (λ (b : Bool). cond (not b) 1 0) (same-self i)
+number-stays [] i = grind (arith, not, same-self)
 number-stays (x ∷ xs) i = number-by (is_same i x) i xs (number-stays xs i)
 
 pub first-following : (old new : List Interface) (i : Interface) (place : InterfaceNumber) → HasNumber old i place new → IsFirst place.number new
-first-following old new i place has j there =
-    let at : slice_get new place.number ≡ Some i = rw (has.interfaces, has.number) (found old i) in
-    let same : j ≡ i = some_is j i (sym there ∙ at) in
-    rw (same, has.interfaces, has.number) (number-stays old i)
+first-following old new i place has j there = grind (arith, found, some_is, number-stays)
 
 -- ---- the bounds after one more
 
@@ -116,8 +101,7 @@ IsShort i = length i.name ≤ 255
 
 new-short : (b : Bool) (i : Interface) → length i.name ≤ 255 → All IsShort (if b then [] else i ∷ [])
 unfolding IsShort
-new-short true i short = All-nil IsShort
-new-short false i short = All-push IsShort [] i (All-nil IsShort) short
+new-short b i short = grind (arith, IsShort)
 
 pub few-following : (old new : List Interface) (i : Interface) (place : InterfaceNumber) → FitFile old → length (old ++ new_among old i) ≤
     most_output_interfaces → length i.name ≤ 255
@@ -131,16 +115,9 @@ few-following old new i place upper_bound room short has =
 
 among-at : (interfaces : List Interface) (n : ℕ) (i : Interface) → slice_get interfaces n ≡ Some i → is_among interfaces i ≡ true
 among-at [] n i there = (cc)
-among-at (x ∷ xs) zero i there =
-    ap (λ (b : Bool). b || is_among xs i) (ap (is_same i) (some_is x i there) ∙ same-self i)
-among-at (x ∷ xs) (suc n) i there = ap (λ (b : Bool). is_same i x || b) (among-at xs n i there) ∙ or-true (is_same i x)
+among-at (x ∷ xs) zero i there = grind (arith, some_is, same-self)
+among-at (x ∷ xs) (suc n) i there = grind (arith, or-true, (among-at xs n i there))
 
 pub place-of-last : (interfaces : List Interface) (last : ℕ) (i : Interface) → IsFirst last interfaces → slice_get interfaces last ≡ Some i
     → HasNumber interfaces i (record { number = last; is_new = false }) interfaces
-place-of-last interfaces last i first there =
-    let among : is_among interfaces i ≡ true = among-at interfaces last i there in
-    record {
-      number = sym (first i there);
-      is_new = ap not (sym among);
-      interfaces = sym (append-nil interfaces) ∙ ap (λ (b : Bool). interfaces ++ (if b then [] else i ∷ [])) (sym among);
-    }
+place-of-last interfaces last i first there = grind (arith, among-at, not, append-nil)

@@ -1,7 +1,6 @@
 -- The order of a merge is sorted, has each packet once, and keeps the order of each input.
-use Rattle.cap_io.proofs.Common.{◌≡◌, inl, inr, ℕ, ◌+◌, ◌<◌, ◌≤◌, Bool, true, false, if◌then◌else◌, max, List, [], ◌∷◌, ◌++◌, refl, sym, ◌∙◌, ap, arith, nat_eq}
+use Rattle.cap_io.proofs.Common.{◌≡◌, ℕ, ◌+◌, ◌<◌, ◌≤◌, true, false, if◌then◌else◌, max, List, [], ◌∷◌, ◌++◌, refl, sym, ap, arith, nat_eq}
 use Rattle.cap_io.proofs.Common.{subst, IsPermutation, Placed, Ending}
-use Rattle.std.proofs.lemmas.Bool.{cases_order, Decides.nat_tests}
 use Rattle.std.specs.List.{AllByRecursion}
 use Rattle.std.proofs.lemmas.List.Sorted.{IsPermutation-refl, IsPermutation-trans, IsPermutation-cons, IsPermutation-middle}
 use Rattle.cap_io.specs.Merging.{AreSorted, IsNoLater, IsNoLaterThan, MergesSort, StopAtFault, StopsBy, events_of, of_input}
@@ -11,24 +10,13 @@ use Rattle.cap_io.specs.Sequence.{fault_without_packets, insert_entry, sequence_
 -- ---- before and after
 
 before : (x y : Entry) → comes_before x y ≡ true → IsNoLater x y
-before x y is = elim (cases_order x.key y.key) [
-  | inl same ↦ inr (same, grind (arith, nat_tests, same, is))
-  | inr (inl less) ↦ inl less
-  | inr (inr more) ↦ absurd (grind (arith, nat_tests, more, is))
-]
+before x y is = grind arith
 
 not-before : (x y : Entry) → comes_before x y ≡ false → IsNoLater y x
-not-before x y is = elim (cases_order x.key y.key) [
-  | inl same ↦ inr (sym same, grind (arith, nat_tests, same, is))
-  | inr (inl less) ↦ absurd (grind (arith, nat_tests, less, is))
-  | inr (inr more) ↦ inl more
-]
+not-before x y is = grind arith
 
 no-later-trans : (x y z : Entry) → IsNoLater x y → IsNoLater y z → IsNoLater x z
-no-later-trans x y z (inl a) (inl b) = inl (omega (arith, a, b))
-no-later-trans x y z (inl a) (inr b) = inl (let e = b.0 in omega (arith, a, e))
-no-later-trans x y z (inr a) (inl b) = inl (let e = a.0 in omega (arith, b, e))
-no-later-trans x y z (inr a) (inr b) = inr (a.0 ∙ b.0, (let l = a.1 in let m = b.1 in omega (arith, l, m)))
+no-later-trans x y z h h1 = grind arith
 
 no-later-all : (e x : Entry) (xs : List Entry) → IsNoLater e x → IsNoLaterThan x xs → IsNoLaterThan e xs
 no-later-all e x [] first all = tt
@@ -38,17 +26,11 @@ no-later-all e x (y ∷ ys) first all = (no-later-trans e x y first all.0, no-la
 
 no-later-insert : (e x : Entry) (xs : List Entry) → IsNoLater e x → IsNoLaterThan e xs → IsNoLaterThan e (insert_entry x xs)
 no-later-insert e x [] first all = (first, tt)
-no-later-insert e x (y ∷ ys) first all =
-    elim (comes_before y x) as (λ b. IsNoLaterThan e (if b then y ∷ insert_entry x ys else x ∷ y ∷ ys))
-    [ true ↦ (all.0, no-later-insert e x ys first all.1) | false ↦ (first, all) ]
+no-later-insert e x (y ∷ ys) first all = grind (arith, (no-later-insert e x ys first all.1))
 
 sorted-insert : (e : Entry) (es : List Entry) → AreSorted es → AreSorted (insert_entry e es)
 sorted-insert e [] all = (tt, tt)
-sorted-insert e (x ∷ xs) all = by_place (sorted-insert e xs all.1) (comes_before x e) refl
-  where
-    by_place : AreSorted (insert_entry e xs) → (b : Bool) → comes_before x e ≡ b → AreSorted (if b then x ∷ insert_entry e xs else e ∷ x ∷ xs)
-    by_place more true is = (no-later-insert x e xs (before x e is) all.0, more)
-    by_place more false is = ((not-before x e is, no-later-all e x xs (not-before x e is) all.0), all)
+sorted-insert e (x ∷ xs) all = grind (arith, no-later-insert, before, not-before, no-later-all, (sorted-insert e xs all.1))
 
 sorted : (es : List Entry) → AreSorted (sort_entries es)
 sorted [] = tt
@@ -61,8 +43,7 @@ permuted-insert e [] = IsPermutation-refl (e ∷ [])
 permuted-insert e (x ∷ xs) =
     let later : IsPermutation (e ∷ x ∷ xs) (x ∷ insert_entry e xs) = IsPermutation-trans _ _ _ (IsPermutation-middle (e ∷ []) x xs)
     (IsPermutation-cons x _ _ (permuted-insert e xs)) in
-    elim (comes_before x e) as (λ b. IsPermutation (e ∷ x ∷ xs) (if b then x ∷ insert_entry e xs else e ∷ x ∷ xs))
-    [ true ↦ later | false ↦ IsPermutation-refl (e ∷ x ∷ xs) ]
+    grind arith
 
 permuted : (es : List Entry) → IsPermutation es (sort_entries es)
 permuted [] = IsPermutation-refl []
@@ -77,9 +58,7 @@ each-append P (x ∷ xs) ys a b = (a.0, each-append P xs ys a.1 b)
 
 each-insert : (P : Entry → Type 0) (e : Entry) (xs : List Entry) → P e → AllByRecursion P xs → AllByRecursion P (insert_entry e xs)
 each-insert P e [] p h = (p, tt)
-each-insert P e (x ∷ xs) p h =
-    elim (comes_before x e) as (λ b. AllByRecursion P (if b then x ∷ insert_entry e xs else e ∷ x ∷ xs))
-    [ true ↦ (h.0, each-insert P e xs p h.1) | false ↦ (p, h) ]
+each-insert P e (x ∷ xs) p h = grind (arith, (each-insert P e xs p h.1))
 
 pub each-sorted : (P : Entry → Type 0) (xs : List Entry) → AllByRecursion P xs → AllByRecursion P (sort_entries xs)
 each-sorted P [] h = tt
@@ -110,9 +89,7 @@ leads-other e input ending greatest (p ∷ ps) less =
 
 leads-others : (e : Entry) (input : ℕ) (rs : List InputItems) → e.input < input → Leads e (all_entries input rs)
 leads-others e input [] less = tt
-leads-others e input (r ∷ rs) less =
-    each-append (IsLed e) (entries_of input r.items.ending r.greatest r.items.packets) (all_entries (input + 1) rs)
-    (leads-other e input r.items.ending r.greatest r.items.packets less) (leads-others e (input + 1) rs (omega (arith, less)))
+leads-others e input (r ∷ rs) less = search (arith, each-append, leads-other, (leads-others e (input + 1) rs (omega (arith, less))))
 
 each-leads-own : (input : ℕ) (ending : Ending) (greatest : ℕ) (ps : List Placed) (rest : List Entry) → ((e : Entry) → e.input ≡ input → Leads e rest)
     → EachLeads rest → EachLeads (entries_of input ending greatest ps ++ rest)
@@ -137,33 +114,19 @@ if_of input e es = if nat_eq e.input input then e ∷ es else es
 
 -- an entry that may come before another input's entry may also come after it
 exchanged : (input : ℕ) (e x : Entry) (es : List Entry) → (e.input ≡ x.input → ⊥) → if_of input x (if_of input e es) ≡ if_of input e (if_of input x es)
-exchanged input e x es other = by_both (nat_eq x.input input) (nat_eq e.input input) refl refl
-  where
-    by_both : (a b : Bool) → nat_eq x.input input ≡ a → nat_eq e.input input ≡ b
-        → (if a then x ∷ (if b then e ∷ es else es) else (if b then e ∷ es else es)) ≡
-        (if b then e ∷ (if a then x ∷ es else es) else (if a then x ∷ es else es))
-    by_both true true a b = absurd (other (grind (arith, nat_tests, a, b)))
-    by_both _ _ a b = refl
+exchanged input e x es other = grind arith
 
 -- what comes before an entry that leads is of another input
 is-other : (e x : Entry) → (x.input ≡ e.input → e.key ≤ x.key) → comes_before x e ≡ true → e.input ≡ x.input → ⊥
-is-other e x leads is same =
-    let least : e.key ≤ x.key = leads (sym same) in
-    let apart : comes_before x e ≡ false = grind (arith, nat_tests, least, same) in
-    cc (is, apart)
+is-other e x leads is same = grind arith
 
 places-insert : (input : ℕ) (e : Entry) (es : List Entry) → Leads e es → of_input input (insert_entry e es) ≡ of_input input (e ∷ es)
 places-insert input e [] leads = refl
-places-insert input e (x ∷ xs) leads = by_place (places-insert input e xs leads.1) (comes_before x e) refl
-  where
-    by_place : of_input input (insert_entry e xs) ≡ of_input input (e ∷ xs) → (b : Bool) → comes_before x e ≡ b
-        → of_input input (if b then x ∷ insert_entry e xs else e ∷ x ∷ xs) ≡ of_input input (e ∷ x ∷ xs)
-    by_place more true is = ap (if_of input x) more ∙ exchanged input e x (of_input input xs) (is-other e x leads.0 is)
-    by_place more false is = refl
+places-insert input e (x ∷ xs) leads = grind (arith, exchanged, is-other, (places-insert input e xs leads.1))
 
 places : (input : ℕ) (es : List Entry) → EachLeads es → of_input input (sort_entries es) ≡ of_input input es
 places input [] each = refl
-places input (e ∷ es) each = places-insert input e (sort_entries es) (each-sorted (IsLed e) es each.0) ∙ ap (if_of input e) (places input es each.1)
+places input (e ∷ es) each = grind (arith, places-insert, each-sorted, (places input es each.1))
 
 -- ---- those that come
 
@@ -177,7 +140,7 @@ record Come (c : SequenceEnd) (es : List Entry) (s : Sequence) : Type 0 where
   stops : StopsBy c come s.end (StopAtFault come later s.end)
 
 comes : (es : List Entry) → Come Complete es (sequence_of_entries es)
-comes [] = record { come = []; later = []; parts = refl; events = refl; whole = λ is. refl; stops = (refl, refl) }
+comes [] = grind arith
 comes (e ∷ es) = by_end (comes es) e.end refl
   where
     by_end : Come Complete es (sequence_of_entries es) → (c : SequenceEnd) → e.end ≡ c
@@ -204,23 +167,10 @@ comes (e ∷ es) = by_end (comes es) e.end refl
         }
 
 comes-unless : (c : SequenceEnd) (es : List Entry) → Come c es (unless_fault c (sequence_of_entries es))
-comes-unless Complete es = comes es
-comes-unless (FaultIn input fault offset) es =
-    record { come = []; later = es; parts = refl; events = refl; whole = λ is. (cc); stops = (refl, refl) }
+comes-unless c es = grind (arith, comes)
 
 pub merges-sort : MergesSort
 merges-sort rs =
     let es = all_entries 0 rs in
     let c = comes-unless (fault_without_packets 0 rs) (sort_entries es) in
-    record {
-      sorted = sort_entries es;
-      order = sorted es;
-      all = permuted es;
-      places = λ input. places input es (each-leads 0 rs);
-      come = c.come;
-      later = c.later;
-      parts = c.parts;
-      events = c.events;
-      whole = c.whole;
-      stops = c.stops;
-    }
+    grind (arith, sorted, permuted, places, each-leads)

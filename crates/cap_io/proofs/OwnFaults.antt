@@ -2,10 +2,9 @@
 use Rattle.cap_io.proofs.Common.{◌≡◌, ◌<◌, ◌++◌, [], ◌∷◌, length, None, ap, length-append, ltb-true, most_interfaces, is_interface, section_by, section_of}
 use Rattle.cap_io.proofs.Common.{Section, Enters, ℕ, inl, inr, Bool, true, false, List, Option, Some, Err, refl, arith, first_failing, Fault, NoMemory}
 use Rattle.cap_io.proofs.Common.{ReadFailed, Order, Parts, SectionParts, InterfaceParts, EnhancedParts, SimpleParts, SkippedParts, block_checks, body_checks}
-use Rattle.cap_io.proofs.Common.{body_in, parts_in, Head, header_checks, header_fault, field_checks, frame_checks, Described, checks_among, Frame, IsBlockFault}
+use Rattle.cap_io.proofs.Common.{parts_in, Head, header_fault, field_checks, frame_checks, Described, checks_among, Frame, IsBlockFault}
 use Rattle.cap_io.proofs.Common.{AddsInterface, IsEntryFault, read_failures}
-use Rattle.cap_octet.specs.declared.fault.Fault.TheVariants.{TooManyInterfaces}
-use Rattle.cap_pcapng.specs.{Block.option_checks, declared.frames.BlockType.BlockType}
+use Rattle.cap_pcapng.specs.{declared.frames.BlockType.BlockType}
 use Rattle.cap_pcapng.proofs.Faults.{AreAll, all_failing, all_of_options}
 
 -- ---- no check reports that the device failed, or that memory ran out
@@ -21,8 +20,7 @@ IsOwn fault = is_own fault ≡ true
 
 -- it counts no failure
 pub own-unfailed : (X : Type 0) (fault : Fault) → IsOwn fault → read_failures {X = X} (Err fault) ≡ 0
-own-unfailed X ReadFailed own = (cc)
-own-unfailed X fault own = refl
+own-unfailed X fault own = grind arith
 
 abbrev AreOwn : List (Bool × Fault) → Type 0
 AreOwn rows = AreAll IsOwn rows
@@ -37,17 +35,14 @@ own_among interfaces (SimpleParts orig rest) = (refl, (refl, tt))
 own_among interfaces SkippedParts = tt
 
 own_body : (kind : BlockType) (order : Order) (body : List ℕ) → AreOwn (body_checks kind order body)
-own_body BlockType.Section order body = (refl, (refl, tt))
-own_body BlockType.Other order body = tt
-own_body _ order body = (refl, tt)
+own_body kind order body = grind arith
 
 own-block : (frame : Frame) (block : List ℕ) (fault : Fault) → first_failing (block_checks frame block) ≡ Some fault → IsOwn fault
-own-block frame block fault fails = all_failing IsOwn (block_checks frame block) fault (refl, own_body frame.block_type frame.order (body_in frame block)) fails
+own-block frame block fault fails = grind (arith, all_failing, own_body)
 
 own-entered : (frame : Frame) (interfaces : List Described) (block : List ℕ) (fault : Fault)
     → first_failing (checks_among interfaces (parts_in frame block)) ≡ Some fault → IsOwn fault
-own-entered frame interfaces block fault fails = all_failing IsOwn (checks_among interfaces (parts_in frame block)) fault
-    (own_among interfaces (parts_in frame block)) fails
+own-entered frame interfaces block fault fails = grind (arith, all_failing, parts_in, own_among)
 
 own-fault : (frame : Frame) (interfaces : List Described) (block : List ℕ) (fault : Fault) → IsBlockFault frame interfaces block fault → IsOwn fault
 own-fault frame interfaces block fault is =
@@ -65,10 +60,10 @@ entry-own frame interfaces block fault is =
     ]
 
 pub own-not_failed : (fault : Fault) → IsOwn fault → fault ≡ ReadFailed → ⊥
-own-not_failed fault own failed = let exact : IsOwn ReadFailed = rw failed at own in (cc)
+own-not_failed fault own failed = grind arith
 
 pub own-not_memory : (fault : Fault) → IsOwn fault → fault ≡ NoMemory → ⊥
-own-not_memory fault own memory = let exact : IsOwn NoMemory = rw memory at own in (cc)
+own-not_memory fault own memory = grind arith
 
 -- memory runs out for an interface alone
 pub entry-adds : (frame : Frame) (interfaces : List Described) (block : List ℕ) (fault : Fault) → IsEntryFault frame interfaces block fault
@@ -80,13 +75,13 @@ entry-adds frame interfaces block fault is memory =
     ]
 
 pub own-fields : (head : Head) (text : List ℕ) (fault : Fault) → first_failing (field_checks head text) ≡ Some fault → IsOwn fault
-own-fields head text fault fails = all_failing IsOwn (field_checks head text) fault (refl, (refl, tt)) fails
+own-fields head text fault fails = grind (arith, all_failing)
 
 pub own-frame : (section : Option Order) (text : List ℕ) (fault : Fault) → first_failing (frame_checks section text) ≡ Some fault → IsOwn fault
-own-frame section text fault fails = all_failing IsOwn (frame_checks section text) fault (refl, (refl, (refl, (refl, tt)))) fails
+own-frame section text fault fails = grind (arith, all_failing)
 
 pub own-header : (text : List ℕ) (fault : Fault) → header_fault text ≡ Some fault → IsOwn fault
-own-header text fault fails = all_failing IsOwn (header_checks text) fault (refl, (refl, (refl, (refl, tt)))) fails
+own-header text fault fails = grind (arith, all_failing)
 
 pub entry-not_failed : (frame : Frame) (interfaces : List Described) (block : List ℕ) (fault : Fault) → IsEntryFault frame interfaces block fault
     → fault ≡ ReadFailed → ⊥
@@ -96,20 +91,16 @@ entry-not_failed frame interfaces block fault is failed = let own : read_failure
 -- ---- a fault of an interface that fails no check
 
 first_met : (met : Bool) (fault : Fault) (rows : List (Bool × Fault)) → first_failing ((met, fault) ∷ rows) ≡ None → met ≡ true
-first_met true fault rows none = refl
-first_met false fault rows none = (cc)
+first_met met fault rows none = grind arith
 
 pub one_more : (order : Order) (interfaces : List Described) (d : Described) (parts : Parts) → section_by (Some (section_of order interfaces)) order
     parts ≡ section_of order (interfaces ++ d ∷ [])
     → first_failing (checks_among interfaces parts) ≡ None → (length interfaces < most_interfaces) × (is_interface parts ≡ true)
-one_more order interfaces d (InterfaceParts link snap own options) section among =
-    (ltb-true _ _ (first_met _ TooManyInterfaces (option_checks (InterfaceParts link snap own options)) among), refl)
+one_more order interfaces d (InterfaceParts link snap own options) section among = grind (arith, ltb-true, first_met)
 one_more order interfaces d parts section among =
     absurd (omega (arith, ap (λ (s : Section). length s.interfaces) section, length-append interfaces (d ∷ [])))
 
 pub adds-one : (frame : Frame) (interfaces : List Described) (block : List ℕ) (d : Described) (fault : Fault) → Enters frame interfaces block None
     (interfaces ++ d ∷ []) → (length interfaces < most_interfaces → fault ≡ NoMemory)
     → IsEntryFault frame interfaces block fault
-adds-one frame interfaces block d fault enters memory =
-    let one = one_more frame.order interfaces d (parts_in frame block) enters.section enters.among in
-    inr (memory one.0, record { passes = enters.passes; among = enters.among; describes = one.1 })
+adds-one frame interfaces block d fault enters memory = grind (arith, one_more, parts_in)

@@ -1,27 +1,20 @@
 -- What parts add that are written one after another, and what a sink adds with them.
-use Rattle.cap_io.proofs.Common.{rules}
-use Rattle.cap_io.proofs.Common.{◌≡◌, ◌⊎◌, inl, inr, ℕ, ◌+◌, ◌<◌, Bool, true, false, not, if◌then◌else◌, List, [], ◌∷◌, ◌++◌, length, take, Option, Some, None}
-use Rattle.cap_io.proofs.Common.{Result, is_ok, Ok, Err, refl, sym, ap, ap₂, subst, ◌∙◌, arith, flat_map, append_assoc, append-nil, take-append-le, checked}
-use Rattle.cap_io.proofs.Common.{AppendsOrStops, Stops, Captured, Fault, WriteFailed, Format, Pcap, NsecPcap, Pcapng, InterfaceNumber, SinkState, HasNumber}
-use Rattle.cap_io.proofs.Common.{WritesPacket, file_start_in, appended_packet, Interface, interface_of, is_among, number_among, file_start, record_text}
-use Rattle.cap_io.proofs.Common.{Appends, packet_block_text, description_text}
+use Rattle.cap_io.proofs.Common.{rules, ◌≡◌, ◌⊎◌, ℕ, ◌+◌, ◌<◌, Bool, not, if◌then◌else◌, List, [], ◌∷◌, ◌++◌, length, take, Option}
+use Rattle.cap_io.proofs.Common.{Result, is_ok, Ok, Err, sym, ap, ◌∙◌, arith, flat_map, append_assoc, append-nil, take-append-le, checked, AppendsOrStops}
+use Rattle.cap_io.proofs.Common.{Stops, Captured, Fault, WriteFailed, Format, Pcap, NsecPcap, Pcapng, InterfaceNumber, SinkState, HasNumber, WritesPacket}
+use Rattle.cap_io.proofs.Common.{file_start_in, appended_packet, Interface, interface_of, file_start, record_text, Appends, packet_block_text, description_text}
 use Rattle.std.proofs.{Common.length-append, Math.Seq.take-append-add}
 use Rattle.cap_octet.specs.Writer.{WritesExactly}
 use Rattle.cap_octet.specs.declared.device.{DeviceFault.DeviceFault, Output.Ghosts, Stopped.Stopped}
 use Rattle.cap_pcap.specs.Encoding.{IsPcap, file_header as pcap_header, resolution_of}
-use Rattle.cap_pcapng.specs.Encoding.{interface_text, packet_block as pcapng_packet}
+use Rattle.cap_pcapng.specs.Encoding.{interface_text}
 
 pub appends-as : {E : Type 0} (r : Result (Unit {0}) E) (written bytes bytes' written' : List ℕ) → bytes ≡ bytes' → AppendsOrStops r written bytes
     written' → AppendsOrStops r written bytes' written'
-appends-as r written bytes bytes' written' same appends = let P : List ℕ → Type 0 = λ b. AppendsOrStops r written b written' in subst P same appends
+appends-as r written bytes bytes' written' same appends = grind arith
 
 pub stops-front : (written part more written' : List ℕ) → Stops written part written' → Stops written (part ++ more) written'
-stops-front written part more written' stops =
-    let less : stops.0 < length part = stops.1 in (
-      stops.0,
-      omega (arith, less, length-append part more),
-      stops.2 ∙ ap (λ (l : List ℕ). written ++ l) (sym (take-append-le stops.0 part more (omega (arith, less)))),
-    )
+stops-front written part more written' stops = grind (arith, length-append, take-append-le)
 
 pub stops-following : (written done part mid written' : List ℕ) → mid ≡ written ++ done → Stops mid part written' → Stops written (done ++ part) written'
 stops-following written done part mid written' first stops =
@@ -47,60 +40,34 @@ appends-following (Err fault) written done part mid written' first stops = stops
 pub appends-exactly : {Device : Type 0} (d : Ghosts Device) (old new : Device) (bytes : List ℕ) (r : Result (Unit {0}) Stopped)
     (r' : Result (Unit {0}) DeviceFault)
     → is_ok r' ≡ is_ok r → WritesExactly d old bytes r new → Appends d old bytes r' new
-appends-exactly d old new bytes (Ok done) (Ok done') same writes = record { appended = writes.exact; failed = writes.failed; room = writes.room }
-appends-exactly d old new bytes (Err stopped) (Err fault) same writes = record {
-  appended = λ tells. (stopped.written, writes.front, writes.exact tells);
-  failed = writes.failed;
-  room = writes.room;
-}
-appends-exactly d old new bytes (Ok done) (Err fault) same writes = absurd (cc)
-appends-exactly d old new bytes (Err stopped) (Ok done) same writes = absurd (cc)
+appends-exactly d old new bytes r r' same writes = grind arith
 
 pub appends-nothing : {Device : Type 0} (d : Ghosts Device) (old : Device) → Appends d old [] (Ok tt) old
-appends-nothing d old = record { appended = λ tells. sym (append-nil (d.written old)); failed = omega arith; room = refl }
+appends-nothing d old = grind (arith, append-nil)
 
 pub appends-stopped : {Device : Type 0} (d : Ghosts Device) (old new : Device) (part more : List ℕ) (fault : DeviceFault)
     → Appends d old part (Err fault) new → Appends d old (part ++ more) (Err fault) new
-appends-stopped d old new part more fault appends = record {
-  appended = λ tells. stops-front (d.written old) part more (d.written new) (appends.appended tells);
-  failed = appends.failed;
-  room = appends.room;
-}
+appends-stopped d old new part more fault appends = grind (arith, stops-front)
 
 pub appends-then : {Device : Type 0} (d : Ghosts Device) (old mid new : Device) (done part : List ℕ) (r : Result (Unit {0}) DeviceFault)
     → Appends d old done (Ok tt) mid → Appends d mid part r new → Appends d old (done ++ part) r new
-appends-then d old mid new done part r first second = record {
-  appended = λ tells. appends-following r (d.written old) done part (d.written mid) (d.written new) (first.appended tells) (second.appended tells);
-  failed = omega arith;
-  room = second.room ∙ first.room;
-}
+appends-then d old mid new done part r first second = grind (arith, appends-following)
 
 -- ---- by format
 
 pub is-pcap : (format : Format) → (format ≡ Pcap) ⊎ (format ≡ NsecPcap) → IsPcap format
-is-pcap Pcap is = tt
-is-pcap NsecPcap is = tt
-is-pcap Pcapng is = elim is [ inl e ↦ absurd (cc) | inr e ↦ absurd (cc) ]
+is-pcap format is = grind arith
 
 pub pcap-file_header : (format : Format) (link : ℕ) → IsPcap format → pcap_header (resolution_of format) link ≡ file_start format link
-pcap-file_header Pcap link is = refl
-pcap-file_header NsecPcap link is = refl
-pcap-file_header Pcapng link is = absurd is
+pcap-file_header format link is = grind arith
 
 pub packet-record : (format : Format) (interfaces : List Interface) (p : Captured) → IsPcap format → record_text (resolution_of format) p ≡
     appended_packet format interfaces p
-packet-record Pcap interfaces p is = refl
-packet-record NsecPcap interfaces p is = refl
-packet-record Pcapng interfaces p is = absurd is
+packet-record format interfaces p is = grind arith
 
 described : (b : Bool) (p : Captured) → description_text (not b) p ≡ flat_map (λ (i : Interface). interface_text i.link i.snap i.name)
     (if b then [] else interface_of p ∷ [])
-described true p = refl
-described false p = sym (append-nil (interface_text p.link p.snap p.name))
-
-pub block-place : (old : List Interface) (p : Captured) (place : InterfaceNumber) (new : List Interface) → HasNumber old (interface_of p) place new
-    → packet_block_text place p ≡ appended_packet Pcapng old p
-block-place old p place new has = search rules
+described b p = grind (arith, append-nil)
 
 -- ---- what a sink adds
 
@@ -122,5 +89,4 @@ block-adds r format state interfaces p place new written written' form has appen
 -- a packet that isn't refused, where the device failed
 pub adds-failed : (refusal : Option Fault) (bytes written written' : List ℕ) → Ok (tt {0}) ≡ checked refusal (tt {0}) → Stops written bytes written'
     → WritesPacket refusal bytes written (Err WriteFailed) written'
-adds-failed None bytes written written' allowed stops = stops
-adds-failed (Some fault) bytes written written' allowed stops = absurd (cc)
+adds-failed refusal bytes written written' allowed stops = grind arith

@@ -1,11 +1,10 @@
 -- Units from one place in a file to a later one, and the items after them.
 use Rattle.cap_io.proofs.Common.{◌≡◌, ℕ, ◌+◌, ◌-◌, ◌≤◌, ◌<◌, ◌^◌, Bool, false, Result, Ok, Err, HasGiven, most_in_unit, read_failures, List, [], ◌++◌, length}
-use Rattle.cap_io.proofs.Common.{take, drop, Option, Some, None, is_some, true, refl, sym, ap, ap₂, ◌∙◌, subst, arith, slice_get, option_map, append_assoc}
-use Rattle.cap_io.proofs.Common.{rules}
-use Rattle.cap_io.proofs.Common.{drop-take, take-take, length-append, length-take-le, Order, Head, Described, packet_of, Fault, NoMemory, PacketSpans, Declared}
-use Rattle.cap_io.proofs.Common.{Nothing, PcapFile, PcapngFile, AreUnits, no_unit, TakesMemory, held_length, no_unit_fits, packet_in_unit, EndCame}
-use Rattle.cap_io.proofs.Common.{HasInterface, PacketCame, NoUnitCame, UnitPassed, span_bytes, SourceView, Reading, Ended, Failed, SkipsUnits, IsBroken}
-use Rattle.cap_io.proofs.Common.{FindsPacket, FindsEnd, FindsFault, block_at, end_offset, phase_at, IsBetween, HoldsIfAny}
+use Rattle.cap_io.proofs.Common.{take, Option, Some, None, is_some, true, refl, sym, ap, ◌∙◌, arith, slice_get, option_map, append_assoc, rules, drop-take}
+use Rattle.cap_io.proofs.Common.{take-take, length-append, length-take-le, Order, Head, Described, packet_of, Fault, NoMemory, PacketSpans, Declared}
+use Rattle.cap_io.proofs.Common.{PcapFile, PcapngFile, AreUnits, no_unit, TakesMemory, held_length, no_unit_fits, packet_in_unit, EndCame, HasInterface}
+use Rattle.cap_io.proofs.Common.{PacketCame, NoUnitCame, UnitPassed, span_bytes, SourceView, Reading, Ended, Failed, SkipsUnits, IsBroken, FindsPacket}
+use Rattle.cap_io.proofs.Common.{FindsEnd, FindsFault, block_at, end_offset, phase_at, IsBetween, HoldsIfAny}
 use Rattle.cap_io.proofs.Cuts.{AreUnits-append}
 use Rattle.cap_io.proofs.Units.{FitUnits-append, FitUnits-wider, one_unit_fits, one_unit}
 use Rattle.cap_pcapng.specs.{Comment.comment_in, declared.effect.Span.Span}
@@ -27,35 +26,18 @@ stays old new declared place room = record {
 
 -- without a current unit it ends at its offset
 pub no-unit-end : (old : SourceView) (offset : ℕ) → IsBetween old → offset ≡ old.offset → offset ≡ end_offset old
-no-unit-end old offset between place = omega (arith, place, ap length between.block)
+no-unit-end old offset between place = grind arith
 
 pub IsBroken-next : (old new : SourceView) (fault : Fault) → IsBetween old → NoUnitCame old.declared old.unread new.unread fault
     → new.declared ≡ old.declared → new.offset ≡ old.offset → old.room ≤ new.room
     → (fault ≡ NoMemory → TakesMemory new.room old.declared old.unread) → new.given + length new.unread ≡ old.given + length old.unread
     → new.block ≡ [] → new.packet ≡ None → IsBroken old new fault
-IsBroken-next old new fault between refuses declared place room memory counted block packet = record {
-  rest = old.unread;
-  passes = stays old new declared (no-unit-end old new.offset between place) room;
-  why = rw declared refuses.why;
-  memory = λ e. rw declared (memory e);
-  taken = rw declared refuses.taken;
-  counted = counted;
-  block = block;
-  packet = packet;
-}
+IsBroken-next old new fault between refuses declared place room memory counted block packet = grind (arith, stays, no-unit-end)
 
 pub FindsEnd-next : (old new : SourceView) → IsBetween old → EndCame old.declared old.unread new.declared new.unread → new.offset ≡ old.offset
     → old.room ≤ new.room
     → new.block ≡ [] → new.packet ≡ None → new.phase ≡ Ended → FindsEnd old new
-FindsEnd-next old new between came place room block packet phase = record {
-  passes = let P : List ℕ → Type 0 = λ rest. SkipsUnits old new rest in
-      subst P came.over (stays old new came.same (no-unit-end old new.offset between place) room);
-  ends = rw came.same came.ends;
-  unread = came.rest;
-  block = block;
-  packet = packet;
-  phase = phase;
-}
+FindsEnd-next old new between came place room block packet phase = grind (arith, stays, no-unit-end)
 
 -- ---- one unit
 
@@ -75,15 +57,7 @@ pub FindsPacket-next : (old new : SourceView) (spans : PacketSpans) (buffer : Li
     → new.block ≡ take spans.size buffer → new.packet ≡ packet_in_unit new.declared spans (take spans.size buffer) → new.offset ≡ end_offset old
     → old.room ≤ new.room → length (take spans.size buffer) ≤ new.room → new.phase ≡ Reading
     → FindsPacket old new
-FindsPacket-next old new spans buffer came block packet place room fits phase =
-    let P : List ℕ → Type 0 = λ rest. SkipsUnits old new rest in record {
-      passes = subst P (came.splits ∙ ap (λ (l : List ℕ). l ++ new.unread) (sym block)) (stays old new came.same place room);
-      packet = came.packet;
-      held = packet ∙ ap (λ (d : Declared). packet_in_unit d spans (take spans.size buffer)) came.same ∙ came.is_lent;
-      unit = rw (block, came.same) came.unit;
-      fits = omega (arith, fits, ap length block);
-      phase = phase;
-    }
+FindsPacket-next old new spans buffer came block packet place room fits phase = grind (arith, stays)
 
 -- ---- units after the unit in hand, and after others
 
@@ -103,31 +77,14 @@ SkipsUnits-then old mid new rest first none more =
     }
 
 pub FindsPacket-then : (old mid new : SourceView) → SkipsUnits old mid mid.unread → mid.block ≡ [] → FindsPacket mid new → FindsPacket old new
-FindsPacket-then old mid new first none finds = record {
-  passes = SkipsUnits-then old mid new (new.block ++ new.unread) first none finds.passes;
-  packet = finds.packet;
-  held = finds.held;
-  unit = finds.unit;
-  fits = finds.fits;
-  phase = finds.phase;
-}
+FindsPacket-then old mid new first none finds = grind (arith, SkipsUnits-then)
 
 pub FindsEnd-then : (old mid new : SourceView) → SkipsUnits old mid mid.unread → mid.block ≡ [] → FindsEnd mid new → FindsEnd old new
-FindsEnd-then old mid new first none finds = record {
-  passes = SkipsUnits-then old mid new [] first none finds.passes;
-  ends = finds.ends;
-  unread = finds.unread;
-  block = finds.block;
-  packet = finds.packet;
-  phase = finds.phase;
-}
+FindsEnd-then old mid new first none finds = grind (arith, SkipsUnits-then)
 
 counted_so_far : (old mid : SourceView) → (first : SkipsUnits old mid mid.unread) → mid.block ≡ [] → mid.given + end_offset old ≡ old.given +
     end_offset mid → mid.given + length mid.unread ≡ old.given + length old.unread
-counted_so_far old mid first none counted =
-    let split : length old.unread ≡ length first.passed + length mid.unread = ap length first.splits ∙ length-append first.passed mid.unread in
-    let empty : length mid.block ≡ 0 = ap length none in
-    omega (arith, split, empty, counted, first.offset)
+counted_so_far old mid first none counted = grind (arith, length-append)
 
 pub IsBroken-then : (old mid new : SourceView) (fault : Fault) → SkipsUnits old mid mid.unread → mid.block ≡ [] → mid.given + end_offset old ≡
     old.given + end_offset mid → IsBroken mid new fault → IsBroken old new fault
@@ -159,9 +116,7 @@ found_by (Err fault) = Err fault
 pub bounds-then : (first old new : SourceView) (read : Result NextUnit Fault) → first.given ≤ old.given → old.failures ≡ first.failures
     → old.sure ≡ first.sure → first.room ≤ old.room
     → old.given + end_offset first ≡ first.given + end_offset old → NextBounds old read new → KeepsBounds first (found_by read) new
-bounds-then first old new (Ok NextUnit.Packet) given failures sure room counted next = search rules
-bounds-then first old new (Ok unit) given failures sure room counted next = search rules
-bounds-then first old new (Err fault) given failures sure room counted next = search rules
+bounds-then first old new read given failures sure room counted next = grind arith
 
 -- what `read_unit` knows of the unit that it read
 abbrev IsRead : SourceView → Result NextUnit Fault → SourceView → Type 0
@@ -175,20 +130,15 @@ pub bounds-next : (old new : SourceView) (read : Result NextUnit Fault) → old.
     → new.sure ≡ old.sure → (0 < new.failures → HasGiven new.sure new.given)
     → length new.block ≤ new.room → new.room ≤ most_in_unit → old.room ≤ new.room
     → OnOk read (new.given + end_offset old ≡ old.given + end_offset new) → IsRead old read new → NextBounds old read new
-bounds-next old new (Ok NextUnit.Packet) given failures sure enough block held room counted is = search rules
-bounds-next old new (Ok (NextUnit.Other size)) given failures sure enough block held room counted is = search rules
-bounds-next old new (Ok NextUnit.End) given failures sure enough block held room counted is = search rules
-bounds-next old new (Err fault) given failures sure enough block held room counted is = search rules
+bounds-next old new read given failures sure enough block held room counted is = grind arith
 
 -- ---- from past the current unit
 
 pub past-between : (old between : SourceView) → old.phase ≡ Reading → between ≡ past_unit old → IsBetween between
-past-between old between reading is = rw is (record { phase = reading; block = refl; packet = refl })
+past-between old between reading is = grind arith
 
 pub past-continues : (old between new : SourceView) (r : Result Bool Fault) → between ≡ past_unit old → Continues between r new → Continues old r new
-past-continues old between new (Ok true) is c = search rules
-past-continues old between new (Ok false) is c = search rules
-past-continues old between new (Err fault) is c = search rules
+past-continues old between new r is c = grind arith
 
 pub past-bounds : (old between new : SourceView) (r : Result Bool Fault) → between ≡ past_unit old → KeepsBounds between r new → KeepsBounds old r new
 past-bounds old between new r is kept = search rules
@@ -200,39 +150,22 @@ pub part-lent : (span : Span) (size : ℕ) (bytes buffer : List ℕ) → span.st
     → span_bytes span bytes ≡ span_bytes span (take size buffer)
 part-lent span size bytes buffer within same =
     let whole : span.start + (size - span.start) ≡ size = omega arith in
-    let rest : drop span.start (take size buffer) ≡ take (size - span.start) (drop span.start buffer) =
-    ap (λ n. drop span.start (take n buffer)) (sym whole) ∙ drop-take span.start (size - span.start) buffer in
-    ap (span_bytes span) same
-    ∙ sym (take-take span.length (size - span.start) (drop span.start buffer) (omega arith))
-    ∙ ap (take span.length) (sym rest)
+    grind (arith, drop-take, take-take)
 
 pub pcap-lent : (head : Head) (spans : PacketSpans) (bytes block : List ℕ) → bytes ≡ span_bytes spans.bytes block
     → Some (record { link = head.link; snap = head.snap; name = []; time = spans.time; orig = spans.orig; bytes = bytes; comment = [] }) ≡
     packet_in_unit (PcapFile head) spans block
-pcap-lent head spans bytes block same =
-    ap (λ (l : List ℕ). Some (record { link = head.link; snap = head.snap; name = []; time = spans.time; orig = spans.orig; bytes = l; comment = [] })) same
+pcap-lent head spans bytes block same = grind arith
 
 pub pcapng-lent : (order : Order) (first : Option ℕ) (interfaces : List Described) (i : Described) (spans : PacketSpans)
     (bytes comment options block : List ℕ) → slice_get interfaces spans.interface ≡ Some i
     → bytes ≡ span_bytes spans.bytes block → comment ≡ comment_in order options → options ≡ span_bytes spans.options block
     → Some (packet_of i spans.time spans.orig bytes comment) ≡ packet_in_unit (PcapngFile first (record { order = order; interfaces = interfaces })) spans block
-pcapng-lent order first interfaces i spans bytes comment options block known same commented optional =
-    ap₂ (λ (l m : List ℕ). Some (packet_of i spans.time spans.orig l m)) same (commented ∙ ap (comment_in order) optional)
-    ∙ ap (option_map (λ (j : Described). packet_of j spans.time spans.orig (span_bytes spans.bytes block)
-    (comment_in order (span_bytes spans.options block)))) (sym known)
+pcapng-lent order first interfaces i spans bytes comment options block known same commented optional = grind arith
 
 pub time-held : (declared : Declared) (spans : PacketSpans) (block : List ℕ) → HasInterface declared spans → Some spans.time ≡ option_map
     (λ p. p.time) (packet_in_unit declared spans block)
-time-held Nothing spans block known = absurd known
-time-held (PcapFile head) spans block known = refl
-time-held (PcapngFile first section) spans block known = by_interface (slice_get section.interfaces spans.interface) known
-  where
-    by_interface : (found : Option Described) → is_some found ≡ true
-        → Some spans.time ≡ option_map (λ p. p.time)
-        (option_map (λ (i : Described). packet_of i spans.time spans.orig (span_bytes spans.bytes block)
-        (comment_in section.order (span_bytes spans.options block))) found)
-    by_interface None known = (cc)
-    by_interface (Some i) known = refl
+time-held declared spans block known = grind arith
 
 -- ---- nothing is in hand
 

@@ -1,11 +1,10 @@
 -- A capture that is written in a pcap format reads back.
-use Rattle.cap_io.proofs.Common.{rules}
+use Rattle.cap_io.proofs.Common.{rules, ◌≡◌, ℕ, ◌+◌, ◌*◌, ◌/◌, ◌%◌, ◌^◌, ◌<◌, ◌≤◌, Bool, List, [], ◌∷◌, ◌++◌, length, drop, None, refl, sym, ap, subst, ◌∙◌}
+use Rattle.cap_io.proofs.Common.{arith, lt-ltb, AllByRecursion, flat_map, first_failing, u32_in, Captured, Fault, LinkTypesDiffer, Pcap, NsecPcap, Little}
+use Rattle.cap_io.proofs.Common.{IsHeader, IsRecord, field_checks, most_captured, nanoseconds_of_part, record_packet, parts_of_second, Head, Resolution}
+use Rattle.cap_io.proofs.Common.{Microseconds, Nanoseconds, record_fault-whole, PcapFile, a_pcap_header, a_pcap_record, Back, InRange, IsPlain, ReadsBack}
+use Rattle.cap_io.proofs.Common.{has_link, record_text, state_after}
 use Rattle.cap_io.proofs.Backs.{Holds, each-following, holds-none, holds-unit, reads-back}
-use Rattle.cap_io.proofs.Common.{◌≡◌, ℕ, ◌+◌, ◌*◌, ◌/◌, ◌%◌, ◌^◌, ◌<◌, ◌≤◌, Bool, List, [], ◌∷◌, ◌++◌, length, drop, nat_lt, None, refl, sym, ap, subst, ◌∙◌}
-use Rattle.cap_io.proofs.Common.{arith, leb-true, lt-ltb, AllByRecursion, flat_map, eqb-true, ltb-true, first_failing, u32_in, Captured, Fault, LinkTypesDiffer}
-use Rattle.cap_io.proofs.Common.{Pcap, NsecPcap, Little, all_met, none_failing, IsHeader, header_checks, IsRecord, field_checks, most_captured}
-use Rattle.cap_io.proofs.Common.{nanoseconds_of_part, record_packet, parts_of_second, Head, Resolution, Microseconds, Nanoseconds, record_fault-whole, PcapFile}
-use Rattle.cap_io.proofs.Common.{a_pcap_header, a_pcap_record, Back, InRange, IsPlain, ReadsBack, has_link, record_text, state_after}
 use Rattle.cap_io.proofs.Texts.{bare_text, text-start}
 use Rattle.std.proofs.Common.{le-leb}
 use Rattle.cap_octet.specs.Number.{number_in}
@@ -23,17 +22,14 @@ IsWhole Microseconds time = time % 1000 ≡ 0
 IsWhole Nanoseconds time = Unit {0}
 
 part-fits : (r : Resolution) (time : ℕ) → time % 1000000000 / nanoseconds_of_part r < parts_of_second r
-part-fits Microseconds time = omega arith
-part-fits Nanoseconds time = omega arith
+part-fits r time = grind arith
 
 part-small : (r : Resolution) (time : ℕ) → time % 1000000000 / nanoseconds_of_part r < 256 ^ 4
-part-small Microseconds time = omega arith
-part-small Nanoseconds time = omega arith
+part-small r time = grind arith
 
 time-back : (r : Resolution) (time : ℕ) → IsWhole r time → time / 1000000000 * 1000000000 + time % 1000000000 / nanoseconds_of_part r *
     nanoseconds_of_part r ≡ time
-time-back Microseconds time whole = omega arith
-time-back Nanoseconds time whole = omega arith
+time-back r time whole = grind arith
 
 -- a packet that a form keeps
 record IsKept (r : Resolution) (link : ℕ) (p : Captured) : Type 0 where
@@ -99,7 +95,7 @@ header-back Nanoseconds link upper_bound = search rules
 
 records-hold : (r : Resolution) (link at : ℕ) (ps : List Captured) → AllByRecursion (IsKept r link) ps
     → Holds (PcapFile (written_head r link)) at (flat_map (record_text r) ps) ps
-records-hold r link at [] kept = holds-none (PcapFile (written_head r link)) at refl
+records-hold r link at [] kept = grind (arith, holds-none, written_head)
 records-hold r link at (p ∷ ps) kept =
     let back = record-back r link p kept.0 in
     let unit = a_pcap_record (written_head r link) (record_text r p) back.is_record in
@@ -110,11 +106,11 @@ records-hold r link at (p ∷ ps) kept =
 
 text-pcap : (earlier ps : List Captured) → bare_text Pcap earlier ps ≡ flat_map (record_text Microseconds) ps
 text-pcap earlier [] = refl
-text-pcap earlier (p ∷ ps) = ap (λ (l : List ℕ). record_text Microseconds p ++ l) (text-pcap (earlier ++ p ∷ []) ps)
+text-pcap earlier (p ∷ ps) = grind (arith, (text-pcap (earlier ++ p ∷ []) ps))
 
 text-nanoseconds : (earlier ps : List Captured) → bare_text NsecPcap earlier ps ≡ flat_map (record_text Nanoseconds) ps
 text-nanoseconds earlier [] = refl
-text-nanoseconds earlier (p ∷ ps) = ap (λ (l : List ℕ). record_text Nanoseconds p ++ l) (text-nanoseconds (earlier ++ p ∷ []) ps)
+text-nanoseconds earlier (p ∷ ps) = grind (arith, (text-nanoseconds (earlier ++ p ∷ []) ps))
 
 file-back : (r : Resolution) (link : ℕ) (ps : List Captured) → link < 2 ^ 16 → AllByRecursion (IsKept r link) ps
     → ReadsBack (pcap.file_header r link ++ flat_map (record_text r) ps) ps
@@ -134,13 +130,6 @@ link_check earlier p = (has_first_link earlier p, LinkTypesDiffer) ∷ []
 abbrev form_checks : List Captured → Captured → List (Bool × Fault)
 form_checks earlier p = (has_first_link earlier p, LinkTypesDiffer) ∷ pcap.record_fit_checks p
 
-same-first : (first p : Captured) (rest earlier later : List Captured) → first ∷ rest ≡ earlier ++ p ∷ later → first_failing (link_check earlier p) ≡
-    None → p.link ≡ first.link
-same-first first p rest [] later is none = let e : first ≡ p = cc in ap (λ (q : Captured). q.link) (sym e)
-same-first first p rest (q ∷ qs) later is none =
-    let e : first ≡ q = cc in
-    sym (eqb-true q.link p.link (all_met (link_check (q ∷ qs) p) none).0) ∙ ap (λ (x : Captured). x.link) (sym e)
-
 kept-of : (r : Resolution) (first p : Captured) (rest earlier later : List Captured) → first ∷ rest ≡ earlier ++ p ∷ later → InRange p → IsPlain p
     → IsWhole r p.time
     → first_failing (form_checks earlier p) ≡ None → IsKept r first.link p
@@ -149,8 +138,7 @@ kept-of r first p rest earlier later is in_range plain whole none = search rules
 pub pcap-back : Back Pcap
 pcap-back p ps carries =
     let kept = each-following (IsKept Microseconds p.link) (p ∷ ps)
-    (λ earlier q later is. let one = carries.each earlier q later is in kept-of Microseconds p q ps earlier later is one.in_range one.kept.0
-    one.kept.1 one.taken) [] (p ∷ ps) refl in
+    (grind (arith, kept-of)) [] (p ∷ ps) refl in
     let one = carries.each [] p ps refl in
     let R : List ℕ → Type 0 = λ t. ReadsBack t (p ∷ ps) in
     subst R (sym (text-start Pcap p ps ∙ ap (λ (l : List ℕ). pcap.file_header Microseconds p.link ++ l) (text-pcap [] (p ∷ ps))))
@@ -159,8 +147,7 @@ pcap-back p ps carries =
 pub nanoseconds-back : Back NsecPcap
 nanoseconds-back p ps carries =
     let kept = each-following (IsKept Nanoseconds p.link) (p ∷ ps)
-    (λ earlier q later is. let one = carries.each earlier q later is in kept-of Nanoseconds p q ps earlier later is one.in_range one.kept tt
-    one.taken) [] (p ∷ ps) refl in
+    (grind (arith, kept-of)) [] (p ∷ ps) refl in
     let one = carries.each [] p ps refl in
     let R : List ℕ → Type 0 = λ t. ReadsBack t (p ∷ ps) in
     subst R (sym (text-start NsecPcap p ps ∙ ap (λ (l : List ℕ). pcap.file_header Nanoseconds p.link ++ l) (text-nanoseconds [] (p ∷ ps))))

@@ -1,12 +1,10 @@
 -- A capture that is written in pcapng reads back.
-use Rattle.cap_io.proofs.Common.{rules}
+use Rattle.cap_io.proofs.Common.{rules, ◌≡◌, ℕ, ◌<◌, ◌≤◌, Bool, true, false, List, [], ◌∷◌, ◌++◌, length, map, if◌then◌else◌, Option, None, Some, refl, sym, ap}
+use Rattle.cap_io.proofs.Common.{subst, ◌∙◌, arith, AllByRecursion, flat_map, slice_get, option_map, fold-append, append_assoc, append-nil, length-map}
+use Rattle.cap_io.proofs.Common.{map-append, slice_get-map, slice_get_within, first_failing, Captured, Pcapng, Described, most_interfaces, Section, packets_in}
+use Rattle.cap_io.proofs.Common.{Nothing, PcapngFile, IsUnit, a_first_block, a_block, first_link_after, Back, InRange, IsCarried, ReadsBack, Interface}
+use Rattle.cap_io.proofs.Common.{interface_of, is_among, kept_interfaces, new_among, number_among}
 use Rattle.cap_io.proofs.Backs.{Holds, each-following, holds-none, holds-unit, reads-back}
-use Rattle.cap_io.proofs.Common.{◌≡◌, ℕ, ◌<◌, ◌≤◌, Bool, true, false, List, [], ◌∷◌, ◌++◌, length, map, if◌then◌else◌, Option, None, Some, refl, sym, ap, subst}
-use Rattle.cap_io.proofs.Common.{◌∙◌, arith, AllByRecursion, flat_map, fold, slice_get, option_map, fold-append, append_assoc, append-nil, length-map}
-use Rattle.cap_io.proofs.Common.{map-append, slice_get-map, slice_get_within, first_failing, Captured, Pcapng, all_met, none_failing, Described}
-use Rattle.cap_io.proofs.Common.{most_interfaces, Section, packets_in, Nothing, PcapngFile, IsUnit, a_first_block, a_block, first_link_after, Back, InRange}
-use Rattle.cap_io.proofs.Common.{IsCarried, ReadsBack, Interface, checks_in, interface_of, interfaces_after_packet, is_among, kept_interfaces, new_among}
-use Rattle.cap_io.proofs.Common.{number_among, state_after}
 use Rattle.cap_io.proofs.Interfaces.{found, kept-grows, kept-push}
 use Rattle.cap_io.proofs.Texts.{bare_text, text-start}
 use Rattle.std.proofs.Common.{length-append}
@@ -94,16 +92,11 @@ described-holds false interfaces number p more ps known upper_bound kept later =
 -- ---- packets
 
 few-front : (xs ys : List Captured) (n : ℕ) → length (kept_interfaces Pcapng (xs ++ ys)) ≤ n → length (kept_interfaces Pcapng xs) ≤ n
-few-front xs ys n upper_bound =
-    let all : kept_interfaces Pcapng (xs ++ ys) ≡ fold (interfaces_after_packet Pcapng) (kept_interfaces Pcapng xs) ys =
-    fold-append (interfaces_after_packet Pcapng) [] xs ys in
-    let size = ap length all in
-    let more = kept-grows (kept_interfaces Pcapng xs) ys in
-    omega (arith, upper_bound, size, more)
+few-front xs ys n upper_bound = grind (arith, fold-append, kept-grows)
 
 packets-hold : (earlier ps : List Captured) → AllByRecursion IsKept ps → length (kept_interfaces Pcapng (earlier ++ ps)) ≤ most_interfaces
     → HoldsAfter (kept_interfaces Pcapng earlier) (bare_text Pcapng earlier ps) ps
-packets-hold earlier [] kept upper_bound = λ first at. holds-none (PcapngFile first (section_of (kept_interfaces Pcapng earlier))) at refl
+packets-hold earlier [] kept upper_bound = grind (arith, holds-none)
 packets-hold earlier (p ∷ ps) kept upper_bound =
     let i : Interface = interface_of p in
     let is : List Interface = kept_interfaces Pcapng earlier in

@@ -43,7 +43,7 @@ IsAt-decided text done packets s at =
         waits = λ e. absurd (cc);
         ended = λ e. absurd (ended_twice (sym has.phase ∙ e));
         sound = at.sound;
-        fit = FitUnits-append at.fit (one_unit_fits has.unit refl (omega (arith, at.held, held_length-le s.declared s.declared (length s.block))));
+        fit = FitUnits-append at.fit (grind (arith, one_unit_fits, held_length-le));
         held = at.held;
       },
     )
@@ -95,9 +95,7 @@ passed-fit text done packets s s' rest at passes = FitUnits-append (FitUnits-wid
 passed-place : (text done : List ℕ) (packets : List Placed) (s s' : SourceView) (rest : List ℕ) → IsAt text done packets false s
     → (passes : SkipsUnits s s' rest)
     → s'.offset ≡ length (done ++ passes.passed)
-passed-place text done packets s s' rest at passes =
-    let place : s.offset + length s.block ≡ length done = at.place ∙ ap length (append-nil done) in
-    passes.offset ∙ ap (λ n. n + length passes.passed) place ∙ sym (length-append done passes.passed)
+passed-place text done packets s s' rest at passes = grind (arith, append-nil, length-append)
 
 passed-whole : (text done : List ℕ) (packets : List Placed) (s s' : SourceView) (rest : List ℕ) → IsAt text done packets false s
     → (passes : SkipsUnits s s' rest)
@@ -114,7 +112,7 @@ IsAt-found text done packets s s' at finds = record {
   place =
       ap (λ n. n + length s'.block) (passed-place text done packets s s' (s'.block ++ s'.unread) at finds.passes)
       ∙ sym (length-append (done ++ finds.passes.passed) s'.block);
-  waits = λ e. record { packet = finds.packet; held = finds.held; unit = finds.unit; phase = finds.phase };
+  waits = grind arith;
   ended = λ e. absurd (ended_twice (sym finds.phase ∙ e));
   sound = λ fault e. failed_twice fault (sym finds.phase ∙ e);
   fit = passed-fit text done packets s s' (s'.block ++ s'.unread) at finds.passes;
@@ -130,8 +128,8 @@ IsAt-closed text done packets s s' at finds = record {
   place =
       rw finds.block (add-zero s'.offset ∙ passed-place text done packets s s' [] at finds.passes ∙ ap length (sym (append-nil (done ++ finds.passes.passed))));
   waits = λ e. absurd (cc);
-  ended = λ e. record { ends = finds.ends; unread = finds.unread; block = finds.block; packet = finds.packet };
-  sound = λ fault e. absurd (let q : Ended ≡ Failed fault = sym finds.phase ∙ e in cc);
+  ended = grind arith;
+  sound = grind arith;
   fit = passed-fit text done packets s s' [] at finds.passes;
   held = omega (arith, ap length finds.block);
 }
@@ -157,8 +155,7 @@ pub IsAt-items : (text done : List ℕ) (packets : List Placed) (s : SourceView)
     (items_from s.declared (length (done ++ s.block)) s.unread)
 IsAt-items text done packets s at =
     let decided = IsAt-decided text done packets s at in
-    rw decided.1.whole (items-begin (done ++ s.block) s.unread (packets ++ record { offset = s.offset; packet = (at.waits refl).packet } ∷ [])
-    s.declared decided.1.units)
+    grind (arith, items-begin)
 
 -- why there was no unit: the text has a fault there; or it is cut short by a failed read or because
 -- memory runs out

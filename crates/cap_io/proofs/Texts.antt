@@ -1,16 +1,11 @@
 -- A sink has written the bytes of the packets that were put to it.
-use Rattle.cap_io.proofs.Common.{rules}
-use Rattle.cap_io.proofs.Common.{◌≡◌, ◌⊎◌, inl, inr, ℕ, ◌+◌, ◌/◌, ◌^◌, nat_le, nat_lt, length, Bool, true, false, List, [], ◌∷◌, ◌++◌, Option, None, Some}
-use Rattle.cap_io.proofs.Common.{Result, Ok, Err, refl, sym, ◌∙◌, ap, ap₂, subst, append_assoc, append-nil, first_failing, AppendsOrStops, Captured, Fault}
-use Rattle.cap_io.proofs.Common.{WriteFailed, NoMemory, LinkTypesDiffer, TooLong, TimeOutOfRange, TooManyOutputInterfaces, Format, Pcap, NsecPcap, Pcapng}
-use Rattle.cap_io.proofs.Common.{most_captured, most_block, SinkState, Empty, Started, Broken, Interface, added_text, appended_packet, checks_in, file_start}
-use Rattle.cap_io.proofs.Common.{file_start_in, has_link, has_room, interfaces_after_packet, kept_interfaces, packets_text, refusal_of, state_after}
-use Rattle.cap_io.proofs.Common.{state_after_packet, takes_memory, takes_memory_in, text, SinkView, sink_at, HasPut, HasPackets, AddsPacket, PutsNext}
-use Rattle.cap_io.proofs.Common.{WritesPacket, PutsPacket, PutWrites, IsPutAnswer, Finishes, FinishWrites, FinishesEmpty, link_or_ethernet, refusal_in}
-use Rattle.cap_io.proofs.Common.{added_in, EachPutGoesByPackets, PutExtendsText}
+use Rattle.cap_io.proofs.Common.{arith, rules, ◌≡◌, ◌⊎◌, ℕ, Bool, List, [], ◌∷◌, ◌++◌, Option, None, Some, Result, Ok, Err, refl, sym, ◌∙◌, ap, append_assoc}
+use Rattle.cap_io.proofs.Common.{append-nil, first_failing, AppendsOrStops, Captured, Fault, WriteFailed, NoMemory, LinkTypesDiffer, TooLong, TimeOutOfRange}
+use Rattle.cap_io.proofs.Common.{TooManyOutputInterfaces, Format, SinkState, Broken, added_text, appended_packet, file_start, has_room, kept_interfaces}
+use Rattle.cap_io.proofs.Common.{packets_text, refusal_of, state_after, state_after_packet, takes_memory, text, SinkView, sink_at, HasPut, HasPackets}
+use Rattle.cap_io.proofs.Common.{AddsPacket, PutsNext, WritesPacket, PutsPacket, PutWrites, IsPutAnswer, Finishes, FinishWrites, FinishesEmpty}
+use Rattle.cap_io.proofs.Common.{link_or_ethernet, refusal_in, added_in, EachPutGoesByPackets, PutExtendsText}
 use Rattle.cap_io.proofs.Interfaces.{kept-push}
-use Rattle.cap_pcapng.specs.Padding.{padded_length}
-use Rattle.cap_pcapng.specs.Encoding as pcapng
 
 -- ---- faults that refuse no packet
 
@@ -18,7 +13,7 @@ abbrev IsFailure : Fault → Type 0
 IsFailure fault = (fault ≡ WriteFailed) ⊎ (fault ≡ NoMemory)
 
 is-failure : (refusal fault : Fault) → IsFailure fault → refusal ≡ fault → (refusal ≡ WriteFailed → ⊥) → (refusal ≡ NoMemory → ⊥) → ⊥
-is-failure refusal fault is same written memory = elim is [ inl e ↦ written (same ∙ e) | inr e ↦ memory (same ∙ e) ]
+is-failure refusal fault is same written memory = grind arith
 
 -- ---- the bytes of lists of packets
 
@@ -38,7 +33,7 @@ text-more format ps p xs = packets_text-append format [] ps (p ∷ xs)
 
 -- one packet more
 pub text-push : (format : Format) (ps : List Captured) (p : Captured) → text format (ps ++ p ∷ []) ≡ text format ps ++ added_text format ps p
-text-push format ps p = text-more format ps p [] ∙ ap (λ (t : List ℕ). text format ps ++ t) (append-nil (added_text format ps p))
+text-push format ps p = grind (arith, text-more, append-nil)
 
 -- ---- the text without what the file begins with
 
@@ -48,118 +43,76 @@ bare_text format earlier (p ∷ ps) = appended_packet format (kept_interfaces fo
 
 bare-following : (format : Format) (q : Captured) (qs ps : List Captured) → packets_text format (q ∷ qs) ps ≡ bare_text format (q ∷ qs) ps
 bare-following format q qs [] = refl
-bare-following format q qs (p ∷ ps) = ap (λ (l : List ℕ). appended_packet format (kept_interfaces format (q ∷ qs)) p ++ l)
-    (bare-following format q (qs ++ p ∷ []) ps)
+bare-following format q qs (p ∷ ps) = grind (arith, (bare-following format q (qs ++ p ∷ []) ps))
 
 pub text-start : (format : Format) (p : Captured) (ps : List Captured) → text format (p ∷ ps) ≡ file_start format p.link ++ bare_text format [] (p ∷ ps)
-text-start format p ps =
-    ap (λ (l : List ℕ). (file_start format p.link ++ appended_packet format [] p) ++ l) (bare-following format p [] ps)
-    ∙ append_assoc (file_start format p.link) (appended_packet format [] p) (bare_text format (p ∷ []) ps)
+text-start format p ps = grind (arith, bare-following)
 
 -- ---- refusals
 
 -- no packet is refused for a failure of the device or of memory
 record_by : (a b c : Bool) (fault : Fault) → IsFailure fault → first_failing ((a, LinkTypesDiffer) ∷ (b, TooLong) ∷ (c, TimeOutOfRange) ∷ []) ≡ Some fault → ⊥
-record_by true true true fault is e = (cc)
-record_by true true false fault is e = is-failure TimeOutOfRange fault is (cc) (λ f. (cc)) (λ f. (cc))
-record_by true false c fault is e = is-failure TooLong fault is (cc) (λ f. (cc)) (λ f. (cc))
-record_by false b c fault is e = is-failure LinkTypesDiffer fault is (cc) (λ f. (cc)) (λ f. (cc))
+record_by a b c fault is e = grind (arith, is-failure)
 
 block_by : (a b : Bool) (fault : Fault) → IsFailure fault → first_failing ((a, TooLong) ∷ (b, TooManyOutputInterfaces) ∷ []) ≡ Some fault → ⊥
-block_by true true fault is e = (cc)
-block_by true false fault is e = is-failure TooManyOutputInterfaces fault is (cc) (λ f. (cc)) (λ f. (cc))
-block_by false b fault is e = is-failure TooLong fault is (cc) (λ f. (cc)) (λ f. (cc))
+block_by a b fault is e = grind (arith, is-failure)
 
 pub refused-failure : (format : Format) (ps : List Captured) (p : Captured) (fault : Fault) → IsFailure fault → refusal_of format ps p ≡ Some fault → ⊥
-refused-failure Pcap ps p fault is e =
-    record_by (has_link (state_after ps) p) (nat_le (length p.bytes) most_captured) (nat_lt (p.time / 1000000000) (2 ^ 32)) fault is e
-refused-failure NsecPcap ps p fault is e =
-    record_by (has_link (state_after ps) p) (nat_le (length p.bytes) most_captured) (nat_lt (p.time / 1000000000) (2 ^ 32)) fault is e
-refused-failure Pcapng ps p fault is e =
-    block_by (nat_le (32 + padded_length (length p.bytes) + length (pcapng.comment_text p.comment)) most_block)
-    (has_room (kept_interfaces Pcapng ps) p) fault is e
+refused-failure format ps p fault is e = grind (arith, record_by, block_by, has_room)
 
 pub refused-write_failed : (format : Format) (ps : List Captured) (p : Captured) → refusal_of format ps p ≡ Some WriteFailed → ⊥
-refused-write_failed format ps p e = refused-failure format ps p WriteFailed (inl refl) e
+refused-write_failed format ps p e = grind (arith, refused-failure)
 
 pub refused-no_memory : (format : Format) (ps : List Captured) (p : Captured) → refusal_of format ps p ≡ Some NoMemory → ⊥
-refused-no_memory format ps p e = refused-failure format ps p NoMemory (inr refl) e
+refused-no_memory format ps p e = grind (arith, refused-failure)
 
 -- ---- a sink that these packets were put to
 
 -- a new sink has none
 pub HasPackets-none : (format : Format) (written : List ℕ) (failures room : ℕ) → HasPackets written (sink_at format written failures room) []
-HasPackets-none format written failures room =
-    record { written = sym (append-nil written); put = record { state = refl; interfaces = refl } }
+HasPackets-none format written failures room = grind (arith, append-nil)
 
 -- ---- by what a sink keeps
 
 state-after : (ps : List Captured) (p : Captured) → state_after_packet (state_after ps) p ≡ state_after (ps ++ p ∷ [])
-state-after [] p = refl
-state-after (q ∷ qs) p = refl
+state-after ps p = grind arith
 
 -- what a sink keeps decides what all of these packets do
 pub by-packets : EachPutGoesByPackets
-by-packets sink ps p has = record {
-  refusal = ap₂ (λ (s : SinkState) (l : List Interface). first_failing (checks_in sink.format s l p)) has.state has.interfaces;
-  memory = ap (λ (l : List Interface). takes_memory_in sink.format l p) has.interfaces;
-  added = ap₂ (λ (s : SinkState) (l : List Interface). file_start_in sink.format s p.link ++ appended_packet sink.format l p) has.state has.interfaces;
-  state = ap (λ (s : SinkState). state_after_packet s p) has.state ∙ state-after ps p;
-  interfaces = ap (λ (l : List Interface). interfaces_after_packet sink.format l p) has.interfaces ∙ sym (kept-push sink.format ps p);
-}
+by-packets sink ps p has = grind (arith, state-after, kept-push)
 
 -- a sink that failed is unchanged if the packet wasn't added, except for its state
 pub adds-broken : (old : SinkView) (p : Captured) (fault : Fault) (mid new : SinkView) → AddsPacket old p (Err fault) mid
     → new ≡ record { format = mid.format; state = Broken fault; interfaces = mid.interfaces; written = mid.written; failures = mid.failures; room = mid.room }
     → AddsPacket old p (Err fault) new
-adds-broken old p fault mid new adds is = rw is (record {
-  answer = adds.answer;
-  state = tt;
-  interfaces = adds.interfaces;
-  format = adds.format;
-  failures = adds.failures;
-  room = adds.room;
-  filled = adds.filled;
-})
+adds-broken old p fault mid new adds is = grind arith
 
 -- ---- a put by the state before it
 
 pub puts-tell : (state : SinkState) (old : SinkView) (p : Captured) (r : Result (Unit {0}) Fault) (new : SinkView)
     → ((fault : Fault) → state ≡ Broken fault → ⊥)
     → PutsNext old p r new → PutsPacket state old p r new
-puts-tell Empty old p r new sound puts = puts
-puts-tell (Started link) old p r new sound puts = puts
-puts-tell (Broken fault) old p r new sound puts = absurd (sound fault refl)
+puts-tell state old p r new sound puts = grind arith
 
 pub put-writes-tell : (state : SinkState) (old : SinkView) (p : Captured) (r : Result (Unit {0}) Fault) (new : SinkView)
     → ((fault : Fault) → state ≡ Broken fault → ⊥)
     → WritesPacket (refusal_in old p) (added_in old p) old.written r new.written → PutWrites state old p r new
-put-writes-tell Empty old p r new sound writes = writes
-put-writes-tell (Started link) old p r new sound writes = writes
-put-writes-tell (Broken fault) old p r new sound writes = absurd (sound fault refl)
+put-writes-tell state old p r new sound writes = grind arith
 
 -- ---- a put to a sink to which these packets were put
 
 next-after : (ps : List Captured) (old : SinkView) (p : Captured) (r : Result (Unit {0}) Fault) (new : SinkView) → PutsPacket (state_after ps) old p r
     new → PutsNext old p r new
-next-after [] old p r new puts = puts
-next-after (q ∷ qs) old p r new puts = puts
-
-writes-after : (ps : List Captured) (old : SinkView) (p : Captured) (r : Result (Unit {0}) Fault) (new : SinkView) → PutWrites (state_after ps) old p r new
-    → WritesPacket (refusal_in old p) (added_in old p) old.written r new.written
-writes-after [] old p r new writes = writes
-writes-after (q ∷ qs) old p r new writes = writes
+next-after ps old p r new puts = grind arith
 
 pub put-next : (ps : List Captured) (old : SinkView) (p : Captured) (r : Result (Unit {0}) Fault) (new : SinkView)
     → HasPut old ps → PutsPacket old.state old p r new → PutsNext old p r new
-put-next ps old p r new has puts = next-after ps old p r new (let P : SinkState → Type 0 = λ st. PutsPacket st old p r new in subst P has.state puts)
+put-next ps old p r new has puts = grind (arith, next-after)
 
 -- why it is put, or isn't
 pub put-answer : (ps : List Captured) (old : SinkView) (p : Captured) (r : Result (Unit {0}) Fault) (new : SinkView)
     → HasPut old ps → PutsNext old p r new → IsPutAnswer (refusal_of old.format ps p) (takes_memory old.format ps p) r
-put-answer ps old p r new has puts =
-    let by = by-packets old ps p has in
-    rw (← by.refusal, ← by.memory) puts.adds.answer
+put-answer ps old p r new has puts = grind (arith, by-packets)
 
 -- the bytes that are written for it
 pub put-writes : (ps : List Captured) (old : SinkView) (p : Captured) (r : Result (Unit {0}) Fault) (new : SinkView)
@@ -168,8 +121,7 @@ put-writes ps old p r new has writes = search rules
 
 -- a packet that is put isn't refused
 pub put-taken : (refusal : Option Fault) (takes : Bool) → IsPutAnswer refusal takes (Ok tt) → refusal ≡ None
-put-taken None takes answer = refl
-put-taken (Some fault) takes answer = absurd answer
+put-taken refusal takes answer = grind arith
 
 written-ok : (refusal : Option Fault) (bytes written written' : List ℕ) → WritesPacket refusal bytes written (Ok tt) written' → written' ≡ written ++ bytes
 written-ok refusal bytes written written' writes = writes
@@ -186,10 +138,7 @@ HasPackets-put before ps old p new has puts writes =
           bytes
           ∙ rw (has.written, adds.format)
           (append_assoc before (text old.format ps) (added_text old.format ps p) ∙ ap (λ (t : List ℕ). before ++ t) (sym (text-push old.format ps p)));
-      put = record {
-        state = adds.state ∙ by.state;
-        interfaces = adds.interfaces ∙ by.interfaces ∙ ap (λ (f : Format). kept_interfaces f (ps ++ p ∷ [])) (sym adds.format);
-      };
+      put = grind arith;
     }
 
 -- ---- its end
@@ -197,14 +146,14 @@ HasPackets-put before ps old p new has puts writes =
 -- no packet was put: the header is written, or a prefix of it
 pub finish-none : (before : List ℕ) (old : SinkView) (first : Option ℕ) (r : Result (Unit {0}) Fault) (new : SinkView)
     → HasPackets before old [] → Finishes old.state old first r new → FinishesEmpty old (link_or_ethernet first) r new
-finish-none before old first r new has finishes = let P : SinkState → Type 0 = λ st. Finishes st old first r new in subst P has.put.state finishes
+finish-none before old first r new has finishes = grind arith
 
 pub finish-none-writes : (before : List ℕ) (old : SinkView) (first : Option ℕ) (r : Result (Unit {0}) Fault) (new : SinkView)
     → HasPackets before old [] → FinishWrites old.state old first r new → AppendsOrStops r old.written
     (file_start old.format (link_or_ethernet first)) new.written
-finish-none-writes before old first r new has writes = let P : SinkState → Type 0 = λ st. FinishWrites st old first r new in subst P has.put.state writes
+finish-none-writes before old first r new has writes = grind arith
 
 -- packets were put: all is written
 pub finish-some : (before : List ℕ) (q : Captured) (qs : List Captured) (old : SinkView) (first : Option ℕ) (r : Result (Unit {0}) Fault) (new : SinkView)
     → HasPackets before old (q ∷ qs) → Finishes old.state old first r new → (r ≡ Ok tt) × (new ≡ old)
-finish-some before q qs old first r new has finishes = let P : SinkState → Type 0 = λ st. Finishes st old first r new in subst P has.put.state finishes
+finish-some before q qs old first r new has finishes = grind arith

@@ -1,13 +1,11 @@
 -- Complete units, and what bytes begin with.
-use Rattle.cap_io.proofs.Common.{rules}
-use Rattle.cap_io.proofs.Common.{◌≡◌, ℕ, Bool, true, false, ◌&&◌, cond, is_some, ◌⊎◌, inl, inr, ◌<◌, ◌≤◌, List, [], ◌∷◌, ◌++◌, length, take, drop, Option, None}
-use Rattle.cap_io.proofs.Common.{Some, refl, sym, ◌∙◌, ap, arith, append-nil, length-append, length-take-le, take-append-drop, take_at, Captured, Fault, Head}
-use Rattle.cap_io.proofs.Common.{Resolution, Microseconds, Nanoseconds, form_in, header_checks, header_fault, header_in, magic, IsHeader, record_fault}
-use Rattle.cap_io.proofs.Common.{record_size, record_packet, IsRecord, header_fault-append, header_fault-none, header_in-append, IsRecord-front, IsRecord-take}
-use Rattle.cap_io.proofs.Common.{◌==◌, nat_le, u32_in, Little, Big, all_met, is_section, section_type, IsBlock, Section, block_size}
-use Rattle.cap_io.proofs.Common.{packets_in, unit_fault, Declared, Nothing, PcapFile, PcapngFile, IsUnit, a_pcap_header, a_pcap_record, a_first_block, a_block}
-use Rattle.cap_io.proofs.Common.{file_after, is_pcapng, placed_at, AreUnits, no_unit, unit_then, Whole, front_of, subst, append_assoc, FitUnits, no_unit_fits}
-use Rattle.cap_io.proofs.Common.{unit_fits, held_length}
+use Rattle.cap_io.proofs.Common.{rules, ◌≡◌, ℕ, Bool, true, false, ◌&&◌, cond, is_some, ◌⊎◌, inl, inr, ◌<◌, ◌≤◌, List, [], ◌∷◌, ◌++◌, length, take, drop}
+use Rattle.cap_io.proofs.Common.{Option, None, Some, refl, sym, ◌∙◌, ap, arith, append-nil, length-append, length-take-le, take-append-drop, take_at, Captured}
+use Rattle.cap_io.proofs.Common.{Fault, Head, Resolution, Microseconds, Nanoseconds, form_in, header_checks, header_fault, header_in, magic, IsHeader}
+use Rattle.cap_io.proofs.Common.{record_fault, record_size, record_packet, IsRecord, header_fault-append, header_fault-none, header_in-append, IsRecord-front}
+use Rattle.cap_io.proofs.Common.{IsRecord-take, ◌==◌, nat_le, u32_in, Little, Big, all_met, section_type, IsBlock, Section, block_size, packets_in, unit_fault}
+use Rattle.cap_io.proofs.Common.{Declared, Nothing, PcapFile, PcapngFile, IsUnit, a_pcap_header, a_pcap_record, a_first_block, a_block, file_after, is_pcapng}
+use Rattle.cap_io.proofs.Common.{placed_at, AreUnits, no_unit, unit_then, Whole, front_of, subst, append_assoc, FitUnits, no_unit_fits, unit_fits, held_length}
 use Rattle.cap_io.proofs.Fronts.{block_unless, front_of_file, header_unless, record_unless, front_of-header, front_of-record, front_of-pcapng}
 use Rattle.cap_io.proofs.Fronts.{front_of-following, front_of_block-whole}
 use Rattle.std.proofs.Common.{eqb-true}
@@ -20,23 +18,17 @@ use Rattle.cap_pcapng.proofs.Units as block
 -- The four bytes of a section header's type read as no magic number of pcap, in no order.
 not_swapped : (text : List ℕ) (resolution : Resolution) → 4 ≤ length text → u32_in Little text 0 ≡ section_type → u32_in Big text 0 ≡ magic resolution → ⊥
 unfolding number_in
-not_swapped (a ∷ b ∷ c ∷ d ∷ text) Microseconds enough little big = absurd (omega (arith, little, big))
-not_swapped (a ∷ b ∷ c ∷ d ∷ text) Nanoseconds enough little big = absurd (omega (arith, little, big))
-not_swapped _ resolution enough little big = absurd (omega arith)
+not_swapped text resolution enough little big = grind arith
 
 some_form : {X : Type 0} (a b : Bool) (x y : X) → is_some (cond a (Some x) (cond b (Some y) None)) ≡ true → (a ≡ true) ⊎ (b ≡ true)
-some_form true b x y e = inl refl
-some_form false true x y e = inr refl
-some_form false false x y e = absurd (cc)
+some_form a b x y e = grind arith
 
 pub and_second : (a b : Bool) → (a && b) ≡ true → b ≡ true
-and_second true b e = e
-and_second false b e = absurd (cc)
+and_second a b e = grind arith
 
 pub header-other : (text : List ℕ) → is_pcapng text ≡ true → header_fault text ≡ None → ⊥
 header-other text is none =
-    let little : u32_in Little text 0 ≡ section_type = eqb-true (u32_in Little text 0) section_type
-    (and_second (nat_le 4 (length text)) (is_section text) is) in
+    let little : u32_in Little text 0 ≡ section_type = grind (arith, eqb-true, and_second) in
     let some : is_some (form_in text) ≡ true = and_second (nat_le 4 (length text)) (is_some (form_in text)) (all_met (header_checks text) none).0 in
     let form = some_form (u32_in Big text 0 == magic Microseconds) (u32_in Big text 0 == magic Nanoseconds) (Big, Microseconds) (Big, Nanoseconds)
     (rw little at some) in
@@ -51,19 +43,12 @@ pub first-section : (text : List ℕ) → unit_fault None text ≡ None → is_p
 first-section text none = search rules
 
 other-header : (text : List ℕ) → header_fault text ≡ None → is_pcapng text ≡ false
-other-header text none = by_bool (is_pcapng text) refl
-  where
-    by_bool : (b : Bool) → is_pcapng text ≡ b → is_pcapng text ≡ false
-    by_bool true is = absurd (header-other text is none)
-    by_bool false is = is
+other-header text none = grind (arith, header-other)
 
 -- ---- the first unit
 
 header-front : (bytes more : List ℕ) (head : Head) → IsHeader bytes head → front_of Nothing (bytes ++ more) ≡ Whole (length bytes) [] (PcapFile head)
-header-front bytes more head is =
-    let none : header_fault (bytes ++ more) ≡ None = header_fault-append bytes more (omega (arith, is.whole)) ∙ is.passes in
-    front_of-header (bytes ++ more) (other-header (bytes ++ more) none) none
-    ∙ rw (header_in-append bytes more (omega (arith, is.whole)), is.whole, is.says) refl
+header-front bytes more head is = grind (arith, header_fault-append, front_of-header, other-header, header_in-append)
 
 record-front : (head : Head) (bytes more : List ℕ) → IsRecord head bytes → front_of (PcapFile head) (bytes ++ more) ≡ Whole (length bytes)
     (record_packet head bytes ∷ []) (PcapFile head)
@@ -77,8 +62,7 @@ pub block-front : (first : Option ℕ) (before : Option Section) (bytes more : L
     (file_after first before bytes)
 block-front first before bytes more is =
     let p = block.IsBlock-front before bytes more is in
-    front_of_block-whole first before (bytes ++ more) p.0
-    ∙ rw (p.1, take_at bytes more (length bytes) refl) refl
+    grind (arith, front_of_block-whole, take_at)
 
 block-sized : (before : Option Section) (bytes : List ℕ) → IsBlock before bytes → 12 ≤ length bytes
 block-sized before bytes is = (block.passes before bytes is.passes).enough
@@ -102,11 +86,7 @@ pub record IsFront (declared : Declared) (text : List ℕ) (size : ℕ) (packets
 
 same_front : (declared : Declared) (text : List ℕ) (m n : ℕ) (ps qs : List Captured) (c d : Declared) → Whole m ps c ≡ Whole n qs d
     → IsFront declared text m ps c → IsFront declared text n qs d
-same_front declared text m n ps qs c d e is =
-    let size : m ≡ n = cc in
-    let packets : ps ≡ qs = cc in
-    let after : c ≡ d = cc in
-    rw (← size, ← packets, ← after) is
+same_front declared text m n ps qs c d e is = grind arith
 
 header-is : (text : List ℕ) (size : ℕ) (packets : List Captured) (after : Declared) (fault : Option Fault) → header_fault text ≡ fault
     → header_unless fault text ≡ Whole size packets after → IsFront Nothing text size packets after
@@ -114,7 +94,7 @@ header-is text size packets after None none e =
     let enough : 24 ≤ length text = header_fault-none text none in
     let joined : take 24 text ++ drop 24 text ≡ text = take-append-drop 24 text in
     let long : length (take 24 text) ≡ 24 = length-take-le 24 text enough in
-    let passes : header_fault (take 24 text) ≡ None = sym (header_fault-append (take 24 text) (drop 24 text) (omega arith)) ∙ ap header_fault joined ∙ none in
+    let passes : header_fault (take 24 text) ≡ None = grind (arith, header_fault-append) in
     let says : header_in text ≡ header_in (take 24 text) = ap header_in (sym joined) ∙ header_in-append (take 24 text) (drop 24 text) (omega arith) in
     let is : IsFront Nothing text 24 [] (PcapFile (header_in text)) =
     record {
@@ -154,13 +134,13 @@ block-is declared first before text size packets after (Some fault) fails e unit
 file-is : (text : List ℕ) (size : ℕ) (packets : List Captured) (after : Declared) (section : Bool) → front_of_file section text ≡ Whole size packets
     after → IsFront Nothing text size packets after
 file-is text size packets after true e = block-is Nothing None None text size packets after (unit_fault None text) refl e (λ bytes is. a_first_block bytes is)
-file-is text size packets after false e = header-is text size packets after (header_fault text) refl e
+file-is text size packets after false e = grind (arith, header-is)
 
 pub front_of-is : (declared : Declared) (text : List ℕ) (size : ℕ) (packets : List Captured) (after : Declared) → front_of declared text ≡ Whole size
     packets after → IsFront declared text size packets after
 front_of-is Nothing text size packets after e = file-is text size packets after (is_pcapng text) e
 front_of-is (PcapFile head) [] size packets after e = (cc)
-front_of-is (PcapFile head) (b ∷ bytes) size packets after e = record-is head (b ∷ bytes) size packets after (record_fault head (b ∷ bytes)) refl e
+front_of-is (PcapFile head) (b ∷ bytes) size packets after e = grind (arith, record-is)
 front_of-is (PcapngFile first section) [] size packets after e = (cc)
 front_of-is (PcapngFile first section) (b ∷ bytes) size packets after e =
     block-is (PcapngFile first section) first (Some section) (b ∷ bytes) size packets after (unit_fault (Some section) (b ∷ bytes)) refl e
@@ -189,5 +169,4 @@ one_unit_fits {room} {size} {b} {d} {u} unit whole fits =
 
 -- no more of a unit is held than it has
 pub held_length-le : (b c : Declared) (size : ℕ) → held_length b c size ≤ size
-held_length-le Nothing Nothing size = omega arith
-held_length-le _ c size = omega arith
+held_length-le b c size = grind arith

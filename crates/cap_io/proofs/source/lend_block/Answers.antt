@@ -1,5 +1,5 @@
 -- A block at hand that fails no check is lent, if it has a packet.
-use Rattle.cap_io.proofs.Common.{subst}
+use Rattle.cap_io.proofs.Common.{arith, subst}
 use Rattle.cap_io.proofs.FirstUnits.{packet-first}
 use Rattle.cap_io.proofs.Hands.{unit-lent}
 use Rattle.cap_io.specs.FirstUnit.{BeginsWithUnit}
@@ -14,5 +14,4 @@ returns-in-Packet-clause-lent g c = λ lent.
     let packet = c.in-Packet.packet in
     let with : BlockEffect → Type 0 = λ e. BeginsWithUnit file c.args.table.now hand (record found { effect = e }) in
     let begins = packet-first file found.file c.args.table.now hand found.size packet c.requires (subst with c.in-Packet.is c.in-Ok.ensures.ok) in
-    unit-lent g.I.Input _ c.args.room hand packet c.lend_unit.new.spans c.args.input.now c.lend_unit.new.self begins c.next_bytes.ensures.held
-    c.next_bytes.ensures.exact (c.lend_unit.ensures.place lent) (c.lend_unit.ensures.lends lent)
+    grind (arith, unit-lent)

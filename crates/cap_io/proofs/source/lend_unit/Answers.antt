@@ -1,4 +1,5 @@
 -- A record at hand that fails no check is lent.
+use Rattle.std.proofs.Common.{arith}
 use Rattle.cap_io.proofs.FirstUnits.{packet-first}
 use Rattle.cap_io.proofs.Hands.{unit-lent}
 use Rattle.cap_io.proofs.source.lend_unit.Goals as goal
@@ -10,6 +11,4 @@ pub returns-clause-lent : goal.returns-clause-lent
 returns-clause-lent g c = λ lent.
     let packet = c.in-Ok.packet in
     let begins = packet-first _ _ c.args.table.now c.next_bytes-hand.result.now _ packet tt (c.in-Ok.ensures.ok c.args.table.now) in
-    unit-lent g.I.Input _ c.args.room c.next_bytes-hand.result.now packet c.lend_unit.new.spans c.args.input.now c.lend_unit.new.self
-    (rw c.in-Pcap.is begins) c.next_bytes-hand.ensures.held c.next_bytes-hand.ensures.exact (c.lend_unit.ensures.place lent)
-    (c.lend_unit.ensures.lends lent)
+    grind (arith, unit-lent)

@@ -1,5 +1,5 @@
 -- The bytes that are read follow those at hand, which don't change.
-use Rattle.std.proofs.Common.{rules, ◌≡◌, ◌-◌, ◌≤◌, ◌∙◌, ℕ, List, ◌++◌, length, take, drop, ap, sym, arith, length-append, length-drop, take-append-drop}
+use Rattle.std.proofs.Common.{rules, ◌≡◌, ◌-◌, ◌≤◌, ℕ, List, ◌++◌, length, take, drop, arith, length-append, length-drop, take-append-drop}
 use Rattle.std.proofs.lemmas.List.{append-nil, drop_all, drop_at, length-take-le, take-append-le}
 use Rattle.std.proofs.lemmas.Slice.{overwrites, take-put_mid}
 use Rattle.cap_octet.specs.Device.{Takes}
@@ -11,46 +11,10 @@ filled : (unread unread' whole filling following : List ℕ) (front part size co
     → Takes unread (take part (drop front whole)) count unread' filling → count ≤ part
     → unread ≡ drop front (take size ((take front whole ++ (filling ++ drop part (drop front whole))) ++ following)) ++ unread'
 filled unread unread' whole filling following front part size count within long part_is full takes least =
-    let rest : List ℕ = take part (drop front whole) in
-    let has : length rest ≡ part = length-take-le part (drop front whole) (omega (arith, length-drop front whole)) in
-    let is : filling ≡ take count unread =
-    takes.bytes ∙ ap (λ (l : List ℕ). take count unread ++ l) (drop_all count rest (omega (arith, full))) ∙ append-nil (take count unread) in
-    let fills : length filling ≡ part = ap length is ∙ length-take-le count unread takes.there ∙ omega (arith, has, full, least) in
-    let start : length (take front whole) ≡ front = length-take-le front whole (omega arith) in
-    let put : List ℕ = take front whole ++ (filling ++ drop part (drop front whole)) in
-    let cut : take size (put ++ following) ≡ take front whole ++ filling =
-    take-append-le size put following
-    (omega (
-      arith,
-      length-append (take front whole) (filling ++ drop part (drop front whole)),
-      length-append filling (drop part (drop front whole)),
-      start,
-      fills,
-    ))
-    ∙ take-put_mid front part whole filling size (omega (arith, fills)) (omega arith) in
-    let came : drop front (take size (put ++ following)) ≡ filling = ap (drop front) cut ∙ drop_at (take front whole) filling front start in
-    sym (take-append-drop count unread) ∙ ap (λ (l : List ℕ). take count unread ++ l) (sym takes.rest) ∙ ap (λ (l : List ℕ). l ++ unread') (sym is ∙ sym came)
+    grind (arith, length-take-le, length-drop, drop_all, append-nil, take-append-le, length-append, take-put_mid, drop_at, take-append-drop)
 
 pub returns-clause-same : goal.returns-clause-same
 returns-clause-same g c = search (rules, overwrites)
 
 pub returns-clause-ok : goal.returns-clause-ok
-returns-clause-ok g c = λ t.
-    let front = c.args.front.now in
-    let unit : List ℕ = take c.args.size c.args.buffer.now in
-    let whole : List ℕ = c.copy_from_slice.new.self ++ drop (length front) unit in
-    let size : length whole ≡ c.args.size =
-    omega (
-      arith,
-      length-append c.copy_from_slice.new.self (drop (length front) unit),
-      length-drop (length front) unit,
-      length-take-le c.args.size
-          c.args.buffer.now c.requires.room,
-      ap length c.copy_from_slice.ensures.after,
-      c.requires.whole,
-    ) in
-    let part : length whole - length front ≡ c.args.size - length front = ap (λ n. n - length front) size in
-    let taken = (c.in-Ok.ensures.exact t).taken in
-    let there = length-take-le (length whole - length front) (drop (length front) whole) (omega (arith, length-drop (length front) whole)) in
-    filled _ _ whole c.read_full.new.buf _ (length front) (length whole - length front) c.args.size c.in-Ok.count c.requires.whole size part
-    c.if-count-room.false taken (omega (arith, there, c.in-Ok.ensures.within))
+returns-clause-ok g c = search (rules, length-append, length-drop, length-take-le, filled)

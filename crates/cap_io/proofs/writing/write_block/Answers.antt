@@ -1,7 +1,6 @@
 -- File start, interface and packet are written in this order, or a prefix of them.
-use Rattle.cap_io.proofs.Common.{Ok, Err, err_from_is_err_and, captured, Appends, description_text}
+use Rattle.cap_io.proofs.Common.{arith, Ok, Err, err_from_is_err_and, captured, Appends, description_text}
 use Rattle.cap_io.proofs.Parts.{appends-exactly, appends-nothing, appends-stopped, appends-then}
-use Rattle.cap_io.proofs.writing.write_block.Goals.{then-interface+in_ok-map_err, else-interface}
 use Rattle.cap_io.proofs.writing.write_block.Goals as goal
 
 pub returns-in_err-write_file_start : goal.returns-in_err-write_file_start
@@ -21,11 +20,7 @@ returns-in_err-map_err g c =
 pub returns : goal.returns
 returns g c =
     let described : Appends g.O.Output c.write_file_start.new.output (description_text c.args.interface.is_new (captured c.args.packet.now)) (Ok tt)
-    c.if-interface.output = elim c.if-interface.branch [
-      | then-interface+in_ok-map_err w ↦ rw (w.output-is, w.if-interface.true)
-          (rw w.in_ok-map_err.was at (appends-exactly _ _ _ _ w.write_interface.result w.map_err.result w.map_err.ensures.variant w.write_interface.ensures))
-      | else-interface w ↦ rw (w.output-is, w.if-interface.false) (appends-nothing _ _)
-    ] in
+    c.if-interface.output = grind (arith, appends-exactly, appends-nothing) in
     appends-then _ _ _ _ _ _ _ c.in_ok-write_file_start.ensures
     (appends-then _ _ _ _ _ _ _ described (appends-exactly _ _ _ _ c.write_packet.result c.map_err-2.result c.map_err-2.ensures.variant
     c.write_packet.ensures))

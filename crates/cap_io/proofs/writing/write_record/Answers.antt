@@ -1,5 +1,5 @@
 -- File start and record are written in this order, or a prefix of them.
-use Rattle.cap_io.proofs.Common.{◌≡◌, ℕ, List, [], ◌++◌, ap, ◌∙◌, append-nil, err_from_is_err_and, captured, record_text}
+use Rattle.cap_io.proofs.Common.{arith, ◌≡◌, ℕ, List, [], ◌++◌, ap, ◌∙◌, append-nil, err_from_is_err_and, captured, record_text}
 use Rattle.cap_io.proofs.Parts.{appends-as, appends-stopped, appends-then}
 use Rattle.cap_pcap.specs.Encoding.{resolution_of}
 use Rattle.cap_io.proofs.writing.write_record.Goals as goal
@@ -15,8 +15,4 @@ returns g c =
     let bytes : List ℕ = c.args.packet.now.bytes.now in
     let same : front ++ (bytes ++ []) ≡ record_text (resolution_of c.args.format) (captured c.args.packet.now) =
     ap (λ (l : List ℕ). front ++ l) (append-nil bytes) ∙ ap (λ (l : List ℕ). l ++ bytes) c.record_bytes.ensures in
-    appends-then _ _ _ _ _ _ _ c.in_ok-write_file_start.ensures (record {
-      appended = λ tells. appends-as c.write_parts.result _ _ _ _ same (c.write_parts.ensures.exact tells);
-      failed = c.write_parts.ensures.failed;
-      room = c.write_parts.ensures.room;
-    })
+    appends-then _ _ _ _ _ _ _ c.in_ok-write_file_start.ensures (grind (arith, appends-as))

@@ -3,7 +3,7 @@ use Rattle.cap_io.proofs.BlocksCame.{adds-describes, block-exceeds, block_came, 
 use Rattle.cap_io.proofs.BlocksCame.{rest_of_block, whole_came}
 use Rattle.cap_io.proofs.CapturesCame.{block-takes, first-again, has-section, interface-takes, interfaces-held, interfaces-kept, order-held, packet-block}
 use Rattle.cap_io.proofs.CapturesCame.{passed-block, no-error, moves-failed, reads-no_unit, refused-block, section-fits, small-following}
-use Rattle.cap_io.proofs.Common.{rules, ◌≡◌, length, take, ap, arith, refl, sym, ◌∙◌, take_at, err_from_is_err_and, frame_in, section_of, PcapngFile}
+use Rattle.cap_io.proofs.Common.{rules, ◌≡◌, length, take, ap, arith, refl, sym, ◌∙◌, take_at, err_from_is_err_and, section_of, PcapngFile}
 use Rattle.cap_io.proofs.Common.{first_link_after, declared_by, known_first_link, section_before}
 use Rattle.cap_io.proofs.{OwnFaults.entry-adds, OwnFaults.entry-own, Units.held_length-le}
 use Rattle.cap_io.proofs.next_unit.UnitReader.read_block.Goals as goal
@@ -23,8 +23,8 @@ returns-in_err-make_room g c =
     let p = err_from_is_err_and c.from_residual-in_err-make_room.result c.from_residual-in_err-make_room.ensures.1 in
     rw (p.1, p.2, c.in_err-make_room.ensures.memory.0) (reads-no_unit g.I.Input c.args.self.now c.args.front.now _ _ (search rules)
     (λ t. refused-block c.args.self.now.file c.args.self.now.table c.args.front.now _ _ _ c.told-front c.requires.begins
-    (no_room_for_block (section_before c.args.self.now.file c.args.self.now.table) c.args.front.now _ c.told-front))
-    (refl, refl) (c.make_room.ensures.grown) (λ most. c.make_room.ensures.bounded c.in_ok-found.ensures.longest most)
+    (grind (arith, no_room_for_block)))
+    (refl, refl) (c.make_room.ensures.grown) (grind arith)
     (λ e t. block-takes c.args.self.now.file c.args.self.now.table c.args.front.now _ _ (omega (arith, c.told-front)) c.requires.begins
     (block-exceeds (section_before c.args.self.now.file c.args.self.now.table) c.order.result c.args.front.now _ c.in_ok-found.found _
     (order-held c.args.self.now.file c.args.self.now.table ∙ sym c.order.ensures) c.told-front
@@ -40,34 +40,23 @@ returns-in_err-read_rest g c =
     (order-held c.args.self.now.file c.args.self.now.table ∙ sym c.order.ensures) c.told-front
     (front_says c.order.result c.args.front.now _ c.in_ok-found.found c.frame.ensures.answer c.in_ok-found.was) c.in_ok-found.ensures.longest
     (c.in_err-read_rest.ensures.err t)))
-    (refl, refl) (rw (take_at c.read_rest.new.buffer _ c.make_room.new.buffer.len size)
-    (omega (arith, size, c.make_room.ensures.grown, c.make_room.new.buffer.ok.0)))
-    (λ most. rw (take_at c.read_rest.new.buffer _ c.make_room.new.buffer.len size)
-    (omega (arith, size, c.make_room.ensures.bounded c.in_ok-found.ensures.longest most, c.make_room.new.buffer.ok.0)))
+    (refl, refl) (grind (arith, take_at))
+    (grind (arith, take_at))
     (λ e. absurd (c.in_err-read_rest.ensures.memory e)))
 
 pub apply_block-requires-clause-section : goal.apply_block-requires-clause-section
-apply_block-requires-clause-section g c = section-fits c.args.self.now.file c.args.self.now.table c.args.front.now c.requires.begins c.requires.consistent
+apply_block-requires-clause-section g c = grind (arith, section-fits)
 
 pub returns-in-Err : goal.returns-in-Err
 returns-in-Err g c =
     let size : length c.read_rest.new.buffer ≡ c.make_room.new.buffer.len = c.read_rest.auto.buffer ∙ c.as_mut_slice.ensures.len in
     let moves = c.in_ok-read_rest.ensures.moves in
     let own = entry-own _ _ _ c.in-Err.fault c.in-Err.ensures.err in
-    reads-no_unit g.I.Input c.args.self.now c.args.front.now _ _ (record {
-      counted = tt;
-      grown = moves.grown;
-      bounded = tt;
-      at_most = omega (arith, moves.counted, c.in_ok-found.ensures.longest);
-      failed = omega (arith, moves.failed, own);
-      sure = moves.sure;
-      enough = moves.enough;
-      told = moves.told;
-    })
+    reads-no_unit g.I.Input c.args.self.now c.args.front.now _ _ (grind arith)
     (λ t. refused-block c.args.self.now.file c.args.self.now.table c.args.front.now _ _ _ c.told-front c.requires.begins
     (entry_refused (section_before c.args.self.now.file c.args.self.now.table) c.order.result c.args.self.now.table _ _ _ _ c.in_ok-found.found _
     (order-held c.args.self.now.file c.args.self.now.table ∙ sym c.order.ensures)
-    (interfaces-held c.args.self.now.file c.args.self.now.table c.args.front.now c.requires.begins c.requires.consistent)
+    (grind (arith, interfaces-held))
     c.in_ok-found.ensures.shortest c.in_ok-found.ensures.longest
     (omega (arith, c.in_ok-make_room.ensures.room, c.deref.ensures.len, ap length c.deref.ensures.value))
     (whole_came c.order.result c.args.front.now _ _ (take c.in_ok-found.found.length c.read_rest.new.buffer) _ c.in_ok-found.found c.told-front
@@ -75,13 +64,12 @@ returns-in-Err g c =
     (rw (take_at c.read_rest.new.buffer _ c.make_room.new.buffer.len size) refl) c.in_ok-read_rest.ensures.same (c.in_ok-read_rest.ensures.ok t))
     (ap (take c.in_ok-found.found.length) c.deref.ensures.value) c.in-Err.ensures.err))
     (refl, c.in-Err.ensures.kept)
-    (rw (take_at c.read_rest.new.buffer _ c.make_room.new.buffer.len size) (omega (arith, size, c.make_room.ensures.grown, c.make_room.new.buffer.ok.0)))
-    (λ most. rw (take_at c.read_rest.new.buffer _ c.make_room.new.buffer.len size)
-    (omega (arith, size, c.make_room.ensures.bounded c.in_ok-found.ensures.longest most, c.make_room.new.buffer.ok.0)))
+    (grind (arith, take_at))
+    (grind (arith, take_at))
     (λ e t. interface-takes c.args.self.now.file c.args.self.now.table c.args.front.now _ _ (omega (arith, c.told-front)) c.requires.begins
     (adds-describes (section_before c.args.self.now.file c.args.self.now.table) c.order.result c.args.self.now.table _ _ _ _ c.in_ok-found.found
     (order-held c.args.self.now.file c.args.self.now.table ∙ sym c.order.ensures)
-    (interfaces-held c.args.self.now.file c.args.self.now.table c.args.front.now c.requires.begins c.requires.consistent) c.in_ok-found.ensures.shortest
+    (grind (arith, interfaces-held)) c.in_ok-found.ensures.shortest
     (omega (arith, c.in_ok-make_room.ensures.room, c.deref.ensures.len, ap length c.deref.ensures.value))
     (whole_came c.order.result c.args.front.now _ _ (take c.in_ok-found.found.length c.read_rest.new.buffer) _ c.in_ok-found.found c.told-front
     (front_says c.order.result c.args.front.now _ c.in_ok-found.found c.frame.ensures.answer c.in_ok-found.was)
@@ -99,46 +87,24 @@ returns-in-Ok-Some g c =
     let small = small-following _ _ (length c.args.front.now) frame.length c.told-front moves.counted c.in_ok-found.ensures.shortest moves.bounded
     c.requires.bounded in
     record {
-      moves = record {
-        counted = omega (arith, moves.counted, enters.fits.0);
-        grown = moves.grown;
-        bounded = λ some. small;
-        at_most = tt;
-        failed = moves.failed;
-        sure = moves.sure;
-        enough = moves.enough;
-        told = moves.told;
-      };
-      sized = (
-        record {
-          bytes = omega (arith, enters.fits.0, enters.fits.1);
-          options = omega (arith, enters.fits.0, enters.fits.3);
-          there = omega (arith, enters.fits.0, c.in_ok-make_room.ensures.room, c.deref.ensures.len, ap length c.deref.ensures.value);
-          some = omega (arith, enters.fits.0, c.in_ok-found.ensures.shortest);
-          small = omega (arith, enters.fits.0, c.in_ok-found.ensures.longest);
-          time = enters.fits.2;
-        },
-        small,
-      );
+      moves = grind arith;
+      sized = (grind arith);
       consistent = rw stays c.requires.consistent;
-      known = has-section c.args.self.now.file c.args.front.now _ frame c.args.self.now.table c.apply_block.new.table c.in-Ok-Some.packet
-          c.requires.begins (ap (λ o. frame_in o c.args.front.now) (sym c.order.ensures) ∙ says.says) enters enters.known;
+      known = grind (arith, has-section);
       ok = λ t. packet-block c.args.self.now.file c.args.self.now.table c.apply_block.new.table c.args.front.now _ _ _ frame.order frame.length
           c.in-Ok-Some.packet c.requires.begins
           (omega (arith, c.in_ok-make_room.ensures.room, c.deref.ensures.len, ap length c.deref.ensures.value)) c.requires.consistent enters.fits.0 stays
           (block_came (section_before c.args.self.now.file c.args.self.now.table) c.order.result c.args.self.now.table c.apply_block.new.table _ _ _ _
           frame _ (order-held c.args.self.now.file c.args.self.now.table ∙ sym c.order.ensures)
-          (interfaces-held c.args.self.now.file c.args.self.now.table c.args.front.now c.requires.begins c.requires.consistent) c.in_ok-found.ensures.shortest
+          (grind (arith, interfaces-held)) c.in_ok-found.ensures.shortest
           (omega (arith, c.in_ok-make_room.ensures.room, c.deref.ensures.len, ap length c.deref.ensures.value))
           (whole_came c.order.result c.args.front.now _ _ (take frame.length c.read_rest.new.buffer) _ frame c.told-front says
           (rw (take_at c.read_rest.new.buffer _ c.make_room.new.buffer.len size) refl) c.in_ok-read_rest.ensures.same (c.in_ok-read_rest.ensures.ok t))
           (ap (take frame.length) c.deref.ensures.value) enters);
       err = tt;
       kept = tt;
-      grown = rw (take_at c.read_rest.new.buffer _ c.make_room.new.buffer.len size)
-          (omega (arith, size, c.make_room.ensures.grown, c.make_room.new.buffer.ok.0));
-      bounded = λ most. rw (take_at c.read_rest.new.buffer _ c.make_room.new.buffer.len size)
-          (omega (arith, size, c.make_room.ensures.bounded c.in_ok-found.ensures.longest most, c.make_room.new.buffer.ok.0));
+      grown = grind (arith, take_at);
+      bounded = grind (arith, take_at);
       fits = omega (
         arith,
         enters.fits.0,
@@ -161,35 +127,24 @@ returns-in-Ok-None g c =
     let small = small-following _ _ (length c.args.front.now) frame.length c.told-front moves.counted c.in_ok-found.ensures.shortest moves.bounded
     c.requires.bounded in
     rw (c.first_link_type-link.ensures frame.order, c.first_link.ensures) (record {
-      moves = record {
-        counted = moves.counted;
-        grown = moves.grown;
-        bounded = λ some. small;
-        at_most = tt;
-        failed = moves.failed;
-        sure = moves.sure;
-        enough = moves.enough;
-        told = moves.told;
-      };
+      moves = grind arith;
       sized = (omega (arith, c.in_ok-found.ensures.shortest), small);
-      consistent = (first-again (known_first_link c.args.self.now.file) (section_of frame.order c.apply_block.new.table), c.in-Ok-None.ensures.section);
+      consistent = (grind (arith, first-again));
       known = tt;
       ok = λ t. passed-block c.args.self.now.file c.args.self.now.table c.apply_block.new.table c.args.front.now _ _ _ frame.order frame.length
           c.requires.begins
           (omega (arith, c.in_ok-make_room.ensures.room, c.deref.ensures.len, ap length c.deref.ensures.value))
           (block_came (section_before c.args.self.now.file c.args.self.now.table) c.order.result c.args.self.now.table c.apply_block.new.table _ _ _ _
           frame _ (order-held c.args.self.now.file c.args.self.now.table ∙ sym c.order.ensures)
-          (interfaces-held c.args.self.now.file c.args.self.now.table c.args.front.now c.requires.begins c.requires.consistent) c.in_ok-found.ensures.shortest
+          (grind (arith, interfaces-held)) c.in_ok-found.ensures.shortest
           (omega (arith, c.in_ok-make_room.ensures.room, c.deref.ensures.len, ap length c.deref.ensures.value))
           (whole_came c.order.result c.args.front.now _ _ (take frame.length c.read_rest.new.buffer) _ frame c.told-front says
           (rw (take_at c.read_rest.new.buffer _ c.make_room.new.buffer.len size) refl) c.in_ok-read_rest.ensures.same (c.in_ok-read_rest.ensures.ok t))
           (ap (take frame.length) c.deref.ensures.value) enters);
       err = tt;
       kept = tt;
-      grown = rw (take_at c.read_rest.new.buffer _ c.make_room.new.buffer.len size)
-          (omega (arith, size, c.make_room.ensures.grown, c.make_room.new.buffer.ok.0));
-      bounded = λ most. rw (take_at c.read_rest.new.buffer _ c.make_room.new.buffer.len size)
-          (omega (arith, size, c.make_room.ensures.bounded c.in_ok-found.ensures.longest most, c.make_room.new.buffer.ok.0));
+      grown = grind (arith, take_at);
+      bounded = grind (arith, take_at);
       fits = omega (
         arith,
         held_length-le (declared_by c.args.self.now.file c.args.self.now.table)

@@ -1,25 +1,17 @@
 -- The first unit is a file header or a section header, or the file is refused.
-use Rattle.std.proofs.Common.{rules, [], refl, sym, ◌∙◌, arith}
+use Rattle.std.proofs.Common.{rules, ◌∙◌, arith}
 use Rattle.std.proofs.lemmas.Result.{err_from_is_err_and}
-use Rattle.cap_io.proofs.Came.{NoUnitCame-following, first_of, joined_front, section_of_bytes}
-use Rattle.cap_io.proofs.CapturesCame.{no-error, ReadsUnit-following, reads-no_unit, UnitPassed-following, header_passed, rest_of_front}
+use Rattle.cap_io.proofs.Came.{first_of, joined_front, section_of_bytes}
+use Rattle.cap_io.proofs.CapturesCame.{no-error, ReadsUnit-following, reads-no_unit, header_passed, rest_of_front}
 use Rattle.cap_io.proofs.next_unit.UnitReader.read_first_unit.Goals as goal
 
 pub returns-in_err-read_rest : goal.returns-in_err-read_rest
 returns-in_err-read_rest g c =
     let p = err_from_is_err_and c.from_residual-in_err-read_rest.result c.from_residual-in_err-read_rest.ensures.1 in
-    rw (p.1, p.2) (reads-no_unit g.I.Input c.args.self.now [] _ _ (search rules)
-    (λ t. rw c.requires.unknown (NoUnitCame-following _ _ _ c.in_ok-first.first _ (c.in_ok-first.ensures.ok t)
-    (rest_of_front c.in_ok-first.first _ _ _ 12 refl (search rules) (sym c.begins_section.ensures ∙ c.if-not-begins_section.false)
-    (c.in_err-read_rest.ensures.err t))))
-    (refl, refl) (omega arith) (λ most. most)
-    (λ e. absurd (c.in_err-read_rest.ensures.memory e)))
+    grind (arith, reads-no_unit, rest_of_front)
 
 pub read_block-requires-clause-begins : goal.read_block-requires-clause-begins
-read_block-requires-clause-begins g c =
-    rw c.requires.unknown (section_of_bytes c.read_rest.new.buffer c.in_ok-first.first
-    (first_of c.in_ok-first.first c.read_rest.new.buffer 12 (search rules) c.in_ok-read_rest.ensures.same) (search rules)
-    ∙ sym c.begins_section.ensures ∙ c.if-not-begins_section.false)
+read_block-requires-clause-begins g c = grind (arith, section_of_bytes, first_of)
 
 pub returns : goal.returns
 returns g c =
@@ -32,17 +24,4 @@ returns g c =
     c.read_block.ensures
 
 pub returns-then-not-begins_section : goal.returns-then-not-begins_section
-returns-then-not-begins_section g c = record {
-  moves = search rules;
-  sized = search rules;
-  consistent = tt;
-  known = tt;
-  ok = λ t. rw c.requires.unknown (UnitPassed-following _ _ _ c.in_ok-first.first _ _ (c.in_ok-first.ensures.ok t)
-      (header_passed _ _ c.in_ok-read_header.field-0 (c.in_ok-read_header.ensures.ok t)));
-  err = tt;
-  kept = tt;
-  grown = omega arith;
-  bounded = λ most. most;
-  fits = rw c.requires.unknown (omega arith);
-  memory = λ e. absurd (no-error e);
-}
+returns-then-not-begins_section g c = grind (arith, header_passed, no-error)

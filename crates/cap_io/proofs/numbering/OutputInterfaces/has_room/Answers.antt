@@ -1,18 +1,12 @@
 -- There is room if the interface is known or fewer than the most are.
-use Rattle.cap_io.proofs.Common.{◌≡◌, ◌<◌, List, ◌++◌, length, map, nat_lt, nat_le, sym, ap, subst, ◌∙◌, arith, length-map, captured, Interface, interface_of}
+use Rattle.cap_io.proofs.Common.{◌≡◌, List, ◌++◌, length, map, nat_le, sym, ap, subst, ◌∙◌, arith, length-map, captured, Interface, interface_of}
 use Rattle.cap_io.proofs.Common.{most_output_interfaces, new_among, is_among, interface_in}
 use Rattle.cap_io.proofs.Interfaces.{among-keys, room-full, room-below}
 use Rattle.std.proofs.lemmas.Bool.{lt-ltb}
 use Rattle.cap_io.proofs.numbering.OutputInterfaces.has_room.Goals as goal
 
 pub returns-then-len-lt-MOST_OUTPUT_INTERFACES : goal.returns-then-len-lt-MOST_OUTPUT_INTERFACES
-returns-then-len-lt-MOST_OUTPUT_INTERFACES g c =
-    let keys = c.self.inside.keys.keys in
-    let i : Interface = interface_of (captured c.args.packet.now) in
-    let upper_bound : length (map interface_in keys) < most_output_interfaces = omega (arith, length-map keys interface_in, c.len.ensures.len) in
-    let P : List Interface → Type 0 = λ l. nat_lt c.len.result most_output_interfaces ≡ nat_le (length (l ++ new_among l i)) most_output_interfaces in
-    subst P c.self.view_is (lt-ltb c.len.result most_output_interfaces c.if-len-lt-MOST_OUTPUT_INTERFACES.true
-    ∙ sym (room-below (map interface_in keys) i upper_bound))
+returns-then-len-lt-MOST_OUTPUT_INTERFACES g c = grind (arith, captured, length-map, lt-ltb, room-below)
 
 pub returns-else-len-lt-MOST_OUTPUT_INTERFACES : goal.returns-else-len-lt-MOST_OUTPUT_INTERFACES
 returns-else-len-lt-MOST_OUTPUT_INTERFACES g c =

@@ -1,6 +1,6 @@
 -- Reading a unit takes it from those that the file has left.
-use Rattle.cap_io.proofs.Common.{take, ◌+◌, ◌∙◌, Err, arith, length, length-take-le, refl, ap, ap₂, err_from_is_err_and, length-take, declared_by, SourceView}
-use Rattle.cap_io.proofs.Common.{block_at, packet_at, unit_at, view_of}
+use Rattle.cap_io.proofs.Common.{◌+◌, ◌∙◌, Err, arith, length, length-take-le, refl, ap, err_from_is_err_and, length-take, SourceView}
+use Rattle.cap_io.proofs.Common.{block_at, unit_at, view_of}
 use Rattle.cap_io.proofs.Hands.{packet-there}
 use Rattle.cap_io.proofs.Passing.{FindsEnd-next, FindsPacket-next, IsBroken-next, SkipsUnits-next, bounds-next, no-unit-end, stage_between}
 use Rattle.cap_io.specs.declared.source.Stage.{Stage}
@@ -16,13 +16,12 @@ returns-in_err-unit-clause-packets g c =
     (ap (λ (v : SourceView). v.block) c.self.view_is ∙ c.requires.between.block) c.self.invariant.lies in
     rw (p.1, p.2) (λ t. IsBroken-next c.args.self.now new c.in_err-unit.field-0.0 c.requires.between
     (rw (declared, ap (λ (v : SourceView). v.unread) c.self.view_is) at (c.in_err-unit.ensures.err t))
-    (ap₂ declared_by c.in_err-unit.ensures.kept.0 c.in_err-unit.ensures.kept.1 ∙ declared) (ap (λ (v : SourceView). v.offset) c.self.view_is)
+    (grind arith) (ap (λ (v : SourceView). v.offset) c.self.view_is)
     (omega (arith, c.in_err-unit.ensures.grown, ap (λ (v : SourceView). v.room) c.self.view_is))
     (λ e. rw (declared, ap (λ (v : SourceView). v.unread) c.self.view_is) at (c.in_err-unit.ensures.memory (ap Err e) t))
     (c.in_err-unit.ensures.moves.told t ∙ ap (λ (v : SourceView). v.given + length v.unread) c.self.view_is)
-    (ap (λ s. block_at s c.next_unit.new.self.spans (unit_at g.I.Input s c.next_unit.new.self)) between)
-    (ap (λ s. packet_at s c.next_unit.new.self.spans (declared_by c.next_unit.new.self.file c.next_unit.new.self.table)
-    (unit_at g.I.Input s c.next_unit.new.self)) between))
+    (grind (arith, block_at))
+    (grind arith))
 
 pub returns-in-Packet-clause-packets : goal.returns-in-Packet-clause-packets
 returns-in-Packet-clause-packets g c = λ t.
@@ -54,54 +53,13 @@ returns-in-End-clause-packets g c = λ t.
     refl refl refl)
 
 pub returns-in_err-unit-clause-bounds : goal.returns-in_err-unit-clause-bounds
-returns-in_err-unit-clause-bounds g c =
-    let p = err_from_is_err_and c.from_residual.result c.from_residual.ensures.1 in
-    let reads = c.in_err-unit.ensures in
-    let between = stage_between c.self.inside.stage c.self.inside.reader.spans (unit_at g.I.Input c.self.inside.stage c.self.inside.reader)
-    (ap (λ (v : SourceView). v.phase) c.self.view_is ∙ c.requires.between.phase)
-    (ap (λ (v : SourceView). v.block) c.self.view_is ∙ c.requires.between.block) c.self.invariant.lies in
-    rw (p.1, p.2, ← c.self.view_is, between) (bounds-next _ _ _ reads.moves.grown reads.moves.failed reads.moves.sure reads.moves.enough (omega arith)
-    (reads.bounded c.self.invariant.bounded) reads.grown tt (omega (arith, reads.moves.grown), omega (arith, reads.moves.at_most)))
+returns-in_err-unit-clause-bounds g c = grind (arith, err_from_is_err_and, stage_between, bounds-next)
 
 pub returns-in-Packet-clause-bounds : goal.returns-in-Packet-clause-bounds
-returns-in-Packet-clause-bounds g c =
-    let reads = c.in_ok-unit.ensures in
-    let new = c.next_unit.new.self in
-    let sized = rw c.in-Packet.is at reads.sized in
-    let counted = rw c.in-Packet.is at reads.moves.counted in
-    let between = stage_between c.self.inside.stage c.self.inside.reader.spans (unit_at g.I.Input c.self.inside.stage c.self.inside.reader)
-    (ap (λ (v : SourceView). v.phase) c.self.view_is ∙ c.requires.between.phase)
-    (ap (λ (v : SourceView). v.block) c.self.view_is ∙ c.requires.between.block) c.self.invariant.lies in
-    rw (c.in-Packet.is, ← c.self.view_is, between) (bounds-next _ _ _ reads.moves.grown reads.moves.failed reads.moves.sure reads.moves.enough
-    (omega (arith, length-take new.spans.size new.buffer.items)) (reads.bounded c.self.invariant.bounded) reads.grown
-    (omega (arith, counted, length-take-le new.spans.size new.buffer.items sized.0.there)) (
-      (
-        omega (arith, counted, sized.0.some),
-        sized.1,
-        packet-there (declared_by new.file new.table) new.spans (take new.spans.size new.buffer.items)
-            (rw c.in-Packet.is at reads.known),
-      ),
-      refl,
-    ))
+returns-in-Packet-clause-bounds g c = grind (arith, stage_between, bounds-next, length-take, length-take-le, packet-there)
 
 pub returns-in-Other-clause-bounds : goal.returns-in-Other-clause-bounds
-returns-in-Other-clause-bounds g c =
-    let reads = c.in_ok-unit.ensures in
-    let sized = rw c.in-Other.is at reads.sized in
-    let counted = rw c.in-Other.is at reads.moves.counted in
-    let between = stage_between c.self.inside.stage c.self.inside.reader.spans (unit_at g.I.Input c.self.inside.stage c.self.inside.reader)
-    (ap (λ (v : SourceView). v.phase) c.self.view_is ∙ c.requires.between.phase)
-    (ap (λ (v : SourceView). v.block) c.self.view_is ∙ c.requires.between.block) c.self.invariant.lies in
-    rw (← c.self.view_is, between) (bounds-next _ _ _ reads.moves.grown reads.moves.failed reads.moves.sure reads.moves.enough (omega arith)
-    (reads.bounded c.self.invariant.bounded) reads.grown (omega (arith, counted))
-    (omega (arith, counted, sized.0), sized.1, record { phase = refl; block = refl; packet = refl }))
+returns-in-Other-clause-bounds g c = grind (arith, stage_between, bounds-next)
 
 pub returns-in-End-clause-bounds : goal.returns-in-End-clause-bounds
-returns-in-End-clause-bounds g c =
-    let reads = c.in_ok-unit.ensures in
-    let counted = rw c.in-End.is at reads.moves.counted in
-    let between = stage_between c.self.inside.stage c.self.inside.reader.spans (unit_at g.I.Input c.self.inside.stage c.self.inside.reader)
-    (ap (λ (v : SourceView). v.phase) c.self.view_is ∙ c.requires.between.phase)
-    (ap (λ (v : SourceView). v.block) c.self.view_is ∙ c.requires.between.block) c.self.invariant.lies in
-    rw (c.in-End.is, ← c.self.view_is, between) (bounds-next _ _ _ reads.moves.grown reads.moves.failed reads.moves.sure reads.moves.enough
-    (omega arith) (reads.bounded c.self.invariant.bounded) reads.grown (omega (arith, counted)) refl)
+returns-in-End-clause-bounds g c = grind (arith, stage_between, bounds-next)

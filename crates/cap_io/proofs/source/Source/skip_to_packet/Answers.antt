@@ -1,19 +1,10 @@
 -- Units without packets are skipped up to the next packet, the end or a fault.
-use Rattle.std.proofs.{Common.◌∙◌, Common.ap, Common.arith, Common.Err, Common.Ok, Common.refl, lemmas.Result.err_from_is_err_and}
+use Rattle.std.proofs.{Common.◌∙◌, Common.ap, Common.arith, Common.Ok, lemmas.Result.err_from_is_err_and}
 use Rattle.cap_io.proofs.Passing.{FindsEnd-then, FindsPacket-then, IsBroken-then, SkipsUnits-then, bounds-then, no-unit-end, stays}
-use Rattle.cap_io.specs.declared.file_state.NextUnit.{NextUnit}
 use Rattle.cap_io.proofs.source.Source.skip_to_packet.Goals as goal
 
 pub loop-init : goal.loop-init
-loop-init g c = record {
-  packets = λ t. stays c.args.self.now c.args.self.now refl (no-unit-end c.args.self.now _ c.requires.between refl) (omega arith);
-  between = c.requires.between;
-  given = omega arith;
-  failures = refl;
-  sure = refl;
-  room = omega arith;
-  counted = refl;
-}
+loop-init g c = grind (arith, stays, no-unit-end)
 
 pub returns-in_err-read_unit-clause-packets : goal.returns-in_err-read_unit-clause-packets
 returns-in_err-read_unit-clause-packets g c =
@@ -46,17 +37,10 @@ loop-preserved g c =
     }
 
 pub returns-in_err-read_unit-clause-bounds : goal.returns-in_err-read_unit-clause-bounds
-returns-in_err-read_unit-clause-bounds g c =
-    let p = err_from_is_err_and c.from_residual.result c.from_residual.ensures.1 in
-    rw (p.1, p.2) (bounds-then c.args.self.now c.loop.self c.read_unit.new.self (Err c.in_err-read_unit.field-0.0) c.loop.invariant.given
-    c.loop.invariant.failures c.loop.invariant.sure c.loop.invariant.room c.loop.invariant.counted c.in_err-read_unit.ensures.bounds)
+returns-in_err-read_unit-clause-bounds g c = grind (arith, err_from_is_err_and, bounds-then)
 
 pub returns-in-Packet-clause-bounds : goal.returns-in-Packet-clause-bounds
-returns-in-Packet-clause-bounds g c =
-    bounds-then c.args.self.now c.loop.self c.read_unit.new.self (Ok NextUnit.Packet) c.loop.invariant.given c.loop.invariant.failures
-    c.loop.invariant.sure c.loop.invariant.room c.loop.invariant.counted (rw c.in-Packet.is at c.in_ok-read_unit.ensures.bounds)
+returns-in-Packet-clause-bounds g c = grind (arith, bounds-then)
 
 pub returns-in-End-clause-bounds : goal.returns-in-End-clause-bounds
-returns-in-End-clause-bounds g c =
-    bounds-then c.args.self.now c.loop.self c.read_unit.new.self (Ok NextUnit.End) c.loop.invariant.given c.loop.invariant.failures
-    c.loop.invariant.sure c.loop.invariant.room c.loop.invariant.counted (rw c.in-End.is at c.in_ok-read_unit.ensures.bounds)
+returns-in-End-clause-bounds g c = grind (arith, bounds-then)
