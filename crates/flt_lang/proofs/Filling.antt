@@ -70,8 +70,16 @@ number_sizes (load p s a) rest = number_sizes a (node.Load p s ∷ rest)
     ∙ sym (or_assoc (has_wrong_size a) (not (is_size s)) (list_any is_out_of_range_node rest))
 number_sizes (negated a) rest = number_sizes a (node.Negate ∷ rest)
 number_sizes (applied o a b) rest =
-    search (number_nodes, has_wrong_size, or_assoc, list_any, is_out_of_range_node, (number_sizes a (number_nodes b (node.Apply o ∷ rest))), (number_sizes b
-    (node.Apply o ∷ rest)))
+    search (
+      number_nodes,
+      has_wrong_size,
+      or_assoc,
+      list_any,
+      is_out_of_range_node,
+      (number_sizes a (number_nodes b (node.Apply o ∷ rest))),
+      (number_sizes b
+          (node.Apply o ∷ rest)),
+    )
 number_sizes _ rest = refl
 
 range_primitive : (a : TruthTree) (rest : List Node) → is_primitive a ≡ true → list_any is_out_of_range_node (truth_nodes a rest) ≡
