@@ -72,7 +72,7 @@ pub use Rattle.flt_gen.specs.inside.Group.{group_formula, or_any, or_group, choi
 pub use Rattle.flt_gen.specs.inside.Intervals.{no_interval, insert_ascending, extended, joined_from, joined_all, is_aligned, idle_bits, left_out, high_mask}
 pub use Rattle.flt_gen.specs.inside.Intervals.{cut, without, sought}
 pub use Rattle.flt_gen.specs.inside.ProgramCode.{emit_accessor_tests, expression_code, program_code, returns_code}
-pub use Rattle.flt_gen.specs.inside.Search.{Numbers, field_test, are_few, low_of, sought_formula, within_formula, index_of}
+pub use Rattle.flt_gen.specs.inside.Search.{Numbers, field_test, most_in_turn, are_few, low_of, sought_formula, within_formula, index_of}
 pub use Rattle.flt_gen.specs.inside.Walk.{Walk, finish_formula, emit_node, emit_both_nodes, or_walk, emit_nodes, start_walk, insns_of, targets, finish_truth}
 pub use Rattle.flt_gen.specs.inside.Walk.{finish_number, with_insns, flush_members, flush_group, emit_truth_node}
 pub use Rattle.flt_words.specs.declared.token.Comparison.{Comparison}

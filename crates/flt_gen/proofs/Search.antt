@@ -20,36 +20,36 @@ use Rattle.std.proofs.Math.Nat.{mod-eq_of_lt}
 if_is : {A : Type 0} (b c : Bool) (x y : A) → b ≡ c → (if b then x else y) ≡ (if c then x else y)
 if_is b c x y e = ap (λ d. if d then x else y) e
 
-pub search_none : (held : Option FieldPlace) (link : Link) (f : FieldPlace) (k : ℕ) (from : Bool) (is : List Interval) (hit miss : ℕ) (c : List Insn) → k ≡ 0
-    → emit_after held link (search f k from is) hit miss c ≡ emit_after held link (chain_of f from is) hit miss c
+pub search_none : (held : Option FieldPlace) (link : Link) (few : ℕ) (f : FieldPlace) (k : ℕ) (from : Bool) (is : List Interval) (hit miss : ℕ) (c : List Insn) → k ≡ 0
+    → emit_after held link (search few f k from is) hit miss c ≡ emit_after held link (chain_of f from is) hit miss c
 unfolding search
-search_none held link f k from is hit miss c e = grind arith
+search_none held link few f k from is hit miss c e = grind arith
 
-few_is : (f : FieldPlace) (k : ℕ) (from : Bool) (is : List Interval) → are_few is ≡ true → search f k from is ≡ chain_of f from is
+few_is : (few : ℕ) (f : FieldPlace) (k : ℕ) (from : Bool) (is : List Interval) → are_few few is ≡ true → search few f k from is ≡ chain_of f from is
 unfolding search
-few_is f k from is e = grind (arith, if_is)
+few_is few f k from is e = grind (arith, if_is)
 
-pub search_few : (held : Option FieldPlace) (link : Link) (f : FieldPlace) (k : ℕ) (from : Bool) (is : List Interval) (hit miss : ℕ) (c : List Insn)
-    → are_few is ≡ true → emit_after held link (search f k from is) hit miss c ≡ emit_after held link (chain_of f from is) hit miss c
-search_few held link f k from is hit miss c e = ap (λ (x : Formula). emit_after held link x hit miss c) (few_is f k from is e)
+pub search_few : (held : Option FieldPlace) (link : Link) (few : ℕ) (f : FieldPlace) (k : ℕ) (from : Bool) (is : List Interval) (hit miss : ℕ) (c : List Insn)
+    → are_few few is ≡ true → emit_after held link (search few f k from is) hit miss c ≡ emit_after held link (chain_of f from is) hit miss c
+search_few held link few f k from is hit miss c e = ap (λ (x : Formula). emit_after held link x hit miss c) (few_is few f k from is e)
 
 -- by both parts
-abbrev pub halved : Option FieldPlace → Link → FieldPlace → ℕ → Bool → List Interval → List Interval → ℕ → ℕ → List Insn → Block
-halved held link f k from low high hit miss c =
-    let no = emit_after (held_if true f) link (search f k true high) hit miss c in
-    let yes = emit_after (held_if true f) link (search f k from low) hit miss no.code in
+abbrev pub halved : Option FieldPlace → Link → ℕ → FieldPlace → ℕ → Bool → List Interval → List Interval → ℕ → ℕ → List Insn → Block
+halved held link few f k from low high hit miss c =
+    let no = emit_after (held_if true f) link (search few f k true high) hit miss c in
+    let yes = emit_after (held_if true f) link (search few f k from low) hit miss no.code in
     emit_test held (field_test f Less (low_of high)) yes.entry no.entry yes.code
 
-pub search_put : (held : Option FieldPlace) (link : Link) (f : FieldPlace) (halvings : ℕ) (from : Bool) (is : List Interval) (hit miss : ℕ) (c : List Insn)
-    → 0 < halvings → are_few is ≡ false → emit_after held link (search f halvings from is) hit miss c ≡ halved held link f (halvings - 1) from
+pub search_put : (held : Option FieldPlace) (link : Link) (few : ℕ) (f : FieldPlace) (halvings : ℕ) (from : Bool) (is : List Interval) (hit miss : ℕ) (c : List Insn)
+    → 0 < halvings → are_few few is ≡ false → emit_after held link (search few f halvings from is) hit miss c ≡ halved held link few f (halvings - 1) from
     (take (length is / 2) is) (take (length is - length is / 2) (drop (length is / 2) is)) hit miss c
 unfolding search
-search_put held link f zero from is hit miss c some many = absurd (omega arith)
-search_put held link f (suc k) from is hit miss c some many =
+search_put held link few f zero from is hit miss c some many = absurd (omega arith)
+search_put held link few f (suc k) from is hit miss c some many =
     let same : k ≡ suc k - 1 = omega arith in
     ap (λ (x : Formula). emit_after held link x hit miss c) (if_is _ false _ _ many)
-    ∙ ap (λ j. halved held link f j from (take (length is / 2) is) (drop (length is / 2) is) hit miss c) same
-    ∙ ap (λ (zs : List Interval). halved held link f (suc k - 1) from (take (length is / 2) is) zs hit miss c) (sym (take_rest is (length is / 2)))
+    ∙ ap (λ j. halved held link few f j from (take (length is / 2) is) (drop (length is / 2) is) hit miss c) same
+    ∙ ap (λ (zs : List Interval). halved held link few f (suc k - 1) from (take (length is / 2) is) zs hit miss c) (sym (take_rest is (length is / 2)))
 
 -- of a search that isn't halved, and of one that is
 pub ruleset search_steps = (search_none, search_few, search_put)
@@ -66,8 +66,8 @@ loaded_if b f comparison v hit miss c = grind (arith, nat_tests)
 abbrev pub read_by : Option ℕ → (ℕ → Bool) → MatchResult
 read_by o f = reading_of (with o (λ x. Some (f x)))
 
-are_many : (is : List Interval) → are_few is ≡ false → 2 ≤ length is
-are_many is e = grind arith
+are_many : (few : ℕ) (is : List Interval) → are_few few is ≡ false → 2 ≤ length is
+are_many few is e = grind arith
 
 less_is : (a b : ℕ) → nat_lt a b ≡ not (nat_le b a)
 less_is a b = grind (arith, nat_tests)
@@ -110,32 +110,32 @@ module _ (link : Link) (p : List ℕ) (n : ℕ) (f : FieldPlace) where
         (λ t. let m : i.low ≤ u = grind (arith, nat_tests) in upper m)
         (λ t. let m : u < i.low = grind (arith, nat_tests) in sym (ap exact (none_below u i.low (i ∷ is) m (omega arith, up.1, up.2))))))
 
-    search_told : (k : ℕ) (from : Bool) (a : ℕ) (is : List Interval) → Apart a is → (from ≡ true → low_of is ≤ u)
-        → reads link (search f k from is) p n ≡ exact (is_within u is)
+    search_told : (few k : ℕ) (from : Bool) (a : ℕ) (is : List Interval) → Apart a is → (from ≡ true → low_of is ≤ u)
+        → reads link (search few f k from is) p n ≡ exact (is_within u is)
     unfolding search
-    search_told zero from a is up l = chain_told from a is up l
-    search_told (suc k) from a is up l =
+    search_told few zero from a is up l = chain_told from a is up l
+    search_told few (suc k) from a is up l =
         let half = length is / 2 in
-        if_case (λ (g : Formula). reads link g p n ≡ exact (is_within u is)) (are_few is) _ _ (λ e. chain_told from a is up l)
-        (λ e. let two = are_many is e in
+        if_case (λ (g : Formula). reads link g p n ≡ exact (is_within u is)) (are_few few is) _ _ (λ e. chain_told from a is up l)
+        (λ e. let two = are_many few is e in
         let some : 0 < half = omega arith in
         let less : half < length is = omega arith in
-        split_told Less (low_of (drop half is)) (search f k from (take half is)) (search f k true (drop half is)) (is_within u is)
+        split_told Less (low_of (drop half is)) (search few f k from (take half is)) (search few f k true (drop half is)) (is_within u is)
         (λ t. let m : u < low_of (drop half is) = grind (arith, nat_tests) in
-        search_told k from a (take half is) (apart_take a half is up) (λ g. subst (λ z. z ≤ u) (sym (first_taken half is some)) (l g))
+        search_told few k from a (take half is) (apart_take a half is up) (λ g. subst (λ z. z ≤ u) (sym (first_taken half is some)) (l g))
         ∙ sym (ap exact (lower_half u a half is up less m)))
         (λ t. let m : low_of (drop half is) ≤ u = grind (arith, nat_tests) in
-        search_told k true a (drop half is) (apart_drop a half is up) (λ g. m) ∙ sym (ap exact (upper_half u a half is up less m))))
+        search_told few k true a (drop half is) (apart_drop a half is up) (λ g. m) ∙ sym (ap exact (upper_half u a half is up less m))))
 
   -- where it isn't captured
   module _ (is_none : field_at f.offset f.width p ≡ None) where
-    search_lost : (k : ℕ) (is : List Interval) → Searchable is → reads link (search f k false is) p n ≡ Rejected
+    search_lost : (few k : ℕ) (is : List Interval) → Searchable is → reads link (search few f k false is) p n ≡ Rejected
     unfolding search
-    search_lost k is some = grind arith
+    search_lost few k is some = grind arith
 
-  search_reads : (is : List Interval) → Searchable is → reads link (search f MOST_HALVINGS false is) p n ≡ read_by (field_at f.offset f.width p)
+  search_reads : (few : ℕ) (is : List Interval) → Searchable is → reads link (search few f MOST_HALVINGS false is) p n ≡ read_by (field_at f.offset f.width p)
       (λ x. is_within (under_mask f.mask x) is)
-  search_reads is some = grind (arith, search_lost, search_told, searchable_apart)
+  search_reads few is some = grind (arith, search_lost, search_told, searchable_apart)
 
 -- those that are looked for together: not both sides at once
 abbrev pub Merged : Direction → Type 0
@@ -174,21 +174,21 @@ module _ (link : Link) (p : List ℕ) (n : ℕ) (at : Sides) (numbers : Numbers)
   abbrev destination : Option ℕ
   destination = field_at at.destination at.width p
 
-  all_read : (offset : Offset) → reads link (within_formula numbers.mask numbers.all offset at.width) p n ≡ read_by (field_at offset at.width p) of_all
-  all_read offset = search_reads link p n (place offset) numbers.all r.all
+  all_read : (few : ℕ) (offset : Offset) → reads link (within_formula few numbers.mask numbers.all offset at.width) p n ≡ read_by (field_at offset at.width p) of_all
+  all_read few offset = search_reads link p n (place offset) few numbers.all r.all
 
-  first_read : (offset : Offset) → reads link (within_formula numbers.mask (numbers.first ∷ []) offset at.width) p n ≡ read_by
+  first_read : (few : ℕ) (offset : Offset) → reads link (within_formula few numbers.mask (numbers.first ∷ []) offset at.width) p n ≡ read_by
       (field_at offset at.width p) of_first
-  first_read offset = search_reads link p n (place offset) (numbers.first ∷ []) (omega arith, r.order, tt)
+  first_read few offset = search_reads link p n (place offset) few (numbers.first ∷ []) (omega arith, r.order, tt)
 
   abbrev either_side : MatchResult
   either_side = by_first (read_by source of_all) (read_by source of_first) (read_by destination of_first) (read_by destination of_all)
 
-  few_read : reads link (few_formula at numbers) p n ≡ either_side
-  few_read = ap₂ (λ x y. either x (either y others)) (first_read at.source) (all_read at.destination) ∙ by source refl
+  few_read : (few : ℕ) → reads link (few_formula few at numbers) p n ≡ either_side
+  few_read few = ap₂ (λ x y. either x (either y others)) (first_read few at.source) (all_read few at.destination) ∙ by source refl
     where
       others : MatchResult
-      others = reads link (within_formula numbers.mask numbers.others at.source at.width) p n
+      others = reads link (within_formula few numbers.mask numbers.others at.source at.width) p n
 
       by : (s : Option ℕ) → source ≡ s → either (read_by s of_first) (either (read_by destination of_all) others) ≡ by_first (read_by s of_all)
           (read_by s of_first) (read_by destination of_first) (read_by destination of_all)
@@ -196,7 +196,7 @@ module _ (link : Link) (p : List ℕ) (n : ℕ) (at : Sides) (numbers : Numbers)
       by (Some x) e =
           let y = under_mask numbers.mask x in
           let up = subst (Apart 0) (sym r.others_are) (apart_without 0 numbers.first numbers.all (searchable_apart numbers.all r.all)) in
-          let out = search_told link p n (place at.source) x e MOST_HALVINGS false 0 numbers.others up (λ g. cc) in
+          let out = search_told link p n (place at.source) x e few MOST_HALVINGS false 0 numbers.others up (λ g. cc) in
           ap (λ z. either (exact (of_first x)) (either (read_by destination of_all) z)) out
           ∙ few_told (of_first x) (of_all x) (is_within y numbers.others) destination of_first of_all
           (λ t. r.first_in p x e (sym (or-false (is_in y numbers.first)) ∙ t))
@@ -205,8 +205,8 @@ module _ (link : Link) (p : List ℕ) (n : ℕ) (at : Sides) (numbers : Numbers)
   many_read : reads link (many_formula (sides_at_index link at) numbers) p n ≡ either_side
   many_read = grind (arith, counted, all_read, first_read, nat_tests, or_yes)
 
-  pub sought_read : (d : Direction) → Merged d → reads link (sought_formula link d at numbers) p n ≡ sides_read d source destination of_first of_all
-  sought_read d m = grind (arith, all_read, many_read, few_read)
+  pub sought_read : (few : ℕ) (d : Direction) → Merged d → reads link (sought_formula few link d at numbers) p n ≡ sides_read d source destination of_first of_all
+  sought_read few d m = grind (arith, all_read, many_read, few_read)
 
 -- ---- the counts
 
@@ -255,19 +255,19 @@ module _ (f : FieldPlace) where
   chain_cheap held l few from [] = cheap_none false
   chain_cheap held l few from (i ∷ is) = grind (arith, rest_few, cheap_as, chain_cheap (Some f) 0 none_taken false is, none_taken, cheap_split, cheap_none)
 
-  search_cheap : (k : ℕ) (held : Option FieldPlace) (l : ℕ) → Takes held l → (from : Bool) (is : List Interval)
-      → Cheap held (search f k from is) l (2 * length is - 1 + first_more from is)
+  search_cheap : (few k : ℕ) (held : Option FieldPlace) (l : ℕ) → Takes held l → (from : Bool) (is : List Interval)
+      → Cheap held (search few f k from is) l (2 * length is - 1 + first_more from is)
   unfolding search
-  search_cheap zero held l few from is = chain_cheap held l few from is
-  search_cheap (suc k) held l few from is =
+  search_cheap few zero held l few from is = chain_cheap held l few from is
+  search_cheap few (suc k) held l few from is =
       let half = length is / 2 in
       let a = length-drop half is in
       let t = length-take half is in
-      if_case (λ (g : Formula). Cheap held g l (2 * length is - 1 + first_more from is)) (are_few is) _ _ (λ e. chain_cheap held l few from is)
-      (λ e. let two = are_many is e in
+      if_case (λ (g : Formula). Cheap held g l (2 * length is - 1 + first_more from is)) (are_few few is) _ _ (λ e. chain_cheap held l few from is)
+      (λ e. let two = are_many few is e in
       let first = first_of_half from half is (omega arith) in
-      cheap_as _ (omega arith) (cheap_split Less (low_of (drop half is)) few (search_cheap k (Some f) 0 none_taken from (take half is))
-      (search_cheap k (Some f) 0 none_taken true (drop half is))))
+      cheap_as _ (omega arith) (cheap_split Less (low_of (drop half is)) few (search_cheap few k (Some f) 0 none_taken from (take half is))
+      (search_cheap few k (Some f) 0 none_taken true (drop half is))))
 
 -- the loads of a side: of a mask and the length of a header there is only one
 lean : (index : ℕ) (mask : Option ℕ) (a b : Offset) → Reached index mask a b → (place_loads a + mask_loads mask ≤ 2)
@@ -278,11 +278,11 @@ some_searched : (is : List Interval) → Searchable is → 1 ≤ length is
 some_searched is h = grind arith
 
 module _ (link : Link) (at : Sides) (numbers : Numbers) (r : Ready link at numbers) where
-  within_cheap : (is : List Interval) (offset : Offset) → let x = within_formula numbers.mask is offset at.width in
+  within_cheap : (few : ℕ) (is : List Interval) (offset : Offset) → let x = within_formula few numbers.mask is offset at.width in
       Cheap None x (place_loads offset + mask_loads numbers.mask) (2 * length is - 1 + first_ends is)
-  within_cheap is offset =
+  within_cheap few is offset =
       let f : FieldPlace = record { offset = offset; width = at.width; mask = numbers.mask } in
-      search_cheap f MOST_HALVINGS None _ (all_taken f) false is
+      search_cheap f few MOST_HALVINGS None _ (all_taken f) false is
 
   abbrev twice : ℕ
   twice = 2 * max 1 (length numbers.all) + max (first_ends numbers.all) (first_ends (numbers.first ∷ []))
@@ -290,20 +290,20 @@ module _ (link : Link) (at : Sides) (numbers : Numbers) (r : Ready link at numbe
   some : 1 ≤ length numbers.all
   some = some_searched numbers.all r.all
 
-  few_bare : Bare (few_formula at numbers) (twice + 1)
-  few_bare =
+  few_bare : (m : ℕ) → Bare (few_formula m at numbers) (twice + 1)
+  few_bare m =
       let few = lean (index_of link at) numbers.mask at.source at.destination r.reached in
       let a = few.0 in
       let d = few.1 in
-      let one = within_cheap (numbers.first ∷ []) at.source in
-      let all = within_cheap numbers.all at.destination in
-      let others = within_cheap numbers.others at.source in
+      let one = within_cheap m (numbers.first ∷ []) at.source in
+      let all = within_cheap m numbers.all at.destination in
+      let others = within_cheap m numbers.others at.source in
       let less : length numbers.others ≤ length numbers.all = subst (λ (is : List Interval). length is ≤ length numbers.all) (sym r.others_are)
       (length_without numbers.first numbers.all) in
       let e = ends_few (numbers.first ∷ []) in
       let g = ends_few numbers.all in
       let rest = rest_few numbers.others in
-      let m = some in
+      let some = some in
       omega arith
 
   many_bare : Bare (many_formula (sides_at_index link at) numbers) (twice + 3)
@@ -311,24 +311,24 @@ module _ (link : Link) (at : Sides) (numbers : Numbers) (r : Ready link at numbe
       let few = lean (index_of link at) numbers.mask at.source at.destination r.reached in
       let a = few.2 in
       let d = few.3 in
-      let one = within_cheap (numbers.first ∷ []) (at_index (index_of link at) at.source) in
-      let all = within_cheap numbers.all (at_index (index_of link at) at.source) in
-      let second = within_cheap numbers.all (at_index (index_of link at) at.destination) in
+      let one = within_cheap 0 (numbers.first ∷ []) (at_index (index_of link at) at.source) in
+      let all = within_cheap 0 numbers.all (at_index (index_of link at) at.source) in
+      let second = within_cheap 0 numbers.all (at_index (index_of link at) at.destination) in
       let asked = place_few (at_index (index_of link at) at.destination) in
       let e = ends_few (numbers.first ∷ []) in
       let g = ends_few numbers.all in
       let m = some in
       omega arith
 
-  side_bare : (offset : Offset) → place_loads offset + mask_loads numbers.mask ≤ 2
-      → Bare (within_formula numbers.mask numbers.all offset at.width) (max 1 (length numbers.all) + first_ends numbers.all)
-  side_bare offset few =
-      let all = within_cheap numbers.all offset in
-      let m = some in
+  side_bare : (m : ℕ) (offset : Offset) → place_loads offset + mask_loads numbers.mask ≤ 2
+      → Bare (within_formula m numbers.mask numbers.all offset at.width) (max 1 (length numbers.all) + first_ends numbers.all)
+  side_bare m offset few =
+      let all = within_cheap m numbers.all offset in
+      let some = some in
       omega arith
 
-  pub bare_sought : (d : Direction) → Bare (sought_formula link d at numbers) (sought_tests d numbers)
-  bare_sought (Direction.One Source) = side_bare at.source (lean (index_of link at) numbers.mask at.source at.destination r.reached).0
-  bare_sought (Direction.One Destination) = side_bare at.destination (lean (index_of link at) numbers.mask at.source at.destination r.reached).1
-  bare_sought (Direction.Both And) = bare_some 1 (omega arith)
-  bare_sought (Direction.Both Or) = grind (arith, nat_tests, many_bare, bare_within, few_bare)
+  pub bare_sought : (few : ℕ) (d : Direction) → Bare (sought_formula few link d at numbers) (sought_tests d numbers)
+  bare_sought few (Direction.One Source) = side_bare _ at.source (lean (index_of link at) numbers.mask at.source at.destination r.reached).0
+  bare_sought few (Direction.One Destination) = side_bare _ at.destination (lean (index_of link at) numbers.mask at.source at.destination r.reached).1
+  bare_sought few (Direction.Both And) = bare_some 1 (omega arith)
+  bare_sought few (Direction.Both Or) = grind (arith, nat_tests, many_bare, bare_within, few_bare)

@@ -4,7 +4,7 @@ use Rattle.flt_gen.proofs.Common.{◌≡◌, ℕ, ◌+◌, ◌*◌, ◌^◌, ◌
 use Rattle.flt_gen.proofs.Common.{arith, inl, inr, ◌==◌, ◌||◌, ◌&&◌, nat_le, min, max, bit_and, nat_tests, and_parts, or-false, Protocol, Ip, Tcp, Udp}
 use Rattle.flt_gen.proofs.Common.{ValueType, Numbers, Host, Net, Port, PortRange, Source, Destination, And, Or, Direction, CompleteQualifiers, Value}
 use Rattle.flt_gen.proofs.Common.{first_bits, HalfWord, Offset, Link, FrameKind, Elementary, Interval, Sides, Transport, MatchResult, Yes, No, field_at}
-use Rattle.flt_gen.proofs.Common.{under_mask, kind_test, elementary_reads, Formula, sought_formula, both, either, all_of, sides, reads, address_places}
+use Rattle.flt_gen.proofs.Common.{under_mask, kind_test, elementary_reads, Formula, sought_formula, most_in_turn, both, either, all_of, sides, reads, address_places}
 use Rattle.flt_gen.proofs.Common.{partial_mask, port_is, port_between, port_places, in_net, hosts_formula, ip_transport, ip6_transport, port_formula}
 use Rattle.flt_gen.proofs.Common.{value_formula, joined_all, left_out, high_mask, cut, sought, has_addresses, net_numbers, member_of, several_formula}
 use Rattle.flt_gen.proofs.Exclusive.{or_no, both_either}
@@ -164,12 +164,12 @@ module _ (link : Link) (p : List ℕ) (n : ℕ) where
   module _ (q : CompleteQualifiers) (b : Bool) (m : Interval) (ms all : List Interval) (h : Merged q.direction) (o : Ordered 0 all)
       (w : (y : ℕ) → is_within y all ≡ is_within y (m ∷ ms)) where
     -- the formula of several
-    abbrev asked : Sides → Formula
-    asked at = sought_formula link q.direction at (sought b m all)
+    abbrev asked : ℕ → Sides → Formula
+    asked few at = sought_formula few link q.direction at (sought b m all)
 
-    sides_are : (at : Sides) → Fitting b at → Ready link at (sought b m all) → told_at asked at ≡ sides_read q.direction (source_of at) (destination_of at)
+    sides_are : (few : ℕ) (at : Sides) → Fitting b at → Ready link at (sought b m all) → told_at (asked few) at ≡ sides_read q.direction (source_of at) (destination_of at)
         (hit m) (λ x. is_within x (m ∷ ms))
-    sides_are at fit ready = sought_read link p n at (sought b m all) ready q.direction h
+    sides_are few at fit ready = sought_read link p n at (sought b m all) ready few q.direction h
         ∙ sides_seen q.direction (source_of at) (destination_of at) _ _ _ _ (λ x e. one x (small x (inl e)))
         (λ x e. one x (small x (inr e))) (λ x e. some x (small x (inl e))) (λ x e. some x (small x (inr e)))
       where
@@ -191,12 +191,12 @@ module _ (link : Link) (p : List ℕ) (n : ℕ) where
         some : (x : ℕ) → Small last x → is_within (u x) (map (cut last) (joined_all all)) ≡ is_within x (m ∷ ms)
         some x l = cut_within last x m (joined_all all) idle l ∙ within_joined x all o ∙ w x
 
-    several_hosts : ((k : FrameKind) → Ready link (address_places link k) (sought b m all)) → reads link (hosts_formula link q.protocol asked) p n
-        ≡ members_read true q.protocol q.direction m ms
-    several_hosts r = hosts_are q.protocol asked ∙ hosts_same q.protocol _ _ (λ k. sides_are (address_places link k) (address_fitting b link k) (r k))
+    several_hosts : ((k : FrameKind) → Ready link (address_places link k) (sought b m all)) → reads link (hosts_formula link q.protocol
+        (asked (most_in_turn q.protocol (sought b m all).first))) p n ≡ members_read true q.protocol q.direction m ms
+    several_hosts r = hosts_are q.protocol (asked _) ∙ hosts_same q.protocol _ _ (λ k. sides_are _ (address_places link k) (address_fitting b link k) (r k))
 
     -- ports have no mask
-    several_ports : b ≡ false → PortsReady link (sought b m all) → reads link (port_formula link q.protocol asked) p n
+    several_ports : b ≡ false → PortsReady link (sought b m all) → reads link (port_formula link q.protocol (asked 0)) p n
         ≡ members_read false q.protocol q.direction m ms
     several_ports e r = grind (arith, sides_are, unmasked_fitting)
 

@@ -14,6 +14,7 @@ ghost use Rattle.flt_gen.specs.inside.Group.{has_addresses, has_networks};
 ghost use Rattle.flt_gen.specs.inside.Group.{case_goes_with, with_case};
 ghost use Rattle.flt_gen.specs.inside.Group.{larger_by, entry_formula, fewest_either};
 
+use crate::among::most_in_turn;
 use crate::cases::{Case, are_either, case_of, put_case, same_words};
 use crate::code::{Code, Targets};
 use crate::elementary::Interval;
@@ -345,12 +346,12 @@ impl<A: Allocator> Code<A> {
             (several_formula link qualifiers (has_addresses qualifiers.value_type) numbers.now) to
             self.old result self.new }
     {
-        let protocol = qualifiers.protocol;
-        let wanted = Wanted::Several(qualifiers.direction);
+        let (protocol, direction) = (qualifiers.protocol, qualifiers.direction);
         if has_addresses(qualifiers.value_type) {
+            let wanted = Wanted::Several(direction, most_in_turn(protocol, numbers.first));
             return self.emit_hosts(link, protocol, wanted, numbers, to);
         }
-        self.emit_ports(link, protocol, wanted, numbers, to)
+        self.emit_ports(link, protocol, Wanted::Several(direction, 0), numbers, to)
     }
 
     /// Emits members one after the other, the last of the expression first.

@@ -23,8 +23,8 @@ pub enum Wanted {
     Port(Direction, u32),
     /// The ports from the first to the second.
     Ports(Direction, u32, u32),
-    /// Several numbers.
-    Several(Direction),
+    /// Several numbers, of which so few aren't halved.
+    Several(Direction, usize),
 }
 
 /// The test that the word at a place is an address, as far as the mask goes.
@@ -80,7 +80,9 @@ impl<A: Allocator> Code<A> {
                 let destination = port_between(first, last, destination);
                 self.emit_sides(direction, false, &source, &destination, to)
             }
-            Wanted::Several(direction) => self.emit_among(link, direction, at, numbers, to),
+            Wanted::Several(direction, few) => {
+                self.emit_among(few, link, direction, at, numbers, to)
+            }
         }
     }
 }

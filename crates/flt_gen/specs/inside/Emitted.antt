@@ -116,4 +116,5 @@ abbrev pub wanted_formula : Link → Wanted → Numbers → Sides → Formula
 wanted_formula link (Wanted.Net direction mask address) numbers = in_net direction mask address
 wanted_formula link (Wanted.Port direction n) numbers = is_port direction n
 wanted_formula link (Wanted.Ports direction a b) numbers = in_range direction a b
-wanted_formula link (Wanted.Several direction) numbers = λ at. sought_formula link direction at numbers
+wanted_formula link (Wanted.Several direction few) numbers =
+    λ at. sought_formula few link direction at numbers

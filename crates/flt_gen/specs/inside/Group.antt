@@ -15,7 +15,7 @@ use Rattle.flt_ast.specs.declared.value.{Ip4Net.Ip4Net, Value.Value}
 use Rattle.cap_octet.specs.declared.link.Link.{Link}
 use Rattle.flt_gen.specs.Elementary.{with}
 use Rattle.flt_gen.specs.Formula.{Formula, Single, Both, Either, Except, guarded_formula}
-use Rattle.flt_gen.specs.inside.Search.{Numbers, sought_formula}
+use Rattle.flt_gen.specs.inside.Search.{Numbers, sought_formula, most_in_turn}
 use Rattle.flt_gen.specs.Primitives.{hosts_formula, port_formula}
 use Rattle.flt_gen.specs.{Numbers.accessor_tests, Reading.formula, declared.cases.Case.Case}
 use Rattle.flt_gen.specs.declared.elementary.{Elementary.TheVariants.Outcome, Interval.Interval}
@@ -223,9 +223,10 @@ numbers_of group = sought (has_networks group) group.first group.all
 -- one of several members with these numbers, which are addresses or ports
 abbrev pub several_formula : Link → CompleteQualifiers → Bool → Numbers → Formula
 several_formula link q true numbers =
-    hosts_formula link q.protocol (λ at. sought_formula link q.direction at numbers)
+    hosts_formula link q.protocol
+    (λ at. sought_formula (most_in_turn q.protocol numbers.first) link q.direction at numbers)
 several_formula link q false numbers =
-    port_formula link q.protocol (λ at. sought_formula link q.direction at numbers)
+    port_formula link q.protocol (λ at. sought_formula 0 link q.direction at numbers)
 
 -- a member by itself
 abbrev pub entry_formula : Link → Entry → Formula
