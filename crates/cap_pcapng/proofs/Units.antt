@@ -1,5 +1,5 @@
 -- The first bytes determine which block they begin with.
-use Rattle.cap_pcapng.proofs.Common.{◌≡◌, Parts, ℕ, ◌+◌, ◌-◌, ◌<◌, ◌≤◌, Bool, true, false, ◌&&◌, List, [], ◌∷◌, ◌++◌, length, take, drop, Option, Some, None}
+use Rattle.cap_pcapng.proofs.Common.{◌≡◌, Parts, ℕ, ◌<◌, ◌≤◌, Bool, true, false, ◌&&◌, List, [], ◌∷◌, ◌++◌, length, take, drop, Option, Some, None}
 use Rattle.cap_pcapng.proofs.Common.{refl, sym, ap, ap₂, ◌∙◌, arith, leb-true, le-leb, nat_le, lt-leb, length-take-le, take-append-drop, take-append-le}
 use Rattle.cap_pcapng.proofs.Common.{drop-append-le, first_failing, Fault, Truncated, Order, all_met, failing_front, met_front, block_checks, body_in, parts_in}
 use Rattle.cap_pcapng.proofs.Common.{frame_checks, frame_in, length_in, IsBlock, Section, block_size, checks_among, frame_after, interfaces_before}

@@ -1,7 +1,7 @@
--- A block that is written is its parts, joined.
+-- A block that is written is its parts, joined, and as long as is told.
 use Rattle.cap_pcapng.proofs.Common.{◌≡◌, ℕ, ◌+◌, ◌-◌, ◌<◌, ◌≤◌, List, [], ◌∷◌, ◌++◌, length, take, drop, replicate, refl, sym, ap, ap₂, ◌∙◌, arith}
 use Rattle.cap_pcapng.proofs.Common.{append_assoc, length-append, ne_eqb, ◌%◌, ◌==◌, false, true, false≢true, append-nil, drop_at, length-replicate}
-use Rattle.cap_pcapng.proofs.Common.{replicate-append-replicate, take_all, little_bytes, Captured, padded_length, comment_text, end_text, interface_body}
+use Rattle.cap_pcapng.proofs.Common.{replicate-append-replicate, take_all, little_bytes, Captured, padded_length, block_text, comment_text, end_text, interface_body}
 use Rattle.cap_pcapng.proofs.Common.{interface_header, interface_text, name_text, packet_body, packet_header, packet_block, resolution_text}
 
 -- the last zeros before other bytes, and these
@@ -60,24 +60,30 @@ pieces : (bytes option comment zeros size : List ℕ)
     → bytes ++ (option ++ (comment ++ ((zeros ++ size) ++ []))) ≡ bytes ++ (option ++ (comment ++ zeros)) ++ size
 pieces bytes option comment zeros size = simp (append_assoc, append-nil)
 
--- a packet's block is its pieces, joined
+length-block_text : (type : ℕ) (body : List ℕ) → length (block_text type body) ≡ 12 + length body
+length-block_text type body = simp length-append (omega arith)
+
+-- a packet's block is its pieces, joined, and its length
 pub packet_joined : (number zeros : ℕ) (p : Captured) (head option end : List ℕ) → zeros ≤ 7
     → option ++ (p.comment ++ replicate zeros 0) ≡ replicate (padded_length (length p.bytes) - length p.bytes) 0 ++ comment_text p.comment
     → head ≡ packet_header (32 + length p.bytes + length option + length p.comment + zeros) number p
     → end ≡ replicate 7 0 ++ little_bytes 4 (32 + length p.bytes + length option + length p.comment + zeros)
-    → head ++ (p.bytes ++ (option ++ (p.comment ++ (take (11 - (7 - zeros)) (drop (7 - zeros) end) ++ [])))) ≡ packet_block number p
+    → (head ++ (p.bytes ++ (option ++ (p.comment ++ (take (11 - (7 - zeros)) (drop (7 - zeros) end) ++ [])))) ≡ packet_block number p)
+    × (32 + length p.bytes + length option + length p.comment + zeros ≡ length (packet_block number p))
 packet_joined number zeros p head option end upper_bound following head_is end_is =
     let size : ℕ = 32 + length _ + length option + length p.comment + zeros in
     let padding : List ℕ = replicate _ 0 in
     let sizes = simp (length-append, length-replicate) at (ap length following) in
-    let whole : size ≡ 12 + length (packet_body number p) = omega (arith, length-packet_body number p) in
-    ap₂ (λ h t. h ++ (p.bytes ++ (option ++ (p.comment ++ (t ++ []))))) head_is
-    (block_end 7 zeros 11 (little_bytes 4 size) end upper_bound end_is refl)
-    ∙ ap (λ t. packet_header size number p ++ t)
-    (pieces p.bytes option p.comment _ _
-    ∙ ap (λ t. p.bytes ++ t ++ little_bytes 4 size) following
-    ∙ ap (λ t. t ++ little_bytes 4 size) (sym (append_assoc p.bytes padding (comment_text p.comment))))
-    ∙ ap (λ (s : ℕ). little_bytes 4 6 ++ little_bytes 4 s ++ packet_body number p ++ little_bytes 4 s) whole
+    let whole : size ≡ 12 + length (packet_body number p) = omega (arith, length-packet_body number p) in (
+      ap₂ (λ h t. h ++ (p.bytes ++ (option ++ (p.comment ++ (t ++ []))))) head_is
+          (block_end 7 zeros 11 (little_bytes 4 size) end upper_bound end_is refl)
+          ∙ ap (λ t. packet_header size number p ++ t)
+          (pieces p.bytes option p.comment _ _
+          ∙ ap (λ t. p.bytes ++ t ++ little_bytes 4 size) following
+          ∙ ap (λ t. t ++ little_bytes 4 size) (sym (append_assoc p.bytes padding (comment_text p.comment))))
+          ∙ ap (λ (s : ℕ). little_bytes 4 6 ++ little_bytes 4 s ++ packet_body number p ++ little_bytes 4 s) whole,
+      whole ∙ sym (length-block_text 6 (packet_body number p)),
+    )
 
 empty : (bytes : List ℕ) → (length bytes == 0) ≡ true → bytes ≡ []
 empty [] none = refl
@@ -88,13 +94,14 @@ pub plain_joined : (number zeros : ℕ) (p : Captured) (head end : List ℕ) →
     padded_length (length p.bytes)
     → head ≡ packet_header (32 + length p.bytes + zeros) number p
     → end ≡ replicate 7 0 ++ little_bytes 4 (32 + length p.bytes + zeros)
-    → head ++ (p.bytes ++ (take (11 - (7 - zeros)) (drop (7 - zeros) end) ++ [])) ≡ packet_block number p
+    → (head ++ (p.bytes ++ (take (11 - (7 - zeros)) (drop (7 - zeros) end) ++ [])) ≡ packet_block number p)
+    × (32 + length p.bytes + zeros ≡ length (packet_block number p))
 plain_joined number zeros p head end none upper_bound padding_is head_is end_is =
     let comment_is = empty _ none in
     let size : 32 + length p.bytes + zeros ≡ 32 + length p.bytes + 0 + length p.comment + zeros = omega (arith, ap length comment_is) in
-    ap (λ c. head ++ (p.bytes ++ (c ++ (take (11 - (7 - zeros)) (drop (7 - zeros) end) ++ [])))) (sym comment_is)
-    ∙ packet_joined number zeros p head [] end (omega arith) (plain_after zeros _ _ none padding_is)
-    (head_is ∙ ap (λ s. packet_header s number p) size) (end_is ∙ ap (λ s. replicate 7 0 ++ little_bytes 4 s) size)
+    let it = packet_joined number zeros p head [] end (omega arith) (plain_after zeros _ _ none padding_is)
+    (head_is ∙ ap (λ s. packet_header s number p) size) (end_is ∙ ap (λ s. replicate 7 0 ++ little_bytes 4 s) size) in
+    (ap (λ c. head ++ (p.bytes ++ (c ++ (take (11 - (7 - zeros)) (drop (7 - zeros) end) ++ [])))) (sym comment_is) ∙ it.0, size ∙ it.1)
 
 -- ---- an interface
 
@@ -116,17 +123,20 @@ regrouped : (option name zeros r e s : List ℕ)
     → option ++ (name ++ ((zeros ++ (r ++ e ++ s)) ++ [])) ≡ (option ++ (name ++ zeros)) ++ r ++ e ++ s
 regrouped option name zeros r e s = simp (append_assoc, append-nil)
 
--- an interface's block is its pieces, joined
+-- an interface's block is its pieces, joined, and its length
 pub interface_joined : (link snap padding : ℕ) (name head option end : List ℕ) → padding < 4 → option ++ (name ++ replicate padding 0) ≡ name_text name
     → head ≡ interface_header (32 + length option + length name + padding) link snap
     → end ≡ replicate 3 0 ++ (resolution_text ++ end_text ++ little_bytes 4 (32 + length option + length name + padding))
-    → head ++ (option ++ (name ++ (take (19 - (3 - padding)) (drop (3 - padding) end) ++ []))) ≡ interface_text link snap name
+    → (head ++ (option ++ (name ++ (take (19 - (3 - padding)) (drop (3 - padding) end) ++ []))) ≡ interface_text link snap name)
+    × (32 + length option + length name + padding ≡ length (interface_text link snap name))
 interface_joined link snap padding name head option end upper_bound name_is head_is end_is =
     let size = 32 + length option + length name + padding in
     let sizes = simp (length-append, length-replicate) at (ap length name_is) in
     let body : length (interface_body link snap name) ≡ length (name_text name) + 20 = simp length-append (omega arith) in
-    let whole : size ≡ 12 + length (interface_body link snap name) = omega arith in
-    ap₂ (λ h t. h ++ (option ++ (name ++ (t ++ [])))) head_is (block_end 3 _ 19 _ end (omega arith) end_is refl)
-    ∙ ap (λ t. interface_header size link snap ++ t) (regrouped option name _ _ _ _)
-    ∙ ap (λ t. interface_header size link snap ++ (t ++ resolution_text ++ end_text ++ little_bytes 4 size)) name_is
-    ∙ ap (λ s. little_bytes 4 1 ++ little_bytes 4 s ++ interface_body link snap name ++ little_bytes 4 s) whole
+    let whole : size ≡ 12 + length (interface_body link snap name) = omega arith in (
+      ap₂ (λ h t. h ++ (option ++ (name ++ (t ++ [])))) head_is (block_end 3 _ 19 _ end (omega arith) end_is refl)
+          ∙ ap (λ t. interface_header size link snap ++ t) (regrouped option name _ _ _ _)
+          ∙ ap (λ t. interface_header size link snap ++ (t ++ resolution_text ++ end_text ++ little_bytes 4 size)) name_is
+          ∙ ap (λ s. little_bytes 4 1 ++ little_bytes 4 s ++ interface_body link snap name ++ little_bytes 4 s) whole,
+      whole ∙ sym (length-block_text 1 (interface_body link snap name)),
+    )

@@ -9,6 +9,7 @@ pub mod Answer
 pub mod Laws
 pub mod OptionList
 pub mod Padding
+pub mod Parts
 pub mod Time
 pub mod Unit
 pub mod Encoding

@@ -28,6 +28,6 @@ pub use options::{BlockOption, Options};
 pub use read::{begins_section, block, frame};
 pub use table::{MOST_INTERFACES, Table};
 pub use write::{
-    check_block_fits, interface_end, interface_header, option_header, packet_end, packet_header,
-    padding_after, section_bytes, write_interface, write_packet,
+    check_block_fits, put_interface_parts, put_packet_parts, section_bytes, write_interface,
+    write_packet,
 };

@@ -15,6 +15,7 @@ ghost use Rattle.cap_octet.specs.Checks.{checked, first_failing};
 ghost use Rattle.cap_pcapng.specs.Encoding.{comment_text, end_text, block_fit_checks};
 ghost use Rattle.cap_pcapng.specs.Encoding.{interface_header, interface_text, packet_header};
 ghost use Rattle.cap_pcapng.specs.Padding.{padded_length};
+ghost use Rattle.cap_pcapng.specs.Parts.{TakesParts, PutsParts};
 ghost use Rattle.cap_pcapng.specs.Encoding.{packet_block, resolution_text, section_text};
 
 use crate::frames::{
@@ -69,7 +70,7 @@ pub fn section_bytes() -> [u8; 28]
 }
 
 /// How many zeros pad `length` bytes to a multiple of four: 0 to 3.
-pub fn padding_after(length: usize) -> usize
+fn padding_after(length: usize) -> usize
     ensures padded { length + result ≡ padded_length length }
     ensures short { result < 4 }
 {
@@ -78,7 +79,7 @@ pub fn padding_after(length: usize) -> usize
 
 /// The header of an enhanced packet block of `size` bytes: type, total length, the interface's
 /// number, the time in nanoseconds in two halves of 32 bits, captured length and original length.
-pub fn packet_header(size: u32, number: u32, packet: &Packet<'_>) -> [u8; 28]
+fn packet_header(size: u32, number: u32, packet: &Packet<'_>) -> [u8; 28]
     requires { length packet.now.bytes.now < 2 ^ 32 }
     ensures { result ≡ packet_header size number (captured packet.now) }
 {
@@ -97,7 +98,7 @@ pub fn packet_header(size: u32, number: u32, packet: &Packet<'_>) -> [u8; 28]
 
 /// An option's code and the length of its value, after three zeros as padding of what is before the
 /// option; who writes it leaves out those that aren't needed.
-pub fn option_header(code: u16, value: &[u8]) -> [u8; 7]
+fn option_header(code: u16, value: &[u8]) -> [u8; 7]
     requires { length value.now < 2 ^ 16 }
     ensures { result ≡ replicate 3 0 ++ (little_bytes 2 code ++ little_bytes 2 (length value.now)) }
 {
@@ -109,12 +110,51 @@ pub fn option_header(code: u16, value: &[u8]) -> [u8; 7]
 
 /// The end of an enhanced packet block of `size` bytes: its total length, after seven zeros, up to
 /// three of padding and four that end the options. A block without options omits those four.
-pub fn packet_end(size: u32) -> [u8; 11]
+fn packet_end(size: u32) -> [u8; 11]
     ensures { result ≡ replicate 7 0 ++ little_bytes 4 size }
 {
     let mut bytes = [0; 11];
     LittleEndian::write_u32(&mut bytes[7..], size);
     bytes
+}
+
+/// Lays out a packet that passed `check_block_fits`, whose interface has this number, as the parts
+/// of an enhanced packet block, and hands these to `put`, with the length of the block and what
+/// they are put into.
+#[inline(always)]
+pub fn put_packet_parts<T, R, F: FnOnce(&mut T, &[&[u8]], usize) -> R>(
+    number: u32,
+    packet: &Packet<'_>,
+    target: &mut T,
+    put: F,
+) -> R
+    requires fits { first_failing (block_fit_checks (captured packet.now)) ≡ None }
+    requires callable { TakesParts (F.pre put) (packet_block number (captured packet.now)) }
+    ensures { PutsParts (F.post put) (packet_block number (captured packet.now)) target.old result
+        target.new }
+{
+    let padding = padding_after(packet.bytes.len());
+    if packet.comment.is_empty() {
+        // 28 header | data | padding, 4 total length
+        //                  |-- end[7 - padding..]
+        // Of the end's seven zeros the last ones pad the data.
+        let size = 32 + packet.bytes.len() + padding;
+        let head = packet_header(size as u32, number, packet);
+        let end = packet_end(size as u32);
+        return put(target, &[&head, packet.bytes, &end[7 - padding..]], size);
+    }
+    // 28 header | data | padding, 4 option header | comment | padding, 4 zeros, 4 total length
+    //                  |-- option[3 - padding..]            |-- end[7 - zeros..]
+    let comment = packet.comment;
+    let option = option_header(COMMENT_CODE, comment);
+    let option = &option[3 - padding..];
+    // The comment's padding, and the four zeros that end the options.
+    let zeros = padding_after(comment.len()) + 4;
+    let size = 32 + packet.bytes.len() + option.len() + comment.len() + zeros;
+    let head = packet_header(size as u32, number, packet);
+    let end = packet_end(size as u32);
+    let parts = [&head[..], packet.bytes, option, comment, &end[7 - zeros..]];
+    put(target, &parts, size)
 }
 
 /// Writes a packet that passed `check_block_fits`, whose interface has this number, as an enhanced
@@ -129,33 +169,14 @@ pub fn write_packet<O: Output>(
     ensures { WritesExactly O.Output output.old (packet_block number (captured packet.now)) result
         output.new }
 {
-    let padding = padding_after(packet.bytes.len());
-    if packet.comment.is_empty() {
-        // 28 header | data | padding, 4 total length
-        //                  |-- end[7 - padding..]
-        // Of the end's seven zeros the last ones pad the data.
-        let size = (32 + packet.bytes.len() + padding) as u32;
-        let head = packet_header(size, number, packet);
-        let end = packet_end(size);
-        return write_all_parts(output, &[&head, packet.bytes, &end[7 - padding..]]);
-    }
-    // 28 header | data | padding, 4 option header | comment | padding, 4 zeros, 4 total length
-    //                  |-- option[3 - padding..]            |-- end[7 - zeros..]
-    let comment = packet.comment;
-    let option = option_header(COMMENT_CODE, comment);
-    let option = &option[3 - padding..];
-    // The comment's padding, and the four zeros that end the options.
-    let zeros = padding_after(comment.len()) + 4;
-    let size = (32 + packet.bytes.len() + option.len() + comment.len() + zeros) as u32;
-    let head = packet_header(size, number, packet);
-    let end = packet_end(size);
-    let parts = [&head[..], packet.bytes, option, comment, &end[7 - zeros..]];
-    write_all_parts(output, &parts)
+    put_packet_parts(number, packet, output, |output, parts, _| {
+        write_all_parts(output, parts)
+    })
 }
 
 /// The header of an interface description block of `size` bytes: type, total length, link type and
 /// snap length.
-pub fn interface_header(size: u32, packet: &Packet<'_>) -> [u8; 16]
+fn interface_header(size: u32, packet: &Packet<'_>) -> [u8; 16]
     ensures { result ≡ interface_header size packet.now.link packet.now.snap }
 {
     // 0 type, 4 total length, 8 link type, 10 reserved, 12 snap length
@@ -170,7 +191,7 @@ pub fn interface_header(size: u32, packet: &Packet<'_>) -> [u8; 16]
 /// What is after an interface's name in a block of `size` bytes: three zeros as padding of the
 /// name, of which a writer leaves out those that aren't needed; the resolution of nanoseconds, the
 /// end of the options, the total length.
-pub fn interface_end(size: u32) -> [u8; 19]
+fn interface_end(size: u32) -> [u8; 19]
     ensures { result ≡ replicate 3 0 ++ (resolution_text ++ end_text ++ little_bytes 4 size) }
 {
     let mut bytes = [0; 19];
@@ -183,11 +204,20 @@ pub fn interface_end(size: u32) -> [u8; 19]
     bytes
 }
 
-/// Writes the description of a packet's interface, whose ticks are nanoseconds, or reports how many
-/// bytes of it, fewer than all, were written before the device failed.
-pub fn write_interface<O: Output>(packet: &Packet<'_>, output: &mut O) -> Result<(), Stopped>
-    ensures { WritesExactly O.Output output.old
-        (interface_text packet.now.link packet.now.snap packet.now.name.now) result output.new }
+/// Lays out the description of a packet's interface, whose ticks are nanoseconds, as the parts of an
+/// interface description block, and hands these to `put`, with the length of the block and what
+/// they are put into.
+#[inline(always)]
+pub fn put_interface_parts<T, R, F: FnOnce(&mut T, &[&[u8]], usize) -> R>(
+    packet: &Packet<'_>,
+    target: &mut T,
+    put: F,
+) -> R
+    requires { TakesParts (F.pre put)
+        (interface_text packet.now.link packet.now.snap packet.now.name.now) }
+    ensures { PutsParts (F.post put)
+        (interface_text packet.now.link packet.now.snap packet.now.name.now) target.old result
+        target.new }
 {
     // 16 header | 4 option header | name | padding, 8 resolution, 4 zeros, 4 total length
     //           |-- option[start..]      |-- end[3 - padding..]
@@ -198,8 +228,19 @@ pub fn write_interface<O: Output>(packet: &Packet<'_>, output: &mut O) -> Result
     let start = if name.is_empty() { 7 } else { 3 };
     let option = &option[start..];
     // 16 of the header, 16 of the end without its padding.
-    let size = (32 + option.len() + name.len() + padding) as u32;
-    let head = interface_header(size, packet);
-    let end = interface_end(size);
-    write_all_parts(output, &[&head, option, name, &end[3 - padding..]])
+    let size = 32 + option.len() + name.len() + padding;
+    let head = interface_header(size as u32, packet);
+    let end = interface_end(size as u32);
+    put(target, &[&head, option, name, &end[3 - padding..]], size)
+}
+
+/// Writes the description of a packet's interface, whose ticks are nanoseconds, or reports how many
+/// bytes of it, fewer than all, were written before the device failed.
+pub fn write_interface<O: Output>(packet: &Packet<'_>, output: &mut O) -> Result<(), Stopped>
+    ensures { WritesExactly O.Output output.old
+        (interface_text packet.now.link packet.now.snap packet.now.name.now) result output.new }
+{
+    put_interface_parts(packet, output, |output, parts, _| {
+        write_all_parts(output, parts)
+    })
 }

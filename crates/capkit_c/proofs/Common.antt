@@ -14,7 +14,6 @@ pub use Rattle.cap_pcap.specs.declared.header.{Head.Head}
 pub use Rattle.cap_pcapng.specs.Effect.{section_of}
 pub use Rattle.cap_pcapng.specs.{Frame.is_section, Frame.frame_fault, Frame.frame_in, Interface.Described}
 pub use Rattle.cap_pcapng.specs.Unit.{Section, packet_of, parts_after, block_size, order_before, unit_fault}
-pub use Rattle.cap_pcapng.proofs.WrittenBlocks.{packet_joined, plain_joined, comment_after}
 pub use Rattle.capkit_c.specs.{Bounding.IsBound, Buffers.WriteLeaves, Buffers.written_packet, Compiling.IsFor}
 pub use Rattle.capkit_c.specs.Layout.{HasLink, declared_in, first_interfaces, reader_form, most_known}
 pub use Rattle.capkit_c.specs.Matching.{Skips, at_packet, past_packet, past_unit}

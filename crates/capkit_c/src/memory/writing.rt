@@ -13,16 +13,7 @@ ghost use Rattle.capkit_c.specs.Buffers.{written_packet, written_record_checks};
 use cap_octet::date::TIME_END;
 use cap_octet::{Fault, Format, Packet};
 use cap_pcap::{head_bytes, record_bytes};
-use cap_pcapng::{
-    MOST_NAME, interface_end, interface_header, option_header, packet_end, packet_header,
-    padding_after, section_bytes,
-};
-
-/// The code of a comment (option opt_comment).
-const COMMENT_CODE: u16 = 1;
-
-/// The code of an interface's name (option if_name).
-const NAME_CODE: u16 = 2;
+use cap_pcapng::{MOST_NAME, put_interface_parts, put_packet_parts, section_bytes};
 
 /// The most bytes of a comment: its option has 16 bits for their number.
 pub const MOST_COMMENT: usize = 65535;
@@ -39,6 +30,12 @@ pub enum Written {
     NoRoom(usize),
     /// They aren't made, by the first check that fails.
     Refused(Fault),
+}
+
+/// The caller's buffer, as what `cap_pcapng` puts the parts of a block into.
+#[derive(Drop)]
+struct Room<'a> {
+    buffer: &'a mut [u8],
 }
 
 /// Puts parts, `size` bytes in all, one after another at the start of a buffer, or nothing if it
@@ -147,26 +144,15 @@ pub fn write_interface(link_type: u16, snap: u32, name: &[u8], buffer: &mut [u8]
     put_interface(&packet, buffer)
 }
 
-/// Puts the description of a packet's interface; its parts are as `cap_pcapng::write_interface` has
-/// them.
+/// Puts the description of a packet's interface.
 pub(crate) fn put_interface(packet: &Packet<'_>, buffer: &mut [u8]) -> Written
     ensures { WriteLeaves None
         (interface_text packet.now.link packet.now.snap packet.now.name.now) buffer.old buffer.new
         result }
 {
-    let name = packet.name;
-    let padding = padding_after(name.len());
-    let option = option_header(NAME_CODE, name);
-    // `option` is 3 zeros, to pad what is before it, and the option's header of 4 bytes. No data
-    // are before it, so the zeros are left out; without a name the whole option is.
-    let start = if name.is_empty() { 7 } else { 3 };
-    let option = &option[start..];
-    // 16 bytes are before the option, and 16 after the name's padding. `end` is 3 zeros and these
-    // 16 bytes; as many of the zeros are put as the name's padding needs.
-    let size = 32 + option.len() + name.len() + padding;
-    let head = interface_header(size as u32, packet);
-    let end = interface_end(size as u32);
-    put_parts(&[&head, option, name, &end[3 - padding..]], size, buffer)
+    put_interface_parts(packet, &mut Room { buffer }, |room, parts, size| {
+        put_parts(parts, size, room.buffer)
+    })
 }
 
 /// Puts the enhanced packet block of a packet of the interface with this number; that its section
@@ -210,31 +196,13 @@ pub fn write_packet(
     }
 }
 
-/// Puts the enhanced packet block of a packet that fits; its parts are as
-/// `cap_pcapng::write_packet` has them.
+/// Puts the enhanced packet block of a packet that fits.
 pub(crate) fn put_packet(number: u32, packet: &Packet<'_>, buffer: &mut [u8]) -> Written
     requires { first_failing (block_fit_checks (captured packet.now)) ≡ None }
     ensures { WriteLeaves None (packet_block number (captured packet.now)) buffer.old buffer.new
         result }
 {
-    let padding = padding_after(packet.bytes.len());
-    // 32 are the header's 28 bytes and the total length, of 4 bytes, at the end. `end` is 7 zeros
-    // and that length; as many of the zeros are put as the padding of the data needs.
-    if packet.comment.is_empty() {
-        let size = 32 + packet.bytes.len() + padding;
-        let head = packet_header(size as u32, number, packet);
-        let end = packet_end(size as u32);
-        return put_parts(&[&head, packet.bytes, &end[7 - padding..]], size, buffer);
-    }
-    let comment = packet.comment;
-    let option = option_header(COMMENT_CODE, comment);
-    // 3 zeros and the option's header of 4 bytes: the zeros that pad the data are put too.
-    let option = &option[3 - padding..];
-    // The comment's padding, and the 4 zeros that end the options.
-    let zeros = padding_after(comment.len()) + 4;
-    let size = 32 + packet.bytes.len() + option.len() + comment.len() + zeros;
-    let head = packet_header(size as u32, number, packet);
-    let end = packet_end(size as u32);
-    let parts = [&head[..], packet.bytes, option, comment, &end[7 - zeros..]];
-    put_parts(&parts, size, buffer)
+    put_packet_parts(number, packet, &mut Room { buffer }, |room, parts, size| {
+        put_parts(parts, size, room.buffer)
+    })
 }
