@@ -22,12 +22,20 @@ use crate::frames::{
     BYTE_ORDER_MAGIC, ENHANCED_PACKET_TYPE, INTERFACE_TYPE, MOST_BLOCK, SECTION_TYPE,
 };
 use crate::interface::{NAME_CODE, RESOLUTION_CODE};
-use crate::options::{COMMENT_CODE, padded_length};
+use crate::options::COMMENT_CODE;
 use byteorder::{ByteOrder, LittleEndian};
 use cap_octet::{Fault, Output, Packet, Stopped, write_all_parts};
 
 /// The resolution of an interface whose ticks are nanoseconds: a negative power of ten.
 const NANOSECONDS: u8 = 9;
+
+/// How many zeros pad `length` bytes to a multiple of four: 0 to 3.
+fn padding_after(length: usize) -> usize
+    ensures padded { length + result ≡ padded_length length }
+    ensures short { result < 4 }
+{
+    (4 - length % 4) % 4
+}
 
 /// How many bytes a comment takes in its block: its option, with 4 bytes of header and padding, and
 /// the 4 bytes that end the options; 0 without a comment.
@@ -37,7 +45,7 @@ fn comment_size(comment: &[u8]) -> u64
     if comment.is_empty() {
         return 0;
     }
-    8 + padded_length(comment.len() as u64)
+    8 + (comment.len() + padding_after(comment.len())) as u64
 }
 
 /// Checks that a packet's block has at most 1,048,576 bytes, or returns `TooLong`. Next to data and
@@ -45,7 +53,7 @@ fn comment_size(comment: &[u8]) -> u64
 pub fn check_block_fits(packet: &Packet<'_>) -> Result<(), Fault>
     ensures { result ≡ checked (first_failing (block_fit_checks (captured packet.now))) tt }
 {
-    let data = padded_length(packet.bytes.len() as u64);
+    let data = (packet.bytes.len() + padding_after(packet.bytes.len())) as u64;
     if 32 + data + comment_size(packet.comment) > u64::from(MOST_BLOCK) {
         return Err(Fault::TooLong);
     }
@@ -67,14 +75,6 @@ pub fn section_bytes() -> [u8; 28]
     LittleEndian::write_u16(&mut bytes[14..], 0);
     LittleEndian::write_u32(&mut bytes[24..], 28);
     bytes
-}
-
-/// How many zeros pad `length` bytes to a multiple of four: 0 to 3.
-fn padding_after(length: usize) -> usize
-    ensures padded { length + result ≡ padded_length length }
-    ensures short { result < 4 }
-{
-    (4 - length % 4) % 4
 }
 
 /// The header of an enhanced packet block of `size` bytes: type, total length, the interface's
