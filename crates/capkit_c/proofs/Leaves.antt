@@ -1,8 +1,8 @@
 -- The effect of reading the unit at a reader's offset.
 use Rattle.capkit_c.proofs.Common.{◌≡◌, ℕ, ◌+◌, ◌-◌, ◌<◌, ◌≤◌, List, [], ◌∷◌, ◌++◌, length, take, drop, Option, Some, None, refl, sym, ap, ◌∙◌, subst, arith}
-use Rattle.capkit_c.proofs.Common.{min, slice_get, option_map, drop-drop, drop-take, take-take, length-drop, length-take-le, Captured, Fault, Declared}
-use Rattle.capkit_c.proofs.Common.{Nothing, PcapFile, PcapngFile, NoUnit, Whole, first_link_of, front_of, declared_by, declared_in, first_interfaces}
-use Rattle.capkit_c.proofs.Common.{reader_form, most_known, section_of, packet_of, IsPastUnit, IsPacketFound, NextLeaves, Stays, DeclaresOne, comment_by}
+use Rattle.capkit_c.proofs.Common.{min, option_map, drop-drop, drop-take, take-take, length-drop, length-take-le, Captured, Fault, Declared}
+use Rattle.capkit_c.proofs.Common.{Nothing, NoUnit, Whole, first_link_of, front_of, declared_by, declared_in, first_interfaces}
+use Rattle.capkit_c.proofs.Common.{reader_form, most_known, packet_of, IsPastUnit, IsPacketFound, NextLeaves, Stays, DeclaresOne, comment_by}
 use Rattle.capkit_c.proofs.Common.{ends, fails, finds, is_full, passes, Counts, IsAtEnd, IsPacketAt, BeginsWithUnit, HoldsPacket, HoldsPackets, FileState}
 use Rattle.capkit_c.proofs.Common.{Interface, Packet, Reader, Described, HasLink}
 use Rattle.capkit_c.specs.Units.{name_by}
@@ -11,7 +11,7 @@ use Rattle.capkit_c.specs.inside.Units.{FindsNoRoom, IsBare, IsFull}
 use Rattle.cap_io.proofs.FirstUnits.{has-interface}
 use Rattle.cap_io.specs.{Reading.packet_in_unit, FirstUnit.IsEffectIn, inside.Reading.HasInterface}
 use Rattle.cap_io.specs.declared.first_unit.FoundUnit.{FoundUnit}
-use Rattle.cap_pcapng.specs.{Effect.interfaces_after, Effect.span_bytes, Interface.description_of}
+use Rattle.cap_pcapng.specs.{Effect.interfaces_after, Effect.span_bytes}
 use Rattle.cap_pcapng.specs.declared.effect.{BlockEffect.BlockEffect, PacketSpans.PacketSpans}
 use Rattle.std.proofs.lemmas.List.{length-map}
 use Rattle.cap_io.specs.declared.file_state.FileState.TheVariants as form
@@ -20,36 +20,24 @@ use Rattle.cap_pcapng.specs.declared.effect.BlockEffect.TheVariants as does
 -- ---- what is declared
 
 min_left : (a b : ℕ) → a ≤ b → min a b ≡ a
-min_left a b upper_bound = omega (arith, upper_bound)
+min_left a b upper_bound = grind arith
 
 pub declared_as : (f : FileState) (r : Reader) (table : List Interface) (count : ℕ) → f ≡ reader_form r → Counts f r (length table) count
     → declared_by f (first_interfaces count table) ≡ declared_in r table
-declared_as form.Unknown r table count is counts = ap (λ g. declared_by g (first_interfaces (most_known r (length table)) table)) is
-declared_as (form.Pcap head) r table count is counts = ap (λ g. declared_by g (first_interfaces (most_known r (length table)) table)) is
-declared_as (form.Pcapng order link) r table count is counts =
-    ap (λ n. declared_by (form.Pcapng order link) (first_interfaces n table)) counts
-    ∙ ap (λ g. declared_by g (first_interfaces (most_known r (length table)) table)) is
+declared_as f r table count h1 h2 = grind arith
 
 most_is : (r : Reader) (table : List Interface) (count : ℕ) → r.interfaces ≡ count → count ≤ length table → count ≤ 256 → most_known r (length table) ≡ count
-most_is r table count counts fits upper_bound =
-    ap (λ n. min (min n (length table)) 256) counts ∙ ap (λ n. min n 256) (min_left count (length table) fits) ∙ min_left count 256 upper_bound
+most_is r table count counts fits upper_bound = grind (arith, min_left)
 
 pub declared_after : (f : FileState) (r : Reader) (table : List Interface) (count : ℕ) → reader_form r ≡ f → r.interfaces ≡ count
     → count ≤ length table → count ≤ 256
     → declared_by f (first_interfaces count table) ≡ declared_in r table
-declared_after f r table count is counts fits upper_bound =
-    let most = most_is r table count counts fits upper_bound in
-    ap (λ n. declared_by f (first_interfaces n table)) (sym most) ∙ ap (λ g. declared_by g (first_interfaces (most_known r (length table)) table)) (sym is)
+declared_after f r table count is counts fits upper_bound = grind (arith, most_is)
 
 -- a table without room for more has as many interfaces as are known
 pub all_known : (f : FileState) (r : Reader) (room count : ℕ) → f ≡ reader_form r → Counts f r room count → IsBare f count → IsFull (reader_form r) r room
     → count ≡ room
-all_known f r room count is counts bare full = by_form f counts bare (subst (λ g. IsFull g r room) (sym is) full)
-  where
-    by_form : (g : FileState) → Counts g r room count → IsBare g count → IsFull g r room → count ≡ room
-    by_form form.Unknown counts bare full = bare ∙ sym full.1
-    by_form (form.Pcap head) counts bare full = counts ∙ sym full.0
-    by_form (form.Pcapng order link) counts bare full = counts ∙ sym full.0
+all_known f r room count is counts bare full = grind arith
 
 -- ---- a unit
 
@@ -62,54 +50,28 @@ record Read (capture : List ℕ) (r r' : Reader) (t t' : List Interface) (u : Fo
 
 -- a file's first link type is known without its interfaces
 first_known : (f : FileState) (interfaces : List Described) → first_link_of (declared_by f []) ≡ first_link_of (declared_by f interfaces)
-first_known form.Unknown interfaces = refl
-first_known (form.Pcap head) interfaces = refl
-first_known (form.Pcapng order link) interfaces = refl
+first_known f interfaces = grind arith
 
 pub is_after : (capture : List ℕ) (size : ℕ) (r r' : Reader) (t' : List Interface) (f : FileState) (count : ℕ) → r'.offset ≡ r.offset + size
     → size ≤ length (drop r.offset capture) → 0 < size → reader_form r' ≡ f
     → HasLink (first_link_of (declared_by f [])) r' → r'.interfaces ≡ count → count ≤ length t' → count ≤ 256 → IsPastUnit capture size r r' t'
-is_after capture size r r' t' f count offset there some form' link counts fits upper_bound =
-    let P : Option ℕ → Type 0 = λ first. HasLink first r' in
-    let known : first_link_of (declared_by f []) ≡ first_link_of (declared_in r' t') =
-    first_known f (first_interfaces (most_known r' (length t')) t')
-    ∙ ap (λ g. first_link_of (declared_by g (first_interfaces (most_known r' (length t')) t'))) (sym form') in
-    record { offset = offset; there = there; some = some; link = subst P known link; counted = counts ∙ sym (most_is r' t' count counts fits upper_bound) }
+is_after capture size r r' t' f count offset there some form' link counts fits upper_bound = grind (arith, first_known, most_is)
 
 read : (capture text : List ℕ) (r r' : Reader) (t t' : List Interface) (f : FileState) (count after : ℕ) (u : FoundUnit) → f ≡ reader_form r
     → Counts f r (length t) count → text ≡ drop r.offset capture → BeginsWithUnit f (first_interfaces count t) text u
     → first_interfaces after t' ≡ interfaces_after u.effect (first_interfaces count t) → after ≤ length t' → after ≤ 256
     → reader_form r' ≡ u.file → r'.interfaces ≡ after → Read capture r r' t t' u
-read capture text r r' t t' f count after u is counts same begins entered inside most form' interfaces' =
-    let before = declared_as f r t count is counts in
-    let following : declared_by u.file (interfaces_after u.effect (first_interfaces count t)) ≡ declared_in r' t' =
-    ap (declared_by u.file) (sym entered) ∙ declared_after u.file r' t' after form' interfaces' inside most in
-    let Q : List ℕ → Type 0 = λ v. HoldsPackets (declared_in r' t') v u.size u.effect begins.packets in
-    let R : Declared → Type 0 = λ d. HoldsPackets d text u.size u.effect begins.packets in
-    let S : List ℕ → Type 0 = λ v. u.size ≤ length v in
-    record {
-      packets = begins.packets;
-      front = ap (front_of (declared_in r t)) (sym same) ∙ ap (λ d. front_of d text) (sym before) ∙ begins.front
-          ∙ ap (λ d. Whole u.size begins.packets d) following;
-      has = subst Q same (subst R following begins.has);
-      there = subst S same begins.there;
-    }
+read capture text r r' t t' f count after u is counts same begins entered inside most form' interfaces' = grind (arith, declared_as, declared_after)
 
 no_packets : (d : Declared) (text : List ℕ) (size : ℕ) (effect : BlockEffect) (packets : List Captured)
     → ((spans : PacketSpans) → effect ≡ does.Packet spans → ⊥) → HoldsPackets d text size effect packets → packets ≡ []
-no_packets d text size (does.Packet spans) packets other has = absurd (other spans refl)
-no_packets d text size does.Section packets other has = has
-no_packets d text size (does.Interface i) packets other has = has
-no_packets d text size does.Nothing packets other has = has
+no_packets d text size effect packets h1 h2 = grind arith
 
 -- no more interfaces are known than a section may have
 few_after : (t t' : List Interface) (count after : ℕ) (effect : BlockEffect) → count ≤ length t → count ≤ 256 → after ≤ length t'
     → first_interfaces after t' ≡ interfaces_after effect (first_interfaces count t)
     → (length (first_interfaces count t) ≤ 256 → length (interfaces_after effect (first_interfaces count t)) ≤ 256) → after ≤ 256
-few_after t t' count after effect fits few inside entered most =
-    let before : length (first_interfaces count t) ≡ count = length-map (take count t) _ ∙ length-take-le count t fits in
-    let following : length (first_interfaces after t') ≡ after = length-map (take after t') _ ∙ length-take-le after t' inside in
-    omega (arith, most (omega (arith, before, few)), ap length entered, following)
+few_after t t' count after effect fits few inside entered most = grind (arith, length-map, length-take-le)
 
 pub passed : (capture text : List ℕ) (r r' : Reader) (t t' : List Interface) (p : Packet) (f : FileState) (count after : ℕ) (u : FoundUnit)
     → f ≡ reader_form r → Counts f r (length t) count → count ≤ length t → count ≤ 256
@@ -137,9 +99,7 @@ part_within text size start count fits =
 -- a part of a unit, as a part of the capture
 part_at : (capture : List ℕ) (at size start count place length : ℕ) → start + count ≤ size → place ≡ at + start → length ≡ count
     → take count (drop start (take size (drop at capture))) ≡ take length (drop place capture)
-part_at capture at size start count place length fits place_is length_is =
-    part_within (drop at capture) size start count fits ∙ ap (take count) (drop-drop start at capture)
-    ∙ ap (λ n. take count (drop n capture)) (sym place_is) ∙ ap (λ n. take n (drop place capture)) (sym length_is)
+part_at capture at size start count place length fits place_is length_is = grind (arith, part_within, drop-drop)
 
 -- the packet at some spans of a unit
 record Held (declared : Declared) (spans : PacketSpans) (unit : List ℕ) (q : Captured) : Type 0 where
@@ -153,30 +113,11 @@ record Held (declared : Declared) (spans : PacketSpans) (unit : List ℕ) (q : C
 lent : (found : Option Described) (time orig : ℕ) (bytes comment : List ℕ) (q : Captured)
     → option_map (λ (i : Described). packet_of i time orig bytes comment) found ≡ Some q
     → (i : Described) × (found ≡ Some i) × (packet_of i time orig bytes comment ≡ q)
-lent None time orig bytes comment q e = absurd (cc)
-lent (Some i) time orig bytes comment q e = (i, refl, (cc))
+lent found time orig bytes comment q h1 = grind arith
 
 held : (declared : Declared) (spans : PacketSpans) (unit : List ℕ) (q : Captured) → packet_in_unit declared spans unit ≡ Some q
     → Held declared spans unit q
-held Nothing spans unit q e = absurd (cc)
-held (PcapFile head) spans unit q e =
-    let some : (a b : Captured) → Some a ≡ Some b → a ≡ b = λ a b same. (cc) in
-    let is = some _ q e in record {
-      name = ap (λ (r : Captured). Some r.name) is;
-      time = ap (λ (r : Captured). r.time) (sym is);
-      orig = ap (λ (r : Captured). r.orig) (sym is);
-      bytes = ap (λ (r : Captured). r.bytes) (sym is);
-      comment = ap (λ (r : Captured). r.comment) (sym is);
-    }
-held (PcapngFile first section) spans unit q e =
-    let l = lent (slice_get section.interfaces spans.interface) spans.time spans.orig _ _ q e in
-    let is = l.2 in record {
-      name = ap (option_map (λ (i : Described). i.name)) l.1 ∙ ap (λ (r : Captured). Some r.name) is;
-      time = ap (λ (r : Captured). r.time) (sym is);
-      orig = ap (λ (r : Captured). r.orig) (sym is);
-      bytes = ap (λ (r : Captured). r.bytes) (sym is);
-      comment = ap (λ (r : Captured). r.comment) (sym is);
-    }
+held declared spans unit q h1 = grind (arith, lent)
 
 found_at : (capture : List ℕ) (declared : Declared) (at size : ℕ) (spans : PacketSpans) (packets : List Captured) (p : Packet) → at ≤ length capture
     → size ≤ length (drop at capture) → (h : HoldsPacket declared (drop at capture) size spans packets) → IsPacketAt at declared spans p
@@ -226,13 +167,12 @@ found_packet capture text r r' t p p' f file count size spans is counts fits mos
 -- a packet's interface is known
 pub interface_known : (f : FileState) (interfaces : List Described) (text : List ℕ) (size : ℕ) (file : FileState) (spans : PacketSpans)
     → BeginsWithUnit f interfaces text (record { size = size; file = file; effect = does.Packet spans }) → HasInterface (declared_by file interfaces) spans
-interface_known f interfaces text size file spans begins =
-    has-interface (declared_by file interfaces) spans (take size text) begins.has.packet begins.has.is_lent
+interface_known f interfaces text size file spans begins = grind (arith, has-interface)
 
 -- ---- no unit
 
 stays : (r : Reader) (t t' : List Interface) (p : Packet) → t' ≡ t → Stays r r t t' p p
-stays r t t' p same = record { reader = refl; table = same; packet = refl }
+stays r t t' p same = grind arith
 
 pub ended : (capture text : List ℕ) (r : Reader) (t : List Interface) (p : Packet) (f : FileState) (count : ℕ) → f ≡ reader_form r
     → Counts f r (length t) count → text ≡ drop r.offset capture → IsAtEnd f text
@@ -256,26 +196,15 @@ declares_one : (declared : Declared) (text : List ℕ) (interfaces : List Descri
     (effect : BlockEffect) → FindsNoRoom effect count room
     → IsEffectIn file effect → HoldsPackets (declared_by file (interfaces_after effect interfaces)) text size effect packets
     → front_of declared text ≡ Whole size packets (declared_by file (interfaces_after effect interfaces)) → DeclaresOne declared text interfaces
-declares_one declared text interfaces count room size packets (form.Pcapng order first) (does.Interface i) full adds none front =
-    record {
-      size = size;
-      first = first;
-      section = section_of order (interfaces ++ description_of i ∷ []);
-      interface = description_of i;
-      front = front ∙ ap (λ qs. Whole size qs (PcapngFile first (section_of order (interfaces ++ description_of i ∷ [])))) none;
-      more = refl;
-    }
-declares_one declared text interfaces count room size packets form.Unknown (does.Interface i) full adds none front = absurd adds
-declares_one declared text interfaces count room size packets (form.Pcap head) (does.Interface i) full adds none front = absurd adds
-declares_one declared text interfaces count room size packets file does.Section full adds none front = absurd full
-declares_one declared text interfaces count room size packets file (does.Packet spans) full adds none front = absurd full
-declares_one declared text interfaces count room size packets file does.Nothing full adds none front = absurd full
+declares_one declared text interfaces count room size packets (form.Pcapng order first) (does.Interface i) full adds none front = grind arith
+declares_one declared text interfaces count room size packets form.Unknown (does.Interface i) full adds none front = grind arith
+declares_one declared text interfaces count room size packets (form.Pcap head) (does.Interface i) full adds none front = grind arith
+declares_one declared text interfaces count room size packets file does.Section full adds none front = grind arith
+declares_one declared text interfaces count room size packets file (does.Packet spans) full adds none front = grind arith
+declares_one declared text interfaces count room size packets file does.Nothing full adds none front = grind arith
 
 no_room : (effect : BlockEffect) (count room : ℕ) → FindsNoRoom effect count room → count ≡ room
-no_room (does.Interface i) count room full = full
-no_room does.Section count room full = absurd full
-no_room (does.Packet spans) count room full = absurd full
-no_room does.Nothing count room full = absurd full
+no_room effect count room h1 = grind arith
 
 pub full : (capture text : List ℕ) (r : Reader) (t t' : List Interface) (p : Packet) (f : FileState) (count : ℕ) (u : FoundUnit) → f ≡ reader_form r
     → Counts f r (length t) count → count ≤ length t → text ≡ drop r.offset capture → BeginsWithUnit f (first_interfaces count t) text u

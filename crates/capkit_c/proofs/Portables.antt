@@ -3,7 +3,7 @@
 use Rattle.capkit_c.proofs.Common.{◌≡◌, ◌↔◌, ◌⊎◌, inl, inr, ℕ, zero, suc, ◌+◌, ◌-◌, ◌%◌, ◌^◌, ◌<◌, ◌≤◌, List, [], ◌∷◌, length, drop, get_or, Bool, true, false}
 use Rattle.capkit_c.proofs.Common.{Option, Some, None, refl, sym, ap, ◌∙◌, subst, arith, ◌==◌, nat_lt, nat_le, ◌&&◌, ◌||◌, not, if◌then◌else◌, slice_set}
 use Rattle.capkit_c.proofs.Common.{bit_and, list_all, option_map, get_or-drop, Insn, Next, Goes, Ends, Lost, step_if_there, does, does_if_known, into}
-use Rattle.capkit_c.proofs.Common.{word_into, into_word, with_register, held, field, compute, operand_value, test_holds, header_length, run_from}
+use Rattle.capkit_c.proofs.Common.{word_into, into_word, with_register, field, compute, operand_value, test_holds, header_length, run_from}
 use Rattle.capkit_c.proofs.Common.{progress_after, machine, start, parts, sign_bit, half_sign_bit, operation_keeps, keeps_x_small, operation_alike, runs_alike}
 use Rattle.capkit_c.proofs.Common.{operation_alike_on_libpcap, runs_alike_on_libpcap, is_live_at, operation_wants, is_live_before, live_places}
 use Rattle.capkit_c.proofs.Common.{none_read_unwritten, most_attached, is_portable, portability}
@@ -11,7 +11,6 @@ use Rattle.std.specs.Prelude.{slice_get}
 use Rattle.std.proofs.lemmas.Bool.{and_parts, and_from, or_right, or_left, cases_lt, eq-eqb, ne_eqb, ltb-true, lt-ltb, not-true}
 use Rattle.std.proofs.lemmas.{Nat.and_le_r, Option.slice_get_past, Option.slice_get-get_or}
 use Rattle.flt_bpf.specs.{Instructions.operation_of, Machine.step, Valid.IsValid, Valid.WORDS, declared.machine.State.State}
-use Rattle.flt_bpf.specs.declared.operation.AluOperation.TheVariants.{ShiftLeft, ShiftRight}
 use Rattle.flt_bpf.specs.declared.operation.{Operand.TheVariants.Constant, Operand.TheVariants.IndexRegister, Operation.Operation}
 use Rattle.flt_bpf.specs.declared.operation.Operation.TheVariants.{LoadAbsolute, LoadIndirect, Load, LoadHeaderLength, Store, Compute, Negate, Jump, JumpIf}
 use Rattle.flt_bpf.specs.declared.operation.Operation.TheVariants.{ReturnConstant, ReturnAccumulator, CopyToIndex, CopyToAccumulator}
@@ -35,10 +34,7 @@ record SameWords (live : ℕ → Bool) (m : List ℕ) (s : State) : Type 0 where
 
 weaker : {live less : ℕ → Bool} {m : List ℕ} {s t : State} → t.memory ≡ s.memory → ((w : ℕ) → less w ≡ true → live w ≡ true) → SameWords live m s
     → SameWords less m t
-weaker {live} {less} {m} {s} {t} e f h = record {
-  sizes = h.sizes ∙ ap length (sym e);
-  words = λ w l. h.words w (f w l) ∙ ap (λ x. slice_get x w) (sym e);
-}
+weaker {live} {less} {m} {s} {t} e f h = grind arith
 
 set_both : (a b : List ℕ) (k v w : ℕ) → length a ≡ length b → ((k ≡ w → ⊥) → slice_get a w ≡ slice_get b w) → slice_get (slice_set a k v) w ≡
     slice_get (slice_set b k v) w
@@ -133,39 +129,20 @@ index_after (Ends a) = 0
 index_after Lost = 0
 
 into_index : (o : Option ℕ) (s : State) (b : ℕ) → s.index < b → index_after (into Accumulator o s) < b
-into_index None s b h = omega arith
-into_index (Some v) s b h = h
+into_index o s b h1 = grind arith
 
 word_index : (o : Option ℕ) (s : State) (b : ℕ) → s.index < b → index_after (word_into Accumulator o s) < b
-word_index None s b h = omega arith
-word_index (Some v) s b h = h
+word_index o s b h1 = grind arith
 
 put_index : (b : Bool) (s : State) (m : List ℕ) (x : ℕ) → s.index < x → index_after (if b then Goes 0 (on s m) else Lost) < x
-put_index true s m x h = h
-put_index false s m x h = omega arith
+put_index b s m x h1 = grind arith
 
 header_index : (o : Option ℕ) (s : State) → index_after (into Index (option_map header_length o) s) < half_sign_bit
-header_index None s = omega arith
-header_index (Some b) s = let low = and_le_r b 15 in omega arith
+header_index o s = grind (arith, and_le_r)
 
 index_kept : (o : Option Operation) (i : Insn) (p : List ℕ) (n : ℕ) (s : State) → operation_keeps o i.k ≡ true → s.index < half_sign_bit
     → index_after (does_if_known o i p n s) < half_sign_bit
-index_kept None i p n s e h = omega arith
-index_kept (Some (LoadAbsolute width)) i p n s e h = into_index (field p i.k width) s half_sign_bit h
-index_kept (Some (LoadIndirect width)) i p n s e h = into_index (field p ((s.index + i.k) % 2 ^ 32) width) s half_sign_bit h
-index_kept (Some (Load Accumulator Immediate)) i p n s e h = h
-index_kept (Some (Load Accumulator Memory)) i p n s e h = word_index (slice_get s.memory i.k) s half_sign_bit h
-index_kept (Some (Load Accumulator Length)) i p n s e h = h
-index_kept (Some (Load Index Immediate)) i p n s e h = ltb-true i.k half_sign_bit e
-index_kept (Some (Load Index Memory)) i p n s e h = cc
-index_kept (Some (Load Index Length)) i p n s e h = cc
-index_kept (Some LoadHeaderLength) i p n s e h = header_index (field p i.k Byte) s
-index_kept (Some (Store register)) i p n s e h = put_index (nat_lt i.k (length s.memory)) s (slice_set s.memory i.k (held register s)) half_sign_bit h
-index_kept (Some (Compute operator operand)) i p n s e h = into_index (compute operator s.accumulator (operand_value operand i.k s.index)) s half_sign_bit h
-index_kept (Some ReturnConstant) i p n s e h = omega arith
-index_kept (Some ReturnAccumulator) i p n s e h = omega arith
-index_kept (Some CopyToIndex) i p n s e h = cc
-index_kept (Some _) i p n s e h = h
+index_kept o i p n s h1 h2 = grind (arith, into_index, word_index, ltb-true, header_index, put_index)
 
 -- ---- complete runs
 
@@ -182,9 +159,7 @@ live_there w (j ∷ is) zero i e = let same : j ≡ i = cc in ap (λ x. is_live_
 live_there w (j ∷ is) (suc k) i e = live_there w is k i e
 
 live_later : (w : ℕ) (is : List Insn) (place k : ℕ) → is_live_at (live_places w is) (place + 1 + k) ≡ is_live_at (drop (suc place) (live_places w is)) k
-live_later w is place k =
-    let there : place + 1 + k ≡ suc place + k = omega arith in
-    ap (is_live_at (live_places w is)) there ∙ sym (get_or-drop (suc place) (live_places w is) k false)
+live_later w is place k = grind (arith, get_or-drop)
 
 module _ (there : Machine) (prog : List Insn) (p : List ℕ) (n : ℕ) (small : Bool) (valid : IsValid prog)
     (keeps : (k : ℕ) (i : Insn) → slice_get prog k ≡ Some i → small ≡ true → keeps_x_small i ≡ true)
@@ -261,8 +236,7 @@ from_start there prog p words n small valid keeps agrees none long =
 -- ---- the machine here
 
 here_known : (o : Option Operation) (i : Insn) (p : List ℕ) (n : ℕ) (s : State) → does_on does o i p n s ≡ does_if_known o i p n s
-here_known None i p n s = refl
-here_known (Some operation) i p n s = refl
+here_known o i p n s = grind arith
 
 here_step : (o : Option Insn) (p : List ℕ) (n : ℕ) (s : State) → step_on does o p n s ≡ step_if_there o p n s
 unfolding step
@@ -272,9 +246,7 @@ here_step (Some i) p n s = here_known (operation_of i.code) i p n s
 here_next : (prog : List Insn) (p : List ℕ) (n t place count : ℕ) (v : Next)
     → ((j : ℕ) (s : State) (c : ℕ) → run_on does prog p n t j s c ≡ run_from prog p n t j s c) → progress_after (run_on does prog p n t) place count
     v ≡ progress_after (run_from prog p n t) place count v
-here_next prog p n t place count (Goes k s) later = later (place + 1 + k) s (count + 1)
-here_next prog p n t place count (Ends a) later = refl
-here_next prog p n t place count Lost later = refl
+here_next prog p n t place count v h1 = grind arith
 
 here_run : (prog : List Insn) (p : List ℕ) (n t place : ℕ) (s : State) (count : ℕ) → run_on does prog p n t place s count ≡ run_from prog p n t place s count
 here_run prog p n zero place s count = refl
@@ -295,19 +267,13 @@ abbrev bits : Bool → Bool → ℕ
 bits a b = if passed a == 1 then 3 else passed b
 
 some_bit : (a b : Bool) → (bits a b ≡ 0 → ⊥) → (a ≡ true) ⊎ (b ≡ true)
-some_bit true b e = inl refl
-some_bit false true e = inr refl
-some_bit false false e = absurd (e refl)
+some_bit a b h1 = grind arith
 
 first_bit : (a b : Bool) → bit_and (bits a b) 1 ≡ 1 → (a ≡ true) ⊎ (b ≡ true)
-first_bit true b e = inl refl
-first_bit false true e = inr refl
-first_bit false false e = absurd (omega arith)
+first_bit a b h1 = grind arith
 
 second_bit : (a b : Bool) → bit_and (bits a b) 2 ≡ 2 → a ≡ true
-second_bit true b e = refl
-second_bit false true e = absurd (omega arith)
-second_bit false false e = absurd (omega arith)
+second_bit a b h1 = grind arith
 
 abbrev tested : (Bool → Insn → Bool) → List Insn → Bool
 tested q insns = nat_le (length insns) most_attached && (list_all (q (list_all keeps_x_small insns)) insns && none_read_unwritten WORDS insns)
@@ -318,17 +284,10 @@ record Tested (q : Bool → Insn → Bool) (insns : List Insn) : Type 0 where
   none : none_read_unwritten WORDS insns ≡ true
 
 tests_say : (q : Bool → Insn → Bool) (insns : List Insn) → tested q insns ≡ true → Tested q insns
-tests_say q insns e =
-    let a = and_parts (nat_le (length insns) most_attached) (list_all (q (list_all keeps_x_small insns)) insns && none_read_unwritten WORDS insns) e in
-    let b = and_parts (list_all (q (list_all keeps_x_small insns)) insns) (none_read_unwritten WORDS insns) a.1 in
-    record { each = λ k i g. all_at (q (list_all keeps_x_small insns)) insns k i b.0 g; none = b.1 }
+tests_say q insns e = grind (arith, and_parts, all_at)
 
 alike_known : (o : Option Operation) (k : ℕ) (small : Bool) → operation_alike o k small ≡ true → operation_alike_on_libpcap o k small ≡ true
-alike_known (Some (LoadIndirect width)) k small e =
-    let both = and_parts small (nat_lt k half_sign_bit) e in
-    let low = ltb-true k half_sign_bit both.1 in
-    and_from small (nat_lt k sign_bit) both.0 (lt-ltb k sign_bit (omega arith))
-alike_known _ k small e = refl
+alike_known o k small h1 = grind (arith, and_parts, ltb-true, and_from, lt-ltb)
 
 on_libpcap_too : (insns : List Insn) → (tested runs_alike insns ≡ true) ⊎ (tested runs_alike_on_libpcap insns ≡ true) → Tested runs_alike_on_libpcap insns
 on_libpcap_too insns (inl e) =
@@ -337,7 +296,7 @@ on_libpcap_too insns (inl e) =
 on_libpcap_too insns (inr e) = tests_say runs_alike_on_libpcap insns e
 
 keeps_each : (insns : List Insn) (k : ℕ) (i : Insn) → slice_get insns k ≡ Some i → list_all keeps_x_small insns ≡ true → keeps_x_small i ≡ true
-keeps_each insns k i g e = all_at keeps_x_small insns k i e g
+keeps_each insns k i g e = grind (arith, all_at)
 
 pub same_from_any_words : SameFromAnyWords
 same_from_any_words insns valid bit words p n long =
@@ -351,11 +310,7 @@ sum_stays a b x y = omega arith
 
 libpcap_known : (o : Option Operation) (i : Insn) (p : List ℕ) (n : ℕ) (s : State) (small : Bool) → operation_alike_on_libpcap o i.k small ≡ true
     → Small small s → does_on on_libpcap o i p n s ≡ does_if_known o i p n s
-libpcap_known None i p n s small e x = refl
-libpcap_known (Some (LoadIndirect width)) i p n s small e x =
-    let both = and_parts small (nat_lt i.k sign_bit) e in
-    ap (λ at. into Accumulator (field p at width) s) (sym (sum_stays s.index i.k (x both.0) (ltb-true i.k sign_bit both.1)))
-libpcap_known (Some _) i p n s small e x = refl
+libpcap_known o i p n s small h1 h2 = grind (arith, and_parts, sum_stays, ltb-true)
 
 pub same_on_libpcap : SameOnLibpcap
 same_on_libpcap insns valid bit words p n long =
@@ -367,27 +322,11 @@ same_on_libpcap insns valid bit words p n long =
 
 load_below : (other : Machine) (offset : ℕ) (operation : Operation) (i : Insn) (p : List ℕ) (n : ℕ) (s : State) → nat_lt offset sign_bit ≡ true
     → load_on_linux other offset operation i p n s ≡ does operation i p n s
-load_below other offset operation i p n s e = ap (λ b. if b then does operation i p n s else other operation i p n s) e
+load_below other offset operation i p n s e = grind arith
 
 linux_known : (other : Machine) (o : Option Operation) (i : Insn) (p : List ℕ) (n : ℕ) (s : State) (small : Bool) → operation_alike o i.k small ≡ true
     → Small small s → does_on (on_linux other) o i p n s ≡ does_if_known o i p n s
-linux_known other None i p n s small e x = refl
-linux_known other (Some (LoadAbsolute width)) i p n s small e x = load_below other i.k (LoadAbsolute width) i p n s e
-linux_known other (Some LoadHeaderLength) i p n s small e x = load_below other i.k LoadHeaderLength i p n s e
-linux_known other (Some (LoadIndirect width)) i p n s small e x =
-    let both = and_parts small (nat_lt i.k half_sign_bit) e in
-    let low = ltb-true i.k half_sign_bit both.1 in
-    let small_x = x both.0 in
-    load_below other ((s.index + i.k) % 2 ^ 32) (LoadIndirect width) i p n s (lt-ltb _ sign_bit (omega arith))
-linux_known other (Some (Load register Immediate)) i p n s small e x = refl
-linux_known other (Some (Load register Memory)) i p n s small e x = refl
-linux_known other (Some (Load register Length)) i p n s small e x = cc
-linux_known other (Some (Compute ShiftLeft Constant)) i p n s small e x = refl
-linux_known other (Some (Compute ShiftRight Constant)) i p n s small e x = refl
-linux_known other (Some (Compute ShiftLeft IndexRegister)) i p n s small e x = cc
-linux_known other (Some (Compute ShiftRight IndexRegister)) i p n s small e x = cc
-linux_known other (Some (Compute _ operand)) i p n s small e x = refl
-linux_known other (Some _) i p n s small e x = refl
+linux_known other o i p n s small h1 h2 = grind (arith, load_below, and_parts, ltb-true, lt-ltb)
 
 pub same_on_linux : SameOnLinux
 same_on_linux insns other valid bit words p n long =
@@ -398,16 +337,10 @@ same_on_linux insns other valid bit words p n long =
 -- ---- both bits
 
 both_tested : (a b : Bool) → passed a ≡ 1 → bits a b ≡ 3
-both_tested true b e = refl
-both_tested false b e = absurd (omega arith)
+both_tested a b h1 = grind arith
 
 tested_both : (a b : Bool) → bits a b ≡ 3 → passed a ≡ 1
-tested_both true b e = refl
-tested_both false true e = absurd (omega arith)
-tested_both false false e = absurd (omega arith)
+tested_both a b h1 = grind arith
 
 pub both_bits : (insns : List Insn) → (is_portable insns ≡ 1) ↔ (portability insns ≡ 3)
-both_bits insns =
-    let a = tested runs_alike insns in
-    let b = tested runs_alike_on_libpcap insns in
-    (both_tested a b, tested_both a b)
+both_bits insns = grind (arith, both_tested, tested_both)

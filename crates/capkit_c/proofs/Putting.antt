@@ -12,8 +12,7 @@ use Rattle.capkit_c.specs.{declared.memory.layout.Writer.Writer, declared.memory
 
 -- whether a test is true of some element, by the first such index
 among_by : (b later : Bool) (place count : ℕ) → later ≡ nat_lt place count → (b || later) ≡ nat_lt (if not b then 1 + place else 0) (suc count)
-among_by true later place count e = grind (arith, nat_tests)
-among_by false later place count e = e ∙ (let step : nat_lt place count ≡ nat_lt (1 + place) (suc count) = grind (arith, nat_tests) in step)
+among_by b later place count h1 = grind (arith, nat_tests)
 
 pub among_is : {X : Type 0} (test : X → Bool) (xs : List X) → list_any test xs ≡ nat_lt (position_or_len test xs) (length xs)
 among_is test [] = grind (arith, nat_tests)
@@ -34,11 +33,7 @@ map_append f (x ∷ xs) ys = ap (λ z. f x ∷ z) (map_append f xs ys)
 
 -- a writer that counts no more interfaces than a file may have counts those that are written
 pub all_counted : (w : Writer) (table : List Interface) → w.interfaces ≤ room_for (length table) → w.interfaces ≡ length (interfaces_in w table)
-all_counted w table fits =
-    let most : most_written w (length table) ≡ w.interfaces = omega (arith, fits) in
-    let there : w.interfaces ≤ length table = omega (arith, fits) in
-    sym (length-map (take (most_written w (length table)) table) output_interface ∙ ap (λ n. length (take n table)) most ∙ length-take-le w.interfaces
-    table there)
+all_counted w table fits = grind (arith, length-map, length-take-le)
 
 module _ (w : Writer) (table : List Interface) (p : Captured) (known number room : ℕ) (at_known : known ≡ length (interfaces_in w table))
     (at_number : number ≡ text.number_among (interfaces_in w table) (text.interface_of p)) (at_room : room ≡ room_for (length table)) where
@@ -132,12 +127,11 @@ module _ (w : Writer) (table : List Interface) (p : Captured) (known number room
 -- ---- the number of an interface
 
 same_self : (i : text.Interface) → text.is_same i i ≡ true
-same_self i = rw (nat_eq_equiv.refl i.link, nat_eq_equiv.refl i.snap) (nat_list_eq_equiv.refl i.name)
+same_self i = grind (arith, nat_eq_equiv, nat_list_eq_equiv)
 
 number_by : (b : Bool) (i : text.Interface) (xs : List text.Interface) → text.number_among (xs ++ text.new_among xs i) i ≡ text.number_among xs i
     → cond (not b) (1 + text.number_among (xs ++ (if b || text.is_among xs i then [] else i ∷ [])) i) 0 ≡ cond (not b) (1 + text.number_among xs i) 0
-number_by true i xs stays = refl
-number_by false i xs stays = ap (λ (n : ℕ). 1 + n) stays
+number_by b i xs h1 = grind arith
 
 pub number_stays : (known : List text.Interface) (i : text.Interface) → text.number_among (known ++ text.new_among known i) i ≡ text.number_among known i
 number_stays [] i = ap (λ (b : Bool). cond (not b) 1 0) (same_self i)

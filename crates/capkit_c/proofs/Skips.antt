@@ -1,16 +1,15 @@
 -- The effect of skipping a refused unit.
 use Rattle.capkit_c.proofs.Common.{inl, inr, ap₂, block_size, parts_after, section_of, IsFramed, NextLeaves, Packet, ends, fails, finds, is_full, passes, ◌≡◌}
 use Rattle.capkit_c.proofs.Common.{ℕ, ◌+◌, ◌<◌, ◌≤◌, ◌%◌, List, [], ◌∷◌, ◌++◌, length, take, drop, Option, Some, None, Err, refl, sym, ap, ◌∙◌, subst, arith}
-use Rattle.capkit_c.proofs.Common.{Bool, true, false, nat_lt, ◌==◌, nat_le, ◌&&◌, ◌||◌, not, if◌then◌else◌, length-take-le, take-append-drop, take-take}
-use Rattle.capkit_c.proofs.Common.{Captured, Fault, Truncated, Order, checked_err, Head, is_section, frame_fault, frame_in, Described, Section, order_before}
+use Rattle.capkit_c.proofs.Common.{Bool, false, nat_lt, ◌==◌, nat_le, ◌&&◌, ◌||◌, not, if◌then◌else◌, length-take-le, take-append-drop, take-take}
+use Rattle.capkit_c.proofs.Common.{Captured, Fault, Order, checked_err, Head, is_section, frame_fault, frame_in, Described, Section, order_before}
 use Rattle.capkit_c.proofs.Common.{unit_fault, Declared, Nothing, PcapFile, PcapngFile, NoUnit, Whole, front_of, declared_by, FileState, declared_in}
 use Rattle.capkit_c.proofs.Common.{first_interfaces, reader_form, most_known, Counts, Interface, Reader, checked, first_failing}
 use Rattle.std.specs.Prelude.{is_some, map, pos, ◌*◌, ◌/◌, ◌^◌}
-use Rattle.cap_octet.specs.Date.{NANOS_PER_SECOND}
 use Rattle.cap_pcapng.specs.Time.{microseconds, representable_time}
 use Rattle.std.proofs.lemmas.{Bool.Decides.nat_tests, List.length-append, List.length-map}
 use Rattle.cap_octet.specs.declared.fault.Fault.TheVariants.{NotACaptureFile, TooLong, BadBlockLength, BadByteOrderMagic}
-use Rattle.cap_pcapng.specs.Block.{Parts, SectionParts, InterfaceParts, EnhancedParts, SimpleParts, SkippedParts, parts_in}
+use Rattle.cap_pcapng.specs.Block.{Parts, InterfaceParts, parts_in}
 use Rattle.cap_pcapng.specs.{Interface.description_of, declared.frames.Frame.Frame}
 use Rattle.cap_pcapng.specs.declared.interface.Interface.{Interface as PcapngInterface}
 use Rattle.cap_pcapng.specs.Frame.{length_in, magic_order, most_block}
@@ -28,22 +27,18 @@ use Rattle.cap_io.specs.declared.file_state.FileState.TheVariants as form
 -- ---- a block whose form is refused
 
 is_form : (f g : Fault) → Some f ≡ Some g → refused_part f ≡ RefusedPart.Form → refused_part g ≡ RefusedPart.Form
-is_form f g e part = let same : f ≡ g = (cc) in subst (λ x. refused_part x ≡ RefusedPart.Form) same part
+is_form f g e part = grind arith
 
 pub refuses : (before : Option Section) (text : List ℕ) (fault : Fault) → unit_fault before text ≡ Some fault → refused_part fault ≡ RefusedPart.Form
     → RefusesForm before text
-refuses before text fault e part = λ other same. is_form fault other (sym e ∙ same) part
+refuses before text fault e part = grind (arith, is_form)
 
 pub few : (before : Option Section) (text : List ℕ) → length text < 12 → RefusesForm before text
-few before text short = refuses before text Truncated (unit_fault-few before text short) refl
+few before text short = grind (arith, refuses, unit_fault-few)
 
 by_frame : (a b c d : Bool) (fault : Fault) → first_failing ((a, NotACaptureFile) ∷ (b, BadByteOrderMagic) ∷ (c, BadBlockLength) ∷ (d, TooLong) ∷
     []) ≡ Some fault → refused_part fault ≡ RefusedPart.Form
-by_frame false b c d fault e = is_form NotACaptureFile fault e refl
-by_frame true false c d fault e = is_form BadByteOrderMagic fault e refl
-by_frame true true false d fault e = is_form BadBlockLength fault e refl
-by_frame true true true false fault e = is_form TooLong fault e refl
-by_frame true true true true fault e = absurd (cc)
+by_frame a b c d fault h1 = grind (arith, is_form)
 
 pub frame_refused : (before : Option Section) (section : Option Order) (text front : List ℕ) (fault : Fault) → order_before before ≡ section
     → 12 ≤ length text → front ≡ take 12 text
@@ -59,15 +54,13 @@ frame_refused before section text front fault is enough same exact =
 -- what is declared, by the state of the file
 pub by_state : (r : Reader) (t : List Interface) (f : FileState) → reader_form r ≡ f → declared_in r t ≡ declared_by f
     (first_interfaces (most_known r (length t)) t)
-by_state r t f is = ap (λ g. declared_by g (first_interfaces (most_known r (length t)) t)) is
+by_state r t f is = grind arith
 
 -- the unit that is skipped, by the part that is refused
 pub past_is : (capture : List ℕ) (r : Reader) (t : List Interface) (f : FileState) (fault : Fault) (part : RefusedPart) → reader_form r ≡ f
     → front_of (declared_in r t) (drop r.offset capture) ≡ NoUnit (Some fault) → part ≡ refused_part fault
     → past_at capture r t ≡ past_by (declared_by f (first_interfaces (most_known r (length t)) t)) (drop r.offset capture) part
-past_is capture r t f fault part is refused same =
-    ap (past_front (declared_in r t) (drop r.offset capture)) refused ∙ ap (λ d. past_by d (drop r.offset capture) (refused_part fault)) (by_state r t f is)
-    ∙ ap (past_by (declared_by f (first_interfaces (most_known r (length t)) t)) (drop r.offset capture)) (sym same)
+past_is capture r t f fault part is refused same = grind (arith, by_state)
 
 pub kept : (capture : List ℕ) (r : Reader) (t : List Interface) (fault : Fault) → front_of (declared_in r t) (drop r.offset capture) ≡ NoUnit
     (Some fault) → past_at capture r t ≡ None
@@ -84,16 +77,10 @@ moved capture r r' t f' count unit (Skip.Not found) past declares some fits uppe
     subst (λ w. SkipLeaves capture r r' t t (Skip.Not w)) (sym m.1) (is_cut unit past m.0 m.2 refl)
 
 pub not_header : (bytes : List ℕ) (part : RefusedPart) → ¬ part ≡ RefusedPart.LinkType → past_by Nothing bytes part ≡ None
-not_header bytes RefusedPart.Time other = refl
-not_header bytes RefusedPart.LinkType other = absurd (other refl)
-not_header bytes RefusedPart.Options other = refl
-not_header bytes RefusedPart.Form other = refl
+not_header bytes part h1 = grind arith
 
 pub not_record : (head : Head) (bytes : List ℕ) (part : RefusedPart) → ¬ part ≡ RefusedPart.Time → past_by (PcapFile head) bytes part ≡ None
-not_record head bytes RefusedPart.Time other = absurd (other refl)
-not_record head bytes RefusedPart.LinkType other = refl
-not_record head bytes RefusedPart.Options other = refl
-not_record head bytes RefusedPart.Form other = refl
+not_record head bytes part h1 = grind arith
 
 -- ---- interfaces
 
@@ -101,44 +88,31 @@ described_count : (n : ℕ) (t : List Interface) → n ≤ length t → length (
 described_count n t fits = length-map (take n t) _ ∙ length-take-le n t fits
 
 pub one_more : (n : ℕ) (t : List Interface) (i : Described) → n ≤ length t → length (first_interfaces n t ++ i ∷ []) ≡ n + 1
-one_more n t i fits = length-append (first_interfaces n t) (i ∷ []) ∙ ap (λ m. m + 1) (described_count n t fits)
+one_more n t i fits = grind (arith, length-append, described_count)
 
 -- a description block is skipped if its section has room; otherwise it isn't
 pub past_description : (first : Option ℕ) (section : Section) (size link snap : ℕ) (order : Order) (options : List ℕ) → length section.interfaces < 256
     → past_interface first section size (InterfaceParts link snap order options) ≡ Some
     (record { size = size; declared = with_interface first section (unread_interface link snap) })
-past_description first section size link snap order options fits =
-    let e : nat_lt (length section.interfaces) 256 ≡ true = grind (arith, nat_tests) in
-    ap (λ b. if b then Some (record { size = size; declared = with_interface first section (unread_interface link snap) }) else None) e
+past_description first section size link snap order options fits = grind (arith, nat_tests)
 
 pub no_description : (first : Option ℕ) (section : Section) (size : ℕ) (parts : Parts) → 256 ≤ length section.interfaces
     → past_interface first section size parts ≡ None
-no_description first section size SectionParts full = refl
-no_description first section size (InterfaceParts link snap order options) full =
-    let e : nat_lt (length section.interfaces) 256 ≡ false = grind (arith, nat_tests) in
-    ap (λ b. if b then Some (record { size = size; declared = with_interface first section (unread_interface link snap) }) else None) e
-no_description first section size (EnhancedParts number ticks captured orig order rest) full = refl
-no_description first section size (SimpleParts orig rest) full = refl
-no_description first section size SkippedParts full = refl
+no_description first section size parts h1 = grind (arith, nat_tests)
 
 -- ---- a block that is refused
 
 without_fault : (why : Option Fault) (size : ℕ) (packets : List Captured) (d : Declared) (fault : Fault) → unit_unless why (Whole size packets d) ≡
     NoUnit (Some fault) → why ≡ Some fault
-without_fault None size packets d fault e = absurd (cc)
-without_fault (Some f) size packets d fault e = (cc)
+without_fault why size packets d fault h1 = grind arith
 
 unit_of_front : (first : Option ℕ) (section : Section) (text : List ℕ) (fault : Fault) → front_of (PcapngFile first section) text ≡ NoUnit
     (Some fault) → unit_fault (Some section) text ≡ Some fault
-unit_of_front first section [] fault e = absurd (cc)
-unit_of_front first section (b ∷ bytes) fault e = without_fault (unit_fault (Some section) (b ∷ bytes)) _ _ _ fault e
+unit_of_front first section text fault h1 = grind (arith, without_fault)
 
 not_block : (first : Option ℕ) (section : Section) (bytes : List ℕ) (part : RefusedPart) → ¬ part ≡ RefusedPart.Time → ¬ part ≡ RefusedPart.Options
     → past_by (PcapngFile first section) bytes part ≡ None
-not_block first section bytes RefusedPart.Time time options = absurd (time refl)
-not_block first section bytes RefusedPart.LinkType time options = refl
-not_block first section bytes RefusedPart.Options time options = absurd (options refl)
-not_block first section bytes RefusedPart.Form time options = refl
+not_block first section bytes part h1 h2 = grind arith
 
 module _ (capture : List ℕ) (r : Reader) (t : List Interface) (order : Order) (first : Option ℕ) (fault : Fault)
     (state : reader_form r ≡ form.Pcapng order first) (refused : front_of (declared_in r t) (drop r.offset capture) ≡ NoUnit (Some fault))
@@ -203,20 +177,16 @@ module _ (capture : List ℕ) (r : Reader) (t : List Interface) (order : Order) 
 -- ---- what is found of a unit, in a table of just the interfaces that are known
 
 with_room : (room n : ℕ) (found : Found) → n ≤ room → (if nat_lt room n then Found.NoRoom else found) ≡ found
-with_room room n found fits = let e : nat_lt room n ≡ false = grind (arith, nat_tests) in ap (λ b. if b then Found.NoRoom else found) e
+with_room room n found fits = grind (arith, nat_tests)
 
 without_room : (room n : ℕ) (found : Found) → room < n → (if nat_lt room n then Found.NoRoom else found) ≡ Found.NoRoom
-without_room room n found short = let e : nat_lt room n ≡ true = grind (arith, nat_tests) in ap (λ b. if b then Found.NoRoom else found) e
+without_room room n found short = grind (arith, nat_tests)
 
 most_count : (f : FileState) (interfaces : List Described) → interface_count (declared_by f interfaces) ≤ length interfaces
-most_count form.Unknown interfaces = omega arith
-most_count (form.Pcap head) interfaces = omega arith
-most_count (form.Pcapng order first) interfaces = omega arith
+most_count f interfaces = grind arith
 
 counts_those : (f : FileState) (r : Reader) (room count : ℕ) → Counts f r room count → Counts f r count count
-counts_those form.Unknown r room count counts = tt
-counts_those (form.Pcap head) r room count counts = omega (arith, counts)
-counts_those (form.Pcapng order first) r room count counts = omega (arith, counts)
+counts_those f r room count h1 = grind arith
 
 -- what the reader knows of the table
 module _ (r : Reader) (t : List Interface) (f : FileState) (count : ℕ) (is : f ≡ reader_form r) (counts : Counts f r (length t) count)
@@ -244,12 +214,7 @@ module _ (r : Reader) (t : List Interface) (f : FileState) (count : ℕ) (is : f
 in_more_room : (lacks : Bool) (n room count : ℕ) (what found : Found) → nat_lt n count ≡ lacks
     → what ≡ (if nat_lt n count then Found.NoRoom else found) → n ≤ room → (what ≡ Found.NoRoom → n ≡ room)
     → what ≡ (if nat_lt room count then Found.NoRoom else found)
-in_more_room true n room count what found lacks says fits full =
-    let none : what ≡ Found.NoRoom = says ∙ ap (λ b. if b then Found.NoRoom else found) lacks in
-    subst (λ m. what ≡ (if nat_lt m count then Found.NoRoom else found)) (full none) says
-in_more_room false n room count what found lacks says fits full =
-    let enough : count ≤ n = grind (arith, nat_tests) in
-    says ∙ with_room n count found enough ∙ sym (with_room room count found (omega arith))
+in_more_room lacks n room count what found h1 h2 h3 h4 = grind (arith, nat_tests, with_room)
 
 -- nothing is gone past where a text begins with a sound unit or nothing
 found_front : (capture : List ℕ) (r : Reader) (t t' : List Interface) (n : ℕ) (front : Front) (what : Found) → front_of (declared_in r t)
@@ -266,23 +231,15 @@ found_front capture r t t' n (Whole size packets d) what is says fits full sound
 -- ---- laws
 
 known_fit : (r : Reader) (t : List Interface) → interface_count (declared_in r t) ≤ length t
-known_fit r t =
-    let known = most_known r (length t) in
-    let most = most_count (reader_form r) (first_interfaces known t) in
-    let count : length (first_interfaces known t) ≡ known = described_count known t (omega arith) in
-    omega (arith, most, count)
+known_fit r t = grind (arith, most_count, described_count)
 
 pub found_is : (capture : List ℕ) (r r' : Reader) (t t' : List Interface) (p p' : Packet) (what : Found) → length t' ≡ length t
     → NextLeaves capture r r' t t' p p' what → what ≡ found_at capture r t
-found_is capture r r' t t' p p' what same (passes size front after kept) =
-    sym (ap (found_in_front (length t)) front ∙ with_room (length t) (interface_count (declared_in r' t')) Found.Unit (omega (arith, known_fit r' t', same)))
-found_is capture r r' t t' p p' what same (finds size q front after is) =
-    sym (ap (found_in_front (length t)) front ∙ with_room (length t) (interface_count (declared_in r' t')) Found.Packet (omega (arith, known_fit r' t', same)))
-found_is capture r r' t t' p p' what same (ends front kept) = sym (ap (found_in_front (length t)) front)
-found_is capture r r' t t' p p' what same (fails fault front kept) = sym (ap (found_in_front (length t)) front)
-found_is capture r r' t t' p p' what same (is_full interfaces most one kept) =
-    let more : length one.section.interfaces ≡ length interfaces + 1 = ap length one.more ∙ length-append interfaces (one.interface ∷ []) in
-    sym (ap (found_in_front (length t)) one.front ∙ without_room (length t) (length one.section.interfaces) Found.Unit (omega (arith, more, most)))
+found_is capture r r' t t' p p' what same (passes size front after kept) = grind (arith, with_room, known_fit)
+found_is capture r r' t t' p p' what same (finds size q front after is) = grind (arith, with_room, known_fit)
+found_is capture r r' t t' p p' what same (ends front kept) = grind arith
+found_is capture r r' t t' p p' what same (fails fault front kept) = grind arith
+found_is capture r r' t t' p p' what same (is_full interfaces most one kept) = grind (arith, length-append, without_room)
 
 -- ---- a unit that was read on copies
 
@@ -297,34 +254,24 @@ found capture r r' t s s' t' p p' what known long leaves fits full sound same =
 -- an interface that a table with more room has room for
 pub room_left : (capture : List ℕ) (r r' : Reader) (t s s' t' : List Interface) (p p' : Packet) (what : Found) → declared_in r s ≡ declared_in r t
     → NextLeaves capture r r' s s' p p' what → what ≡ Found.NoRoom → length s < length t → t' ≡ t → SkipLeaves capture r r t t' (Skip.Not Found.Unit)
-room_left capture r r' t s s' t' p p' what known (passes size front after kept) e more same = absurd (cc)
-room_left capture r r' t s s' t' p p' what known (finds size q front after is) e more same = absurd (cc)
-room_left capture r r' t s s' t' p p' what known (ends front kept) e more same = absurd (cc)
-room_left capture r r' t s s' t' p p' what known (fails fault front kept) e more same = absurd (cc)
-room_left capture r r' t s s' t' p p' what known (is_full interfaces most one kept) e more same =
-    let count : length one.section.interfaces ≡ length interfaces + 1 = ap length one.more ∙ length-append interfaces (one.interface ∷ []) in
-    found_front capture r t t' (length t) (Whole one.size [] (PcapngFile one.first one.section)) Found.Unit
-    (ap (λ d. front_of d (drop r.offset capture)) (sym known) ∙ one.front)
-    (sym (with_room (length t) (length one.section.interfaces) Found.Unit (omega (arith, count, most, more)))) (omega arith) (λ none. refl)
-    (λ fault is. (cc)) same
+room_left capture r r' t s s' t' p p' what known (passes size front after kept) e more same = grind arith
+room_left capture r r' t s s' t' p p' what known (finds size q front after is) e more same = grind arith
+room_left capture r r' t s s' t' p p' what known (ends front kept) e more same = grind arith
+room_left capture r r' t s s' t' p p' what known (fails fault front kept) e more same = grind arith
+room_left capture r r' t s s' t' p p' what known (is_full interfaces most one kept) e more same = grind (arith, length-append, found_front, with_room)
 
 -- the fault that the call found
 pub refused_alike : (capture : List ℕ) (r r' : Reader) (t s s' : List Interface) (p p' : Packet) (what : Found) (fault : Fault)
     → declared_in r s ≡ declared_in r t → NextLeaves capture r r' s s' p p' what → what ≡ Found.Fault fault
     → front_of (declared_in r t) (drop r.offset capture) ≡ NoUnit (Some fault)
-refused_alike capture r r' t s s' p p' what fault known (passes size front after kept) e = absurd (cc)
-refused_alike capture r r' t s s' p p' what fault known (finds size q front after is) e = absurd (cc)
-refused_alike capture r r' t s s' p p' what fault known (ends front kept) e = absurd (cc)
-refused_alike capture r r' t s s' p p' what fault known (fails why front kept) e =
-    let same : why ≡ fault = (cc) in
-    ap (λ d. front_of d (drop r.offset capture)) (sym known) ∙ front ∙ ap (λ f. NoUnit (Some f)) same
-refused_alike capture r r' t s s' p p' what fault known (is_full interfaces most one kept) e = absurd (cc)
+refused_alike capture r r' t s s' p p' what fault known (passes size front after kept) e = grind arith
+refused_alike capture r r' t s s' p p' what fault known (finds size q front after is) e = grind arith
+refused_alike capture r r' t s s' p p' what fault known (ends front kept) e = grind arith
+refused_alike capture r r' t s s' p p' what fault known (fails why front kept) e = grind arith
+refused_alike capture r r' t s s' p p' what fault known (is_full interfaces most one kept) e = grind arith
 
 too_late : (n m : ℕ) → 2 ^ 63 ≤ m → nat_lt (n + m) (2 ^ 63) ≡ false
 too_late n m least = grind (arith, nat_tests)
 
 pub no_time : (ticks : ℕ) → representable_time ticks microseconds (pos offset_of_no_time) ≡ None
-no_time ticks =
-    let late : nat_lt (ticks * NANOS_PER_SECOND / microseconds + offset_of_no_time * NANOS_PER_SECOND) (2 ^ 63) ≡ false =
-    too_late (ticks * NANOS_PER_SECOND / microseconds) (offset_of_no_time * NANOS_PER_SECOND) (omega arith) in
-    ap (λ b. if b then Some (ticks * NANOS_PER_SECOND / microseconds + offset_of_no_time * NANOS_PER_SECOND) else None) late
+no_time ticks = grind (arith, too_late)

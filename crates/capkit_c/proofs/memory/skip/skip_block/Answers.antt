@@ -59,8 +59,4 @@ returns-in-Time c =
     c.go_past.result past (rw value refl) (omega (arith, least)) c.known_interfaces-count.ensures.fits c.known_interfaces-count.ensures.bounds c.go_past.ensures
 
 pub returns-in_default-refused_part : goal.returns-in_default-refused_part
-returns-in_default-refused_part c =
-    kept c.args.capture.now c.args.reader.now c.args.table.now c.args.fault c.requires.refused
-    (past_other c.args.capture.now c.args.reader.now c.args.table.now c.args.order c.args.first c.args.fault c.requires.form c.requires.refused
-    c.bytes_from-text.result.now c.bytes_from-text.ensures c.refused_part.result c.refused_part.ensures c.in_default-refused_part.not-Time
-    c.in_default-refused_part.not-Options)
+returns-in_default-refused_part c = grind (arith, kept, past_other)

@@ -25,8 +25,4 @@ returns-else-text-lt-FILE_HEADER c =
     c.go_past.result past (ap PcapFile (sym head)) (omega arith) (omega arith) (omega arith) c.go_past.ensures
 
 pub returns-in_default : goal.returns-in_default
-returns-in_default c =
-    kept c.args.capture.now c.args.reader.now c.args.table.now c.args.fault c.requires.refused
-    (past_is c.args.capture.now c.args.reader.now c.args.table.now form.Unknown c.args.fault c.refused_part.result c.requires.form c.requires.refused
-    c.refused_part.ensures
-    ∙ not_header (drop c.args.reader.now.offset c.args.capture.now) c.refused_part.result c.in_default.not-LinkType)
+returns-in_default c = grind (arith, kept, past_is, not_header)

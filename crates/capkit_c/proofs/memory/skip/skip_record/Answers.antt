@@ -22,8 +22,4 @@ returns-else-text c =
     size c.go_past.ensures)
 
 pub returns-in_default : goal.returns-in_default
-returns-in_default c =
-    kept c.args.capture.now c.args.reader.now c.args.table.now c.args.fault c.requires.refused
-    (past_is c.args.capture.now c.args.reader.now c.args.table.now (form.Pcap c.args.head.now) c.args.fault c.refused_part.result c.requires.form
-    c.requires.refused c.refused_part.ensures
-    ∙ not_record c.args.head.now (drop c.args.reader.now.offset c.args.capture.now) c.refused_part.result c.in_default.not-Time)
+returns-in_default c = grind (arith, kept, past_is, not_record)

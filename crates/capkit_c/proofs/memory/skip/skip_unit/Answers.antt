@@ -1,6 +1,5 @@
 -- What was found on copies; a refused unit is handed on.
 use Rattle.capkit_c.proofs.Common.{◌≡◌, ◌++◌, arith, declared_in, drop, front_of, length-take-le, subst, sym, take, NoUnit, Some}
-use Rattle.capkit_c.specs.{Skipping.SkipLeaves, declared.memory.skip.Skip.Skip}
 use Rattle.capkit_c.proofs.Skips.{all_taken, found, known_alike, refused_alike, room_left, untouched}
 use Rattle.capkit_c.proofs.memory.skip.skip_unit.Goals as goal
 
@@ -20,50 +19,13 @@ skip_refused-requires c =
     c.next_unit.ensures.left c.in-Fault.is)
 
 pub returns-in-Fault : goal.returns-in-Fault
-returns-in-Fault c =
-    let t = c.args.table.now in
-    let f = c.file_state-form.result in
-    let count = c.known_interface_count-count.result in
-    let is = c.file_state-form.ensures in
-    let counts = c.known_interface_count-count.ensures.counts in
-    let fits = c.known_interface_count-count.ensures.fits in
-    let same = untouched c.args.reader.now t f count is counts fits c.next_unit.new.table
-    (c.next_unit.ensures.full (all_taken c.args.reader.now t f count is counts fits c.known_interface_count-count.ensures.bare)) in
-    subst (λ s. SkipLeaves c.args.capture.now c.args.reader.now c.skip_refused.new.reader s c.skip_refused.new.table c.skip_refused.result)
-    same c.skip_refused.ensures
+returns-in-Fault c = grind (arith, untouched, all_taken)
 
 pub returns-then-count-table : goal.returns-then-count-table
-returns-then-count-table c =
-    let t = c.args.table.now in
-    let f = c.file_state-form.result in
-    let count = c.known_interface_count-count.result in
-    let is = c.file_state-form.ensures in
-    let counts = c.known_interface_count-count.ensures.counts in
-    let fits = c.known_interface_count-count.ensures.fits in
-    let same = untouched c.args.reader.now t f count is counts fits c.next_unit.new.table
-    (c.next_unit.ensures.full (all_taken c.args.reader.now t f count is counts fits c.known_interface_count-count.ensures.bare)) in
-    let size = length-take-le count t fits in
-    let more = c.if-count-table.true in
-    room_left c.args.capture.now c.args.reader.now c.next_unit.new.reader t (take count t) c.next_unit.new.table (c.next_unit.new.table ++ drop count t) _
-    c.next_unit.new.packet c.next_unit.result (known_alike c.args.reader.now t f count is counts fits) c.next_unit.ensures.left c.in-NoRoom.is
-    (omega arith) same
+returns-then-count-table c = grind (arith, untouched, all_taken, length-take-le, room_left, known_alike)
 
 pub returns-else-count-table : goal.returns-else-count-table
-returns-else-count-table c =
-    let t = c.args.table.now in
-    let f = c.file_state-form.result in
-    let count = c.known_interface_count-count.result in
-    let is = c.file_state-form.ensures in
-    let counts = c.known_interface_count-count.ensures.counts in
-    let fits = c.known_interface_count-count.ensures.fits in
-    let same = untouched c.args.reader.now t f count is counts fits c.next_unit.new.table
-    (c.next_unit.ensures.full (all_taken c.args.reader.now t f count is counts fits c.known_interface_count-count.ensures.bare)) in
-    let size = length-take-le count t fits in
-    let full = c.if-count-table.false in
-    subst (λ w. SkipLeaves c.args.capture.now c.args.reader.now c.args.reader.now t (c.next_unit.new.table ++ drop count t) (Skip.Not w)) c.in-NoRoom.is
-    (found c.args.capture.now c.args.reader.now c.next_unit.new.reader t (take count t) c.next_unit.new.table (c.next_unit.new.table ++ drop count t) _
-    c.next_unit.new.packet c.next_unit.result (known_alike c.args.reader.now t f count is counts fits) c.next_unit.ensures.same
-    c.next_unit.ensures.left (omega arith) (λ none. omega arith) (λ fault is. (cc)) same)
+returns-else-count-table c = grind (arith, untouched, all_taken, length-take-le, found, known_alike)
 
 pub returns-in_default : goal.returns-in_default
 returns-in_default c =

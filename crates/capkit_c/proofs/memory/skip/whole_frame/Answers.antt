@@ -1,5 +1,5 @@
 -- The first 12 bytes determine the frame, or the form is refused.
-use Rattle.std.proofs.Common.{◌≡◌, List, Option, Some, arith, refl, subst, sym, ℕ}
+use Rattle.std.proofs.Common.{◌≡◌, List, Option, Some, arith, refl, ℕ}
 use Rattle.cap_octet.specs.declared.{fault.Fault.TheVariants.Truncated, number.Order.Order}
 use Rattle.cap_io.proofs.{BlocksCame.FrontSays, FirstUnits.block_cut, FirstUnits.framed}
 use Rattle.cap_pcapng.specs.declared.frames.Frame.{Frame}
@@ -9,7 +9,7 @@ use Rattle.capkit_c.proofs.memory.skip.whole_frame.Goals as goal
 -- the same for a section before the block
 says : (order : Option Order) (section : Option Order) (text : List ℕ) (frame : Frame) → order ≡ section → FrontSays section text frame
     → FrontSays order text frame
-says order section text frame is said = subst (λ o. FrontSays o text frame) (sym is) said
+says order section text frame is said = grind arith
 
 pub returns-in-Err : goal.returns-in-Err
 returns-in-Err c =
