@@ -1,15 +1,13 @@
 -- What is known holds of the packet and of the registers.
-use Rattle.flt_short.proofs.Common.{◌≡◌, ℕ, zero, suc, ◌+◌, ◌≤◌, List, [], ◌∷◌, length, true, false, Option, Some, sym, ◌∙◌, subst, arith, ◌⊎◌, inl, inr, ◌==◌}
-use Rattle.flt_short.proofs.Common.{if◌then◌else◌, slice_set, nat_tests, State, Operation, Insn, Next, Goes, does, goes_on_or_rejects, compute, Field, Held}
-use Rattle.flt_short.proofs.Common.{IndexValue, Known, same_index, same_load, same_field, claims_nothing, allows, Implies, JoinsClaims, same_held, common_index}
-use Rattle.flt_short.proofs.Common.{holds_field, known_after, masked_held, loaded, masked, value_of, IsThere, is_said, Says, HeldHolds, IndexHolds, Holds}
-use Rattle.flt_short.proofs.Common.{LearnsEqual, Learns, Test, JumpIf, Constant, bit_and, not, Bool, JoinsBy, JoinsFact, JoinsFacts, Arrives}
-use Rattle.std.proofs.Common.{◌<◌, All, get_or, take}
-use Rattle.std.proofs.lemmas.List.{take_more_set, take_all}
+use Rattle.std.proofs.{Common.◌<◌, Common.All, Common.get_or, Common.take, lemmas.List.take_more_set, lemmas.List.take_all}
 use Rattle.std.proofs.lemmas.List.Elements.{All-set, All-push}
 use Rattle.flt_bpf.specs.{Instructions.operation_of, Machine.field, declared.operation.AluOperation.AluOperation}
-use Rattle.flt_short.specs.declared.facts.Claim.{Claim}
-use Rattle.flt_short.specs.declared.facts.Fact.{Fact}
+use Rattle.flt_short.proofs.Common.{◌≡◌, ℕ, zero, suc, ◌+◌, ◌≤◌, List, [], ◌∷◌, length, true, false, Option, Some, sym, ◌∙◌, subst, arith, ◌⊎◌, inl, inr, ◌==◌}
+use Rattle.flt_short.proofs.Common.{if◌then◌else◌, slice_set, nat_tests, State, Operation, Insn, Next, Goes, does, goes_on_or_rejects, compute, Field, Held}
+use Rattle.flt_short.proofs.Common.{IndexValue, Known, same_index, same_load, same_field, claims_nothing, allows, Implies, same_held, common_index, holds_field}
+use Rattle.flt_short.proofs.Common.{known_after, masked_held, loaded, masked, value_of, IsThere, is_said, Says, HeldHolds, IndexHolds, Holds, LearnsEqual}
+use Rattle.flt_short.proofs.Common.{Learns, Test, JumpIf, Constant, bit_and, not, Bool, JoinsBy, JoinsFact, JoinsFacts, Arrives}
+use Rattle.flt_short.specs.declared.facts.{Claim.Claim, Fact.Fact}
 use Rattle.flt_short.specs.declared.facts.Held.TheVariants as held
 
 -- claims
@@ -39,7 +37,7 @@ implied c d o i h = grind arith
 
 -- facts where two ways meet
 pub joined_one : (x : Fact) (ys : List Fact) (k : ℕ) (d : Fact) (claim : Claim) → k < length ys → same_field x.field (get_or ys k d).field ≡ true
-    → JoinsClaims x.claim (get_or ys k d).claim claim → JoinsFact x ys (record { field = x.field; claim = claim })
+    → Implies x.claim claim × Implies (get_or ys k d).claim claim → JoinsFact x ys (record { field = x.field; claim = claim })
 joined_one x ys k d claim l same joins p n (inl h) = implied x.claim claim (value_of p n x.field) joins.0 h
 joined_one x ys k d claim l same joins p n (inr h) = grind (arith, implied, joins, same_value)
 

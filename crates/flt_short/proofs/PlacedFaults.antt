@@ -1,13 +1,11 @@
 -- Code without a fault is laid out as code without one.
-use Rattle.flt_short.proofs.Common.{◌≡◌, ℕ, ◌-◌, ◌<◌, ◌≤◌, List, [], ◌∷◌, length, true, Option, Some, refl, arith, nat_tests, Insn, Operation, Jump}
-use Rattle.flt_short.proofs.Common.{JumpIf, PlacedCode, with_offsets, with_test_by, with_insn, placed_code, laid_out, Bool, ap, ◌∙◌, with_jump, with_way}
-use Rattle.flt_short.proofs.Common.{◌&&◌, nat_lt, None, Test, Operand, ends_in_return, Load, Compute, Memory, unless, fault_if_known, is_return}
-use Rattle.flt_short.proofs.Common.{IsFaultless, IsValidUnlessLong, Constant}
-use Rattle.flt_bpf.specs.{Check.fault_of, Instructions.operation_of}
-use Rattle.flt_bpf.specs.declared.fault.CheckFault.TheVariants.{JumpOut}
-use Rattle.flt_short.specs.inside.Layout.{with_test}
-use Rattle.flt_short.proofs.PlacedSizes.{at_least}
-use Rattle.flt_short.proofs.Placed.{Lays, emitted_more, lays, near, test_leads, way_more}
+use Rattle.flt_bpf.{proofs.Suffix.valid_if_short, specs.Check.fault_of, specs.Instructions.operation_of, specs.declared.fault.CheckFault.TheVariants.JumpOut}
+use Rattle.flt_short.proofs.Common.{◌≡◌, ℕ, ◌<◌, ◌≤◌, List, [], ◌∷◌, length, true, Option, Some, refl, arith, nat_tests, Insn, Operation, Jump, JumpIf}
+use Rattle.flt_short.proofs.Common.{PlacedCode, with_offsets, with_test_by, with_insn, placed_code, laid_out, Bool, ap, ◌∙◌, with_jump, with_way, ◌&&◌, nat_lt}
+use Rattle.flt_short.proofs.Common.{None, Test, Operand, ends_in_return, Load, Compute, Memory, unless, fault_if_known, is_return, IsFaultless}
+use Rattle.flt_short.{proofs.Common.IsValidUnlessLong, proofs.Common.Constant, specs.inside.Layout.with_test}
+use Rattle.flt_short.proofs.PlacedSizes.{at_least, at_most, laid_needed, short_stays}
+use Rattle.flt_short.proofs.Placed.{same_answers, Lays, emitted_more, lays, near, test_leads, way_more}
 
 jump_sound : (to : ℕ) (c : List Insn) → 0 < to → to ≤ length c → IsFaultless c → IsFaultless (with_jump to c)
 unfolding fault_of operation_of
@@ -71,3 +69,6 @@ ends_laid (i ∷ j ∷ is) e =
 
 pub sound_laid : (wide : List Insn) → IsValidUnlessLong wide → IsValidUnlessLong (laid_out wide)
 sound_laid wide h = record { faultless = faultless_laid wide h.faultless; ends = ends_laid wide h.ends }
+
+-- what holds of wide code that is laid out
+pub ruleset laid = (same_answers, at_least, at_most, laid_needed, short_stays, sound_laid, valid_if_short)

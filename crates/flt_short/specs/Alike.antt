@@ -1,10 +1,8 @@
 -- How the instructions of a program replace those of another one that does the same with as many of
 -- them or more.
 use Rattle.std.specs.Prelude.{◌≡◌, ℕ, ◌≤◌, List, length, count_by}
-use Rattle.flt_bpf.specs.Instructions.{operation_of}
-use Rattle.flt_bpf.specs.Layout.{is_branch, HasNoJump, JumpsAreNeeded}
-use Rattle.flt_bpf.specs.Machine.{machine, Answered}
-use Rattle.flt_bpf.specs.Valid.{IsValid}
+use Rattle.flt_bpf.specs.{Instructions.operation_of, Machine.machine, Machine.Answered}
+use Rattle.flt_bpf.specs.{Layout.is_branch, Layout.HasNoJump, Layout.JumpsAreNeeded, Valid.IsValid}
 use Rattle.flt_bpf.specs.declared.insn.Insn.{Insn}
 
 -- on a packet `p` of original length n a run of a program reaches this answer in at most `most`

@@ -1,10 +1,7 @@
 -- What is kept of code once the targets of its tests are others: what it does, and more.
 use Rattle.std.specs.Prelude.{◌≡◌, ℕ, List, length, count_by}
-use Rattle.flt_bpf.specs.Answer.{answer_of}
-use Rattle.flt_bpf.specs.Check.{IsValidUnlessLong}
-use Rattle.flt_bpf.specs.Instructions.{operation_of}
-use Rattle.flt_bpf.specs.Layout.{is_branch, HasNoJump}
-use Rattle.flt_bpf.specs.Machine.{start}
+use Rattle.flt_bpf.specs.{Answer.answer_of, Check.IsValidUnlessLong, Instructions.operation_of}
+use Rattle.flt_bpf.specs.{Layout.is_branch, Layout.HasNoJump, Machine.start}
 use Rattle.flt_bpf.specs.declared.insn.Insn.{Insn}
 
 -- code instead of old code: it has as many instructions and tests, it returns the same on each

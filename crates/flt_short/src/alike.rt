@@ -10,17 +10,17 @@
 //! Most clauses cite definitions that mirror the code, with the same names or without `is_`; the
 //! contract of `replaces` states what follows from them (`Shortens`).
 
-ghost use Rattle.std.specs.Prelude.{◌≡◌, ◌≢◌, ◌+◌, ◌-◌, ◌%◌, ◌==◌, ◌&&◌, length, IsTrue, All};
-ghost use Rattle.std.specs.Prelude.{true, false, None, count_by};
-ghost use Rattle.flt_bpf.specs.{Layout.JUMP, Layout.is_branch, Instructions.operation_of};
-ghost use Rattle.flt_bpf.specs.inside.Flow.{goes_on_or_rejects};
+ghost use Rattle.std.specs.Prelude.{◌≡◌, ◌+◌, ◌-◌, ◌==◌, ◌&&◌, length, IsTrue, true};
+ghost use Rattle.std.specs.Prelude.{None, count_by};
+ghost use Rattle.flt_bpf.specs.Layout.{HasNoJump, is_branch};
+ghost use Rattle.flt_bpf.specs.{Instructions.operation_of, inside.Flow.goes_on_or_rejects};
 ghost use Rattle.flt_bpf.specs.Check.{fault_of, ends_in_return, IsFaultless};
 ghost use Rattle.flt_short.specs.inside.Alike.{goes_on, same_step, is_masked_test, one_test};
-ghost use Rattle.flt_short.specs.inside.Alike.{rejects, is_sure, code_from, are_copies};
+ghost use Rattle.flt_short.specs.inside.Alike.{rejects, is_sure, code_from, are_copies, lands_at};
+ghost use Rattle.flt_short.specs.inside.Alike.{left_out, stands, are_alike};
 ghost use Rattle.flt_short.specs.Alike.{Shortens};
-ghost use Rattle.flt_short.specs.inside.Alike.{lands_at, left_out, stands, are_alike};
 
-use flt_bpf::operation::{AluOperation, Operand, Operation, Register, Source, Test, decode};
+use flt_bpf::operation::{AluOperation, Operand, Operation, Source, Test, decode};
 use flt_bpf::{
     WORDS, Wide, constant_fault, is_return, reads_accumulator, reads_index, sets_accumulator,
     sets_index,
@@ -32,11 +32,9 @@ use flt_bpf::{
 pub struct Landing {
     /// The number of instructions from there to the end of the new program; 0 is nowhere.
     pub place: usize,
-    /// Whether A may be read from there on before it is set, so that A must be the same in both
-    /// programs there.
+    /// Whether A may be read from there on before it is set, so must be the same in both programs.
     pub accumulator: bool,
-    /// Whether X may be read from there on before it is set, so that X must be the same in both
-    /// programs there.
+    /// Whether X may be read from there on before it is set, so must be the same in both programs.
     pub index: bool,
 }
 
@@ -89,15 +87,13 @@ fn lands_at(
 ) -> bool
     ensures { result ≡ lands_at code.now following.now way place accumulator index }
 {
-    match following.get(way) {
-        None => false,
-        Some(landing) => {
-            (landing.place > 0
-                && (landing.place == place
-                    || are_copies(code_from(code, landing.place), code_from(code, place))))
-                && ((!landing.accumulator || accumulator) && (!landing.index || index))
-        }
-    }
+    let Some(landing) = following.get(way) else {
+        return false;
+    };
+    (landing.place > 0
+        && (landing.place == place
+            || are_copies(code_from(code, landing.place), code_from(code, place))))
+        && ((!landing.accumulator || accumulator) && (!landing.index || index))
 }
 
 /// The place where an instruction at `place` leads that skips this number of others; nowhere if
@@ -140,24 +136,16 @@ fn goes_on(
 /// Rule 1: the instruction of the new program is that of the old one, perhaps with other offsets.
 /// The registers that it reads are the same in both programs, and both go on the same way.
 #[tactic(auto, unfolding(crate::specs::inside::Alike::same_step))]
-fn is_same_step(
-    code: &[Wide],
-    new: Wide,
-    landing: Landing,
-    old: Wide,
-    following: &[Landing],
-) -> bool
+fn same_step(code: &[Wide], new: Wide, landing: Landing, old: Wide, following: &[Landing]) -> bool
     ensures { result ≡ same_step code.now (operation_of old.code) new landing old following.now }
 {
-    match decode(old.code) {
-        None => false,
-        Some(operation) => {
-            (old.code == new.code && old.k == new.k)
-                && ((!reads_accumulator(operation) || landing.accumulator)
-                    && (!reads_index(operation) || landing.index))
-                && goes_on(code, operation, new, landing, old, following)
-        }
-    }
+    let Some(operation) = decode(old.code) else {
+        return false;
+    };
+    (old.code == new.code && old.k == new.k)
+        && ((!reads_accumulator(operation) || landing.accumulator)
+            && (!reads_index(operation) || landing.index))
+        && goes_on(code, operation, new, landing, old, following)
 }
 
 /// Whether two instructions are a mask of A, and a test whether the result is 0.
@@ -183,20 +171,18 @@ fn is_one_test(
 ) -> bool
     ensures { result ≡ one_test code.now new landing old after.now following.now }
 {
-    match after {
-        [] => false,
-        [test, ..] => {
-            let (zero, other) = (1 + test.yes as usize, 1 + test.no as usize);
-            let place = landing.place;
-            let (yes, no) = (place_past(place, new.yes), place_past(place, new.no));
-            (is_masked_test(old, *test)
-                && (new.code == Operation::JumpIf(Test::AnyBit, Operand::Constant).code()
-                    && old.k == new.k))
-                && (landing.accumulator
-                    && (lands_at(code, following, zero, no, false, landing.index)
-                        && lands_at(code, following, other, yes, false, landing.index)))
-        }
-    }
+    let [test, ..] = after else {
+        return false;
+    };
+    let (zero, other) = (1 + test.yes as usize, 1 + test.no as usize);
+    let place = landing.place;
+    let (yes, no) = (place_past(place, new.yes), place_past(place, new.no));
+    (is_masked_test(old, *test)
+        && (new.code == Operation::JumpIf(Test::AnyBit, Operand::Constant).code()
+            && old.k == new.k))
+        && (landing.accumulator
+            && (lands_at(code, following, zero, no, false, landing.index)
+                && lands_at(code, following, other, yes, false, landing.index)))
 }
 
 /// Whether an instruction returns the number 0, and so rejects the packet.
@@ -229,12 +215,10 @@ pub fn is_sure(operation: Operation) -> bool
 pub fn goes_on_or_rejects(operation: Operation) -> bool
     ensures { result ≡ goes_on_or_rejects operation }
 {
+    use Operation::{Jump, JumpIf, ReturnAccumulator, ReturnConstant};
     !matches!(
         operation,
-        Operation::Jump
-            | Operation::JumpIf(_, _)
-            | Operation::ReturnConstant
-            | Operation::ReturnAccumulator
+        Jump | JumpIf(_, _) | ReturnConstant | ReturnAccumulator
     )
 }
 
@@ -277,7 +261,7 @@ fn stands(code: &[Wide], landing: Landing, old: Wide, after: &[Wide], following:
         return false;
     };
     landing.place <= code.len()
-        && ((is_same_step(code, *new, landing, old, following)
+        && ((same_step(code, *new, landing, old, following)
             || is_one_test(code, *new, landing, old, after, following))
             || is_left_out(code, *new, landing, old, following))
 }
@@ -316,12 +300,13 @@ fn is_faultless(insn: Wide, following: usize) -> bool
     }
 }
 
-/// Whether no instruction of the code breaks a rule.
+/// Whether no instruction of the code is a jump (`ja` has the code 5), or breaks a rule.
 fn are_faultless(code: &[Wide]) -> bool
-    ensures { IsTrue result → IsFaultless code.now }
+    ensures { IsTrue result → IsFaultless code.now × HasNoJump code.now }
 {
     for at in (0..code.len()).rev() {
-        if !is_faultless(code[at], code.len() - 1 - at) {
+        let insn = code[at];
+        if insn.code == 5 || !is_faultless(insn, code.len() - 1 - at) {
             return false;
         }
     }
@@ -329,15 +314,11 @@ fn are_faultless(code: &[Wide]) -> bool
 }
 
 /// Whether the last instruction is a return.
+#[tactic(auto, using(flt_bpf::proofs::Checking::ends_as))]
 fn ends_in_return(code: &[Wide]) -> bool
     ensures { IsTrue result → ends_in_return code.now ≡ true }
 {
-    let len = code.len();
-    if len == 0 {
-        return false;
-    }
-    let last = code[len - 1];
-    is_return(last.code)
+    matches!(code.last(), Some(last) if is_return(last.code))
 }
 
 /// Whether an instruction is a test, which the definition calls a branch.
@@ -351,25 +332,7 @@ pub fn is_test(insn: &Wide) -> bool
 pub fn count_tests(code: &[Wide]) -> usize
     ensures { result ≡ count_by (λ i. is_branch (operation_of i.code)) code.now }
 {
-    let mut count = 0;
-    for insn in code {
-        if is_test(insn) {
-            count += 1;
-        }
-    }
-    count
-}
-
-/// Whether no instruction of the code is a jump (`ja` has the code 5).
-fn has_no_jump(code: &[Wide]) -> bool
-    ensures { IsTrue result → All (λ i. i.code ≢ JUMP) code.now }
-{
-    for insn in code {
-        if insn.code == 5 {
-            return false;
-        }
-    }
-    true
+    code.iter().filter(|insn| is_test(insn)).count()
 }
 
 /// Whether a program is proved to replace an old one: its landings show that it does the same, it
@@ -387,8 +350,5 @@ pub fn replaces(code: &[Wide], old: &[Wide], landings: &[Landing]) -> bool
     if first.place == 0 || first.place != code.len() || !are_alike(code, old, landings) {
         return false;
     }
-    if count_tests(code) > count_tests(old) || !has_no_jump(code) {
-        return false;
-    }
-    are_faultless(code) && ends_in_return(code)
+    count_tests(code) <= count_tests(old) && are_faultless(code) && ends_in_return(code)
 }

@@ -6,16 +6,14 @@
 //!
 //! `code` and `k` are those of a load: together they say which bytes of the packet it takes.
 
-ghost use Rattle.std.specs.Prelude.{◌≡◌, ◌<◌, IsTrue, IfSome, List, ℕ};
-ghost use Rattle.flt_short.specs.declared.facts.IndexValue.{IndexValue};
+ghost use Rattle.std.specs.Prelude.{◌≡◌, ◌<◌, ◌==◌, true, Some, IsTrue, IfSome, List, All, ℕ};
 ghost use Rattle.flt_bpf.specs.{Instructions.operation_of, declared.machine.State.State};
-ghost use Rattle.flt_short.specs.inside.Facts.{same_optional, same_index, same_load, same_field};
-ghost use Rattle.flt_short.specs.inside.Facts.{claims_nothing, allows, load_of, held_at, if_small};
-ghost use Rattle.flt_short.specs.inside.Facts.{Implies, JoinsClaims, same_held, IsOutcome};
-ghost use Rattle.flt_short.specs.inside.Facts.{IsOther, holds_field, masked_held, held_after};
-ghost use Rattle.flt_short.specs.inside.Facts.{known_after, Holds, IsThere, HoldsAt};
-ghost use Rattle.flt_short.specs.inside.Facts.{JoinsFact, JoinsFacts, JoinsBy, IsClaimAbout};
-ghost use Rattle.flt_short.specs.inside.Facts.{IsClaimAfter, AddsFact, LearnsEqual, Learns, Arrives};
+ghost use Rattle.flt_short.specs.inside.Facts.{same_index, same_load, same_field, claims_nothing};
+ghost use Rattle.flt_short.specs.inside.Facts.{allows, load_of, Implies, same_held, holds_field};
+ghost use Rattle.flt_short.specs.inside.Facts.{masked_held, held_after, known_after, Says};
+ghost use Rattle.flt_short.specs.inside.Facts.{value_of, is_said, Holds, IsThere, HoldsAt};
+ghost use Rattle.flt_short.specs.inside.Facts.{JoinsFact, JoinsFacts, JoinsBy, LearnsEqual, Learns};
+ghost use Rattle.flt_short.specs.{inside.Facts.Arrives, declared.facts.IndexValue.IndexValue};
 
 use flt_bpf::Wide;
 use flt_bpf::operation::{AluOperation, Operand, Operation, Register, Source, Test, decode};
@@ -46,8 +44,7 @@ pub struct Field {
     pub mask: Option<u32>,
 }
 
-/// A claim about a number: nothing, that it is this one, that it isn't, or that it is one of these
-/// two.
+/// A claim about a number: nothing, that it is this one, that it isn't, or that it is one of two.
 #[derive(Clone, Copy)]
 pub enum Claim {
     Nothing,
@@ -114,13 +111,6 @@ pub fn unreached() -> Known {
     }
 }
 
-/// Whether two masks are the same or both missing.
-fn same_optional(one: Option<u32>, other: Option<u32>) -> bool
-    ensures { result ≡ same_optional one other }
-{
-    one == other
-}
-
 /// Whether the same is known of X in two states.
 pub fn same_index(one: IndexValue, other: IndexValue) -> bool
     ensures { result ≡ same_index one other }
@@ -144,7 +134,7 @@ fn same_load(one: &Field, other: &Field) -> bool
 pub fn same_field(one: &Field, other: &Field) -> bool
     ensures { result ≡ same_field one.now other.now }
 {
-    same_load(one, other) && same_optional(one.mask, other.mask)
+    same_load(one, other) && one.mask == other.mask
 }
 
 /// Whether a claim is `Nothing`.
@@ -184,15 +174,11 @@ fn entails(claim: Claim, other: Claim) -> bool
 /// The join of two claims, of which one holds: the weaker of the two, that the number is one of two
 /// numbers, or nothing.
 fn joined_claim(claim: Claim, other: Claim) -> Claim
-    ensures { JoinsClaims claim other result }
+    ensures { Implies claim result × Implies other result }
 {
-    if entails(claim, other) {
-        return other;
-    }
-    if entails(other, claim) {
-        return claim;
-    }
     match (claim, other) {
+        _ if entails(claim, other) => other,
+        _ if entails(other, claim) => claim,
         (Claim::Is(one), Claim::Is(other)) => Claim::IsOneOf(one, other),
         _ => Claim::Nothing,
     }
@@ -229,8 +215,7 @@ fn join_facts(facts: &mut [Fact], others: &[Fact])
     }
 }
 
-/// Whether two values of A are the same value of the packet. Nothing is known of two that are
-/// `Unknown`.
+/// Whether two values of A are the same value of the packet. Of two `Unknown` nothing is known.
 pub fn same_held(one: &Held, other: &Held) -> bool
     ensures { result ≡ same_held one.now other.now }
 {
@@ -264,7 +249,7 @@ fn join(known: &mut Known, came: &Known)
 /// The outcome of the test whether a number is this one, by a claim about it; `None` if the claim
 /// doesn't decide it.
 pub fn outcome_by_claim(claim: Claim, number: u32) -> Option<bool>
-    ensures { IfSome result (λ outcome. IsOutcome claim number outcome) }
+    ensures { IfSome result (λ outcome. (n : ℕ) → allows claim n ≡ true → (n == number) ≡ outcome) }
 {
     match claim {
         Claim::Is(one) => Some(one == number),
@@ -275,17 +260,15 @@ pub fn outcome_by_claim(claim: Claim, number: u32) -> Option<bool>
 
 /// Whether a claim says something of whether a number is this one.
 fn speaks_of(claim: Claim, number: u32) -> bool {
-    match claim {
-        Claim::Nothing => false,
-        Claim::IsNot(one) => one == number,
-        _ => true,
-    }
+    !matches!(claim, Claim::Nothing) && !matches!(claim, Claim::IsNot(one) if one != number)
 }
 
 /// The claim of the first fact that says something of whether a field is this number; `Nothing` if
 /// no fact does.
+#[tactic(auto, using(crate::proofs::Knowing::claimed))]
 pub fn claim_about(facts: &[Fact], field: &Field, number: u32) -> Claim
-    ensures { IsClaimAbout facts.now field.now result }
+    ensures { (p : List ℕ) (n v : ℕ) → All (Says p n) facts.now
+        → value_of p n field.now ≡ Some v → allows result v ≡ true }
 {
     for fact in facts {
         if same_field(&fact.field, field) && speaks_of(fact.claim, number) {
@@ -293,17 +276,6 @@ pub fn claim_about(facts: &[Fact], field: &Field, number: u32) -> Claim
         }
     }
     Claim::Nothing
-}
-
-/// The other one of two numbers, if the claim is that a number is one of them, and this is one.
-fn other_by_claim(claim: Claim, number: u32) -> Option<u32>
-    ensures { IfSome result (λ other. IsOther claim number other) }
-{
-    match claim {
-        Claim::IsOneOf(one, other) if number == one => Some(other),
-        Claim::IsOneOf(one, other) if number == other => Some(one),
-        _ => None,
-    }
 }
 
 /// Whether a new fact may take the place of an old one without loss: the old one claims nothing, or
@@ -328,7 +300,8 @@ fn place_for(facts: &[Fact; MOST_FACTS], fact: &Fact) -> usize
 
 /// Adds a fact, in the place of the first one that it replaces without loss, or else of the last.
 fn add_fact(known: &mut Known, field: Field, claim: Claim)
-    ensures { AddsFact known.old field claim known.new }
+    ensures { (p : List ℕ) (n : ℕ) (s : State) → Holds p n known.old s
+        → is_said claim (value_of p n field) ≡ true → Holds p n known.new s }
 {
     let fact = Fact { field, claim };
     let at = place_for(&known.facts, &fact);
@@ -344,6 +317,7 @@ fn holds_field(held: &Held, load: &Field) -> bool
 
 /// Whether the bytes that a load takes are captured, by what A holds or by a fact: any claim of
 /// their number says so.
+#[tactic(auto, using(crate::proofs::Knowing::field_there, crate::proofs::Knowing::there_by))]
 pub fn is_captured(known: &Known, load: &Field) -> bool
     ensures { IsTrue result → (p : List ℕ) (n : ℕ) (s : State)
         → Holds p n known.now s → IsThere p n load.now }
@@ -369,29 +343,6 @@ pub fn masked_held(held: Held, mask: u32) -> Held
             ..field
         }),
         _ => Held::Unknown,
-    }
-}
-
-/// What X holds after the load of the length of the header at a byte; nothing that is known from
-/// byte 256 on, so that a place has one byte.
-fn index_of_header(at: u32) -> IndexValue
-    ensures { result ≡ if_small at (IndexValue.HeaderLength at) }
-{
-    if at < 256 {
-        IndexValue::HeaderLength(at as u8)
-    } else {
-        IndexValue::Unknown
-    }
-}
-
-/// What X holds after the load of a number; nothing that is known from 256 on, as for headers.
-fn index_of_number(number: u32) -> IndexValue
-    ensures { result ≡ if_small number (IndexValue.Number number) }
-{
-    if number < 256 {
-        IndexValue::Number(number as u8)
-    } else {
-        IndexValue::Unknown
     }
 }
 
@@ -421,16 +372,6 @@ pub fn load_of(insn: Wide, index: IndexValue) -> Field
     }
 }
 
-/// The value of A after a load at X.
-fn held_at(index: IndexValue, insn: Wide) -> Held
-    ensures { result ≡ held_at index insn }
-{
-    match index {
-        IndexValue::Unknown => Held::AtIndex(insn.code, insn.k),
-        _ => Held::Field(load_of(insn, index)),
-    }
-}
-
 /// The value of A after an instruction, by the values of A and X before. It is known after a load
 /// of the packet or of its length, and after a mask of a field. A test keeps it; after all others
 /// it is `Unknown`.
@@ -440,7 +381,10 @@ pub fn held_after(held: &Held, index: IndexValue, insn: Wide) -> Held
     match decode(insn.code) {
         Some(Operation::LoadAbsolute(_) | Operation::Load(Register::Accumulator, Source::Length)) =>
             Held::Field(load_of(insn, IndexValue::Unknown)),
-        Some(Operation::LoadIndirect(_)) => held_at(index, insn),
+        Some(Operation::LoadIndirect(_)) => match index {
+            IndexValue::Unknown => Held::AtIndex(insn.code, insn.k),
+            _ => Held::Field(load_of(insn, index)),
+        },
         Some(Operation::Compute(AluOperation::And, Operand::Constant)) => {
             masked_held(*held, insn.k)
         }
@@ -450,15 +394,18 @@ pub fn held_after(held: &Held, index: IndexValue, insn: Wide) -> Held
 }
 
 /// Changes the state before an instruction that isn't a test to the one after it. Facts are about
-/// the packet, so they stay.
+/// the packet, so they stay. What X holds is known only if a byte has room for it.
 pub fn pass_insn(known: &mut Known, insn: Wide)
     ensures { known.new ≡ known_after (operation_of insn.code) known.old insn }
 {
     let index = known.index;
     known.held = held_after(&known.held, index, insn);
     known.index = match decode(insn.code) {
-        Some(Operation::LoadHeaderLength) => index_of_header(insn.k),
-        Some(Operation::Load(Register::Index, Source::Immediate)) => index_of_number(insn.k),
+        Some(Operation::LoadHeaderLength) if insn.k < 256 => IndexValue::HeaderLength(insn.k as u8),
+        Some(Operation::Load(Register::Index, Source::Immediate)) if insn.k < 256 => {
+            IndexValue::Number(insn.k as u8)
+        }
+        Some(Operation::LoadHeaderLength) => IndexValue::Unknown,
         Some(Operation::Load(Register::Index, _) | Operation::CopyToIndex) => IndexValue::Unknown,
         _ => index,
     };
@@ -468,14 +415,16 @@ pub fn pass_insn(known: &mut Known, insn: Wide)
 /// known to be one of two numbers, and isn't this one, it is the other one.
 #[tactic(auto, using(crate::proofs::Knowing::same_number))]
 fn claim_by_outcome(facts: &[Fact], field: &Field, number: u32, outcome: bool) -> Claim
-    ensures { IsClaimAfter facts.now field.now number outcome result }
+    ensures { (p : List ℕ) (n v : ℕ) → All (Says p n) facts.now → value_of p n field.now ≡ Some v
+        → (v == number) ≡ outcome → allows result v ≡ true }
 {
     if outcome {
         return Claim::Is(number);
     }
-    match other_by_claim(claim_about(facts, field, number), number) {
-        Some(other) => Claim::Is(other),
-        None => Claim::IsNot(number),
+    match claim_about(facts, field, number) {
+        Claim::IsOneOf(one, other) if number == one => Claim::Is(other),
+        Claim::IsOneOf(one, other) if number == other => Claim::Is(one),
+        _ => Claim::IsNot(number),
     }
 }
 
@@ -511,14 +460,13 @@ pub fn learn(known: &mut Known, insn: Wide, outcome: bool)
 /// threading them allocates no memory.
 pub const FEW: usize = 16;
 
-/// The state at a place; if there is none, `nothing`, a state in which nothing is known.
-pub fn known_at<'a>(seen: &'a [Known], place: usize, nothing: &'a Known) -> &'a Known
-    ensures { (p : List ℕ) (n : ℕ) (s : State)
-        → HoldsAt p n seen.now place s → Holds p n nothing.now s → Holds p n result.now s }
+/// The state at a place; if there is none, nothing is known.
+pub fn known_at(seen: &[Known], place: usize) -> Known
+    ensures { (p : List ℕ) (n : ℕ) (s : State) → HoldsAt p n seen.now place s → Holds p n result s }
 {
     match seen.get(place) {
-        Some(known) => known,
-        None => nothing,
+        Some(known) => *known,
+        None => nothing_known(),
     }
 }
 

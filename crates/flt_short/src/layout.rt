@@ -2,7 +2,7 @@
 //! are placed before the test. The instructions placed so far are always a whole end of the code;
 //! each function here puts more in front of them.
 
-ghost use Rattle.std.specs.Prelude.{◌≡◌, ◌+◌, ◌-◌, ◌*◌, ◌^◌, ◌<◌, ◌≤◌, ℕ, List, [], length, IfOk};
+ghost use Rattle.std.specs.Prelude.{◌≡◌, ◌+◌, ◌-◌, ◌*◌, ◌^◌, ◌<◌, ◌≤◌, ℕ, List, length, IfOk};
 ghost use Rattle.std.specs.Prelude.{OnOk, count_by};
 ghost use Rattle.flt_bpf.specs.{Machine.start, Answer.answer_of, Check.IsValidUnlessLong};
 ghost use Rattle.flt_bpf.specs.{Instructions.operation_of, Valid.MOST_INSTRUCTIONS, Valid.IsValid};
@@ -119,10 +119,8 @@ impl<A: Allocator> Layout<A> {
     fn emit(&mut self, insn: Insn) -> Result<(), AllocError>
         ensures { OnOk result (self.new ≡ emitted insn self.old) }
     {
-        match self.backwards.push(insn) {
-            Ok(()) => Ok(()),
-            Err(_) => Err(AllocError),
-        }
+        self.backwards.push(insn)?;
+        Ok(())
     }
 
     /// Puts in front a jump (`ja`) to a place, and notes it.
@@ -143,9 +141,9 @@ impl<A: Allocator> Layout<A> {
         Ok(())
     }
 
-    /// The target of a test that is put in front and leads to `to`: `to` if that is near, else one of
-    /// the last jumps that is near and leads there. If there is none it is `to` too, for which the
-    /// test needs a jump of its own.
+    /// The target of a test that is put in front and leads to `to`: `to` if that is near, else one
+    /// of the last jumps that is near and leads there. If there is none it is `to` too, for which
+    /// the test needs a jump of its own.
     #[tactic(auto, unfolding(crate::specs::inside::Layout::near_place))]
     fn near_place(&self, to: usize) -> usize
         ensures { result ≡ near_place self.now to }
@@ -179,11 +177,7 @@ impl<A: Allocator> Layout<A> {
         requires { length self.old.code + 3 < 2 ^ 32 }
         ensures { OnOk result (self.new ≡ with_test insn yes no self.old) }
     {
-        let most = if self.distance(yes) <= MOST_OFFSET {
-            MOST_OFFSET
-        } else {
-            MOST_OFFSET - 1
-        };
+        let most = MOST_OFFSET - usize::from(self.distance(yes) > MOST_OFFSET);
         let no = self.reach(no, most)?;
         let yes = self.reach(yes, MOST_OFFSET)?;
         let (jt, jf) = (self.distance(yes), self.distance(no));
@@ -247,6 +241,7 @@ impl<A: Allocator + Clone> Layout<A> {
 /// except that on the length: it may have grown.
 ///
 /// An error is a failed allocation, or an allocator that cannot be cloned.
+#[tactic(auto, using(crate::proofs::PlacedFaults::laid))]
 pub fn laid_out<A: Allocator + Clone>(alloc: A, wide: &[Wide]) -> Result<Vec<Insn, A>, AllocError>
     requires { length wide.now < 2 ^ 30 }
     ensures answers { IfOk result (λ code. (p : List ℕ) (n : ℕ)

@@ -17,7 +17,7 @@ ghost use Rattle.flt_short.specs.Alike.{Shortens};
 use crate::alike::{
     Landing, goes_on_or_rejects, is_masked_test, is_rejection, is_sure, is_test, replaces,
 };
-use flt_bpf::operation::{AluOperation, Operand, Operation, Register, Source, Test, decode};
+use flt_bpf::operation::{Operand, Operation, Test, decode};
 use flt_bpf::{Wide, is_return, reads_accumulator, reads_index, sets_accumulator, sets_index};
 use std::alloc::{AllocError, Allocator};
 
@@ -67,11 +67,6 @@ fn ends_block(insn: Wide) -> bool {
     is_test(&insn) || is_return(insn.code)
 }
 
-/// Whether an instruction is a mask of A with a constant.
-fn is_mask(insn: Wide) -> bool {
-    insn.code == Operation::Compute(AluOperation::And, Operand::Constant).code()
-}
-
 /// The test with these offsets instead of its own. One that exceeds 32 bits leads elsewhere, and
 /// then the new code isn't taken.
 fn with_offsets(insn: Wide, yes: usize, no: usize) -> Wide {
@@ -85,10 +80,8 @@ fn with_offsets(insn: Wide, yes: usize, no: usize) -> Wide {
 /// The number of entries in the table of tests for code of a length: a power of two, greater than
 /// the number of tests in the code.
 fn table_len(len: usize) -> usize {
-    len.saturating_add(1)
-        .max(16)
-        .checked_next_power_of_two()
-        .unwrap_or(16)
+    let least = len.saturating_add(1).max(16);
+    least.checked_next_power_of_two().unwrap_or(16)
 }
 
 /// The entry of the table at which the search for a test with these targets begins, modulo the
@@ -200,9 +193,6 @@ impl Shortening<'_> {
     /// or if both outcomes land at the same place.
     fn bits_test_at(&self, at: usize) -> Option<Wide> {
         let mask = self.old_insn(at);
-        if !is_mask(mask) {
-            return None;
-        }
         let test = self.old_insn(index_after(at, 0));
         if !is_masked_test(mask, test) {
             return None;
@@ -344,12 +334,9 @@ impl Shortening<'_> {
     /// the copy.
     fn emit_plain(&mut self, at: usize, insn: Wide, next: usize) {
         let landing = self.landing_at(next);
-        let Some(operation) = decode(insn.code) else {
+        let (Some(operation), true) = (decode(insn.code), landing.place > 0) else {
             return;
         };
-        if landing.place == 0 {
-            return;
-        }
         if self.is_left_out(operation, landing) {
             self.land(at, landing);
             return;
@@ -410,8 +397,7 @@ fn leave_out_front(landings: &mut [Landing], len: usize) -> usize {
     entry
 }
 
-/// The shorter code, made in the space `backwards`; `None` if it doesn't replace the old code
-/// `insns`.
+/// The shorter code, made in the space `backwards`; `None` if it doesn't replace `insns`.
 fn replacement<A: Allocator>(
     insns: &[Wide],
     landings: &mut [Landing],

@@ -4,20 +4,19 @@
 //! A walk starts at each target of a test, with the state (`Known`) after that outcome. It passes
 //! instructions whose effect follows from this state, and ends at the next place at which a run may
 //! continue instead of at its start. At a test whose outcome isn't known it goes on after both
-//! outcomes; if both lead to the same place, it ends there. The next walk starts at its end; the end
-//! of the last one is the new target.
+//! outcomes; if both lead to the same place, it ends there. The next walk starts at its end; the
+//! end of the last one is the new target.
 //!
 //! In a walk a place is an index of the code that follows the test. Clauses state that what is
 //! known stays true and that a run has the same answer. The contract of `threaded` follows.
 
-ghost use Rattle.std.specs.Prelude.{IfOk, ◌≡◌, ◌<◌, ◌≤◌, ◌^◌, length, IfSome, IsTrue, List, ℕ};
+ghost use Rattle.std.specs.Prelude.{IfOk, ◌≡◌, ◌<◌, ◌^◌, IfSome, Some};
 ghost use Rattle.flt_bpf.specs.Instructions.{operation_of};
 ghost use Rattle.flt_bpf.specs.declared.operation.Operand.TheVariants.{Constant};
 ghost use Rattle.flt_bpf.specs.declared.operation.Operation.TheVariants.{JumpIf};
 ghost use Rattle.flt_bpf.specs.declared.operation.Test.TheVariants.{Equal};
-ghost use Rattle.flt_short.specs.Threads.{Threads};
 ghost use Rattle.flt_short.specs.inside.Threads.{IsDecided, Passes, is_free, LeadsTo, GoesOn};
-ghost use Rattle.flt_short.specs.inside.Threads.{Moves, IsThreaded};
+ghost use Rattle.flt_short.specs.{Threads.Threads, inside.Threads.Moves, inside.Threads.IsThreaded};
 
 use crate::alike::{goes_on_or_rejects, is_test};
 use crate::facts::{
@@ -185,45 +184,25 @@ fn walk(fuel: usize, known: &Known, code: &[Wide], spot: &Spot, best: usize, for
     if yes == no { yes } else { best }
 }
 
-/// Whether a run may reach a place by another path than the one that is threaded, since a state was
-/// joined there. Past the end of `seen` it may.
-fn is_reached(seen: &[Known], place: usize) -> bool {
-    match seen.get(place) {
-        Some(known) => !matches!(known.held, Held::Unreached),
-        None => true,
-    }
-}
-
-/// Whether the instruction at a place is a return. A walk from there would stay there.
-fn is_return_at(code: &[Wide], place: usize) -> bool {
-    match code.get(place) {
-        Some(insn) => is_return(insn.code),
-        None => false,
-    }
-}
-
 /// The end of a chain of walks: each begins at the end of the one before it, and the last one stays
-/// at its beginning. If there are more than `WALKS`, it is the last of their ends that another path
-/// reaches too, since that code is kept anyway. If there is none, the chain goes on while some are
-/// `left` of the walks that all targets share.
+/// at its beginning, as at a return. If there are more than `WALKS`, it is the last of their ends
+/// that another path may reach too, since that code is kept anyway. If there is none, the chain
+/// goes on while some are `left` of the walks that all targets share.
 fn last_place(known: &Known, code: &[Wide], from: usize, seen: &[Known], left: &mut usize) -> usize
     ensures { GoesOn known.now code.now from result }
 {
     let (mut place, mut reached) = (from, from);
     for turn in 0..code.len() {
-        if is_return_at(code, place) {
+        if matches!(code.get(place), Some(insn) if is_return(insn.code)) {
             return place;
         }
-        let spot = Spot {
-            place,
-            held: known.held,
-        };
-        let next = walk(FUEL, known, code, &spot, place, true);
+        let held = known.held;
+        let next = walk(FUEL, known, code, &Spot { place, held }, place, true);
         if next == place {
             return place;
         }
         place = next;
-        if is_reached(seen, place) {
+        if !matches!(seen.get(place), Some(known) if matches!(known.held, Held::Unreached)) {
             reached = place;
         }
         if turn >= WALKS {
@@ -241,19 +220,13 @@ fn last_place(known: &Known, code: &[Wide], from: usize, seen: &[Known], left: &
 
 /// The threaded offset of a test whose old one is `skipped`; it is `skipped` if the new one exceeds
 /// 32 bits or leads out of the code.
-fn threaded_offset(
-    known: &Known,
-    following: &[Wide],
-    skipped: u32,
-    seen: &[Known],
-    left: &mut usize,
-) -> u32
-    ensures { Moves known.now following.now skipped result }
+fn new_offset(known: &Known, code: &[Wide], skipped: u32, seen: &[Known], left: &mut usize) -> u32
+    ensures { Moves known.now code.now skipped result }
 {
-    let place = last_place(known, following, skipped as usize, seen, left);
+    let place = last_place(known, code, skipped as usize, seen, left);
     // An expression's code is too short for an error: its places fit 32 bits.
     match u32::try_from(place) {
-        Ok(target) if place < following.len() => target,
+        Ok(target) if place < code.len() => target,
         _ => skipped,
     }
 }
@@ -292,8 +265,8 @@ fn thread_insn(
             let ahead = seen.get(from..).unwrap_or(&[]);
             let insn = Wide {
                 code: insn.code,
-                yes: threaded_offset(&yes, following, insn.yes, ahead, left),
-                no: threaded_offset(here, following, insn.no, ahead, left),
+                yes: new_offset(&yes, following, insn.yes, ahead, left),
+                no: new_offset(here, following, insn.no, ahead, left),
                 k: insn.k,
             };
             arrive(seen, from + insn.yes as usize, &yes);
@@ -314,11 +287,10 @@ fn thread_insn(
 fn thread_all(seen: &mut [Known], insns: &mut [Wide])
     ensures { Threads insns.new insns.old }
 {
-    let nothing = nothing_known();
-    arrive(seen, 0, &nothing);
+    arrive(seen, 0, &nothing_known());
     let mut left = SHARED_WALKS.saturating_mul(insns.len());
     for at in 0..insns.len() {
-        let mut here = *known_at(seen, at, &nothing);
+        let mut here = known_at(seen, at);
         let old = insns[at];
         let insn = thread_insn(seen, at + 1, &mut here, old, &insns[at + 1..], &mut left);
         insns[at] = insn;
@@ -327,15 +299,11 @@ fn thread_all(seen: &mut [Known], insns: &mut [Wide])
 
 /// Whether an instruction loads bytes of the packet, its length, or the length of a header.
 fn is_load(insn: Wide) -> bool {
-    matches!(
-        decode(insn.code),
-        Some(
-            Operation::LoadAbsolute(_)
-                | Operation::LoadIndirect(_)
-                | Operation::Load(_, Source::Length)
-                | Operation::LoadHeaderLength
-        )
-    )
+    match decode(insn.code) {
+        Some(Operation::LoadAbsolute(_) | Operation::LoadIndirect(_)) => true,
+        Some(Operation::Load(_, Source::Length) | Operation::LoadHeaderLength) => true,
+        _ => false,
+    }
 }
 
 /// Whether a load occurs twice. Otherwise threading seldom changes anything. No clause is needed: a
@@ -343,12 +311,10 @@ fn is_load(insn: Wide) -> bool {
 fn repeats_a_load(insns: &[Wide]) -> bool {
     for at in 0..insns.len() {
         let (load, next) = (insns[at], at + 1);
-        if is_load(load) {
-            for other in &insns[next..] {
-                if other.code == load.code && other.k == load.k {
-                    return true;
-                }
-            }
+        let (code, k) = (load.code, load.k);
+        let repeats = |other: &Wide| other.code == code && other.k == k;
+        if is_load(load) && insns[next..].iter().any(repeats) {
+            return true;
         }
     }
     false

@@ -2,32 +2,23 @@
 -- (`Known`) at a place, when it is true, and what the functions of `facts.rt` keep of that. `code`
 -- and `k` are those of a load. Together, with what X holds at a load at X, they identify its value:
 -- bytes of the packet, or its length. Elsewhere `k` is a state. `i` is an instruction.
-use Rattle.std.specs.Option.{option_map}
-use Rattle.std.specs.Prelude.{◌≡◌, ℕ, nat_lt, ◌+◌, ◌%◌, ◌^◌, ◌==◌, not, Bool, true, false, if◌then◌else◌, ◌&&◌, ◌||◌, ◌⊎◌, List, All, Option, Some, None, IfSome, slice_get, bit_and}
-use Rattle.flt_bpf.specs.Instructions.{operation_of}
+use Rattle.std.specs.Prelude.{◌≡◌, ℕ, nat_lt, ◌+◌, ◌%◌, ◌^◌, ◌==◌, not, Bool, true, false}
+use Rattle.std.specs.Prelude.{if◌then◌else◌, ◌&&◌, ◌||◌, ◌⊎◌, List, All, Option, Some, None, IfSome}
+use Rattle.std.specs.{Option.option_map, Option.option_eq, Prelude.slice_get, Prelude.bit_and}
+use Rattle.flt_bpf.specs.declared.operation.Operation.TheVariants.{LoadAbsolute, LoadIndirect, Load}
+use Rattle.flt_bpf.specs.declared.operation.Operation.TheVariants.{LoadHeaderLength, Compute}
+use Rattle.flt_bpf.specs.{Instructions.operation_of, declared.insn.Insn.Insn}
 use Rattle.flt_bpf.specs.Machine.{field, header_length, test_holds, operand_value}
-use Rattle.flt_bpf.specs.declared.{insn.Insn.Insn, machine.State.State}
-use Rattle.flt_bpf.specs.declared.operation.AluOperation.TheVariants.{And}
-use Rattle.flt_bpf.specs.declared.operation.{Operand.Operand, Operand.TheVariants.Constant}
-use Rattle.flt_bpf.specs.declared.operation.Operation.{Operation}
-use Rattle.flt_bpf.specs.declared.operation.Operation.TheVariants.{LoadAbsolute, LoadIndirect, Load, LoadHeaderLength, Compute, JumpIf, CopyToIndex}
+use Rattle.flt_bpf.specs.declared.{machine.State.State, operation.AluOperation.TheVariants.And}
+use Rattle.flt_bpf.specs.declared.operation.Operand.{Operand, TheVariants.Constant}
+use Rattle.flt_bpf.specs.declared.operation.{Operation.Operation, Test.Test, Width.Width}
+use Rattle.flt_bpf.specs.declared.operation.Operation.TheVariants.{JumpIf, CopyToIndex}
 use Rattle.flt_bpf.specs.declared.operation.Register.TheVariants.{Accumulator, Index}
 use Rattle.flt_bpf.specs.declared.operation.Source.TheVariants.{Immediate, Length}
-use Rattle.flt_bpf.specs.declared.operation.Test.{Test}
-use Rattle.flt_bpf.specs.declared.operation.Width.{Width, TheVariants.Byte}
-use Rattle.flt_short.specs.declared.facts.Claim.{Claim}
+use Rattle.flt_bpf.specs.declared.operation.Width.TheVariants.{Byte}
+use Rattle.flt_short.specs.declared.facts.{Claim.Claim, Fact.Fact, Field.Field, Held.Held}
 use Rattle.flt_short.specs.declared.facts.Claim.TheVariants.{Nothing, Is, IsNot, IsOneOf}
-use Rattle.flt_short.specs.declared.facts.Fact.{Fact}
-use Rattle.flt_short.specs.declared.facts.Field.{Field}
-use Rattle.flt_short.specs.declared.facts.Held.{Held}
-use Rattle.flt_short.specs.declared.facts.IndexValue.{IndexValue}
-use Rattle.flt_short.specs.declared.facts.Known.{Known}
-
--- whether two masks are the same or both missing
-abbrev pub same_optional : Option ℕ → Option ℕ → Bool
-same_optional None None = true
-same_optional (Some a) (Some b) = a == b
-same_optional _ _ = false
+use Rattle.flt_short.specs.declared.facts.{IndexValue.IndexValue, Known.Known}
 
 -- whether the same is known of X in two states
 abbrev pub same_index : IndexValue → IndexValue → Bool
@@ -42,7 +33,7 @@ same_load f g = (f.code == g.code && f.k == g.k) && same_index f.index g.index
 
 -- whether two fields are the same: values of the same load, with the same mask or both without one
 abbrev pub same_field : Field → Field → Bool
-same_field f g = same_load f g && same_optional f.mask g.mask
+same_field f g = same_load f g && option_eq ◌==◌ f.mask g.mask
 
 -- whether a claim is `Nothing`
 abbrev pub claims_nothing : Claim → Bool
@@ -62,10 +53,6 @@ Implies c d =
     ((n : ℕ) → allows c n ≡ true → allows d n ≡ true)
     × (claims_nothing c ≡ true → claims_nothing d ≡ true)
 
--- the claim e is true of each number of which c or d is; and so of one that isn't captured
-abbrev pub JoinsClaims : Claim → Claim → Claim → Type 0
-JoinsClaims c d e = Implies c e × Implies d e
-
 -- whether two values of A are the same value of the packet; nothing is known of two that are
 -- `Unknown`
 abbrev pub same_held : Held → Held → Bool
@@ -77,27 +64,15 @@ same_held _ _ = false
 abbrev pub common_index : IndexValue → IndexValue → IndexValue
 common_index a b = if same_index a b then a else IndexValue.Unknown
 
--- the test whether a number is n has this outcome, if the claim is true of the number
-abbrev pub IsOutcome : Claim → ℕ → Bool → Type 0
-IsOutcome c n outcome = (number : ℕ) → allows c number ≡ true → (number == n) ≡ outcome
-
--- a number of which the claim is true is this other one, if it isn't n
-abbrev pub IsOther : Claim → ℕ → ℕ → Type 0
-IsOther c n other = (number : ℕ) → allows c number ≡ true → (number == n) ≡ false → number ≡ other
-
 -- whether A holds the field of a load, perhaps masked, so that its bytes are captured
 abbrev pub holds_field : Held → Field → Bool
 holds_field (Held.Field f) load = same_load f load
 holds_field _ load = false
 
--- the value of A after a mask m of the field f, which has this mask or none
-abbrev pub masked_by : Option ℕ → Field → ℕ → Held
-masked_by None f m = Held.Field (record f { mask = Some m })
-masked_by (Some old) f m = Held.Unknown
-
 -- the value of A after a mask, by the value before; it is `Unknown` after two masks
 abbrev pub masked_held : Held → ℕ → Held
-masked_held (Held.Field f) m = masked_by f.mask f m
+masked_held (Held.Field f) m =
+    elim f.mask [ None ↦ Held.Field (record f { mask = Some m }) | Some old ↦ Held.Unknown ]
 masked_held _ m = Held.Unknown
 
 -- what an instruction loads if it is a load, while X holds x
@@ -223,21 +198,6 @@ JoinsBy h k came new =
     (new.held ≡ (if same_held h came.held then h else Held.Unknown))
     × (new.index ≡ common_index k.index came.index)
     × JoinsFacts k.facts came.facts new.facts
-
--- the claim is true of each field for which all facts are
-abbrev pub IsClaimAbout : List Fact → Field → Claim → Type 0
-IsClaimAbout xs f c = (p : List ℕ) (n number : ℕ)
-    → All (Says p n) xs → value_of p n f ≡ Some number → allows c number ≡ true
-
--- the claim is true after the test whether a field is a number had this outcome
-abbrev pub IsClaimAfter : List Fact → Field → ℕ → Bool → Claim → Type 0
-IsClaimAfter xs f number outcome c = (p : List ℕ) (n v : ℕ)
-    → All (Says p n) xs → value_of p n f ≡ Some v → (v == number) ≡ outcome → allows c v ≡ true
-
--- `new` is true where k is, if the field is as claimed
-abbrev pub AddsFact : Known → Field → Claim → Known → Type 0
-AddsFact k f c new = (p : List ℕ) (n : ℕ) (s : State)
-    → Holds p n k s → is_said c (value_of p n f) ≡ true → Holds p n new s
 
 -- `new` is true where k is, if whether the field is a number has this outcome
 abbrev pub LearnsEqual : Known → Field → ℕ → Bool → Known → Type 0

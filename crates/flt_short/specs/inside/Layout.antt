@@ -1,11 +1,10 @@
 -- Wide code laid out as instructions, from its end to its beginning. A place is the number of
 -- instructions from there to the end; `hit` and `miss` are the places where a test leads if it
 -- holds and if it doesn't, and `c` is the code that is laid out so far.
-use Rattle.std.specs.Prelude.{ℕ, ◌-◌, nat_le, nat_lt, Bool, ◌==◌, ◌&&◌, if◌then◌else◌, List, [], ◌∷◌, length, take, replicate, slice_index, Option, Some}
-use Rattle.flt_bpf.specs.Instructions.{operation_of}
-use Rattle.flt_bpf.specs.Layout.{JUMP, MOST_OFFSET}
-use Rattle.flt_bpf.specs.declared.insn.Insn.{Insn}
-use Rattle.flt_bpf.specs.declared.operation.Operation.{Operation}
+use Rattle.std.specs.Prelude.{ℕ, ◌-◌, nat_le, nat_lt, Bool, ◌==◌, ◌&&◌, if◌then◌else◌, List, []}
+use Rattle.std.specs.Prelude.{◌∷◌, length, take, replicate, slice_index, Option, Some}
+use Rattle.flt_bpf.specs.{Instructions.operation_of, Layout.JUMP, Layout.MOST_OFFSET}
+use Rattle.flt_bpf.specs.declared.{insn.Insn.Insn, operation.Operation.Operation}
 use Rattle.flt_bpf.specs.declared.operation.Operation.TheVariants.{Jump, JumpIf}
 use Rattle.flt_short.specs.declared.layout.PlacedJump.{PlacedJump}
 

@@ -2,4 +2,4 @@
 use Rattle.flt_short.proofs.facts.known_at.Goals as goal
 
 pub returns-in-None : goal.returns-in-None
-returns-in-None c = λ p n s x h. h
+returns-in-None c = λ p n s h. c.nothing_known.ensures p n s

@@ -1,19 +1,17 @@
 -- A test for equality, or of bits, shows a number.
-use Rattle.flt_short.proofs.Common.{◌≡◌, Some, sym, ap, ◌∙◌, subst, Insn, JumpIf, Constant, Test, LearnsEqual, masked_held}
-use Rattle.std.proofs.Common.{rules, arith}
-use Rattle.std.proofs.lemmas.Grind.{common_steps}
+use Rattle.std.proofs.{Common.rules, Common.arith, lemmas.Grind.common_steps}
 use Rattle.flt_bpf.specs.Instructions.{operation_of}
+use Rattle.flt_short.proofs.Common.{◌≡◌, Some, sym, ap, ◌∙◌, subst, Insn, JumpIf, Constant, Test, LearnsEqual, masked_held}
 use Rattle.flt_short.proofs.Knowing.{learns_equal, learns_bits}
 use Rattle.flt_short.specs.declared.facts.Held.TheVariants as held
 use Rattle.flt_short.proofs.facts.learn.Goals as goal
 
 pub returns-in-Field : goal.returns-in-Field
 returns-in-Field c =
-    let f = c.in-Field.field in
-    let new = c.learn_equal.new.known in
     let o : operation_of c.args.insn.code ≡ Some (JumpIf Test.Equal Constant) = search rules in
-    learns_equal c.args.known.now c.args.insn f c.args.outcome new o c.in-Field.is
-    (subst (λ (i : Insn). LearnsEqual c.args.known.now f i.k c.args.outcome new) c.insn.view_is c.learn_equal.ensures)
+    let new = c.learn_equal.new.known in
+    learns_equal c.args.known.now c.args.insn c.in-Field.field c.args.outcome new o c.in-Field.is
+    (subst (λ (i : Insn). LearnsEqual c.args.known.now c.in-Field.field i.k c.args.outcome new) c.insn.view_is c.learn_equal.ensures)
 
 pub returns-in-Field-masked_held : goal.returns-in-Field-masked_held
 returns-in-Field-masked_held c =

@@ -1,6 +1,6 @@
 -- An instruction is threaded by its operation.
-use Rattle.flt_short.proofs.Common.{◌≡◌, Some, sym, ap, ◌∙◌, subst, Insn, JumpIf, Moves, IsThreaded}
 use Rattle.flt_bpf.specs.Instructions.{operation_of}
+use Rattle.flt_short.proofs.Common.{◌≡◌, Some, sym, ap, ◌∙◌, subst, Insn, JumpIf, Moves, IsThreaded}
 use Rattle.flt_short.proofs.Threading.{unknown_threaded, plain_threaded, test_threaded, jump_threaded, return_threaded}
 use Rattle.flt_short.proofs.thread.thread_insn.Goals as goal
 
@@ -19,8 +19,8 @@ returns-in-JumpIf c =
     let hit = c.learn.new.known in
     let miss = c.learn-in-JumpIf.new.known in
     let following = c.args.following.now in
-    let a = c.threaded_offset.result in
-    let b = c.threaded_offset-in-JumpIf.result in
+    let a = c.new_offset.result in
+    let b = c.new_offset-in-JumpIf.result in
     let seen = c.arrive-in-JumpIf-2.new.seen in
     let o : operation_of c.args.insn.code ≡ Some (JumpIf c.in-JumpIf.field-0 c.in-JumpIf.field-1) = ap (λ (i : Insn). operation_of i.code)
     (sym c.insn.view_is) ∙ sym c.decode.ensures ∙ c.in-Some.is ∙ ap Some c.in-JumpIf.is in
@@ -28,8 +28,8 @@ returns-in-JumpIf c =
     (test_threaded c.args.from c.args.here.now c.args.insn following hit miss c.args.seen.now c.arrive-in-JumpIf.new.seen seen a b c.in-JumpIf.field-0
     c.in-JumpIf.field-1 o
     c.learn.ensures c.learn-in-JumpIf.ensures
-    (subst (λ (i : Insn). Moves hit following i.jt a) view c.threaded_offset.ensures)
-    (subst (λ (i : Insn). Moves miss following i.jf b) view c.threaded_offset-in-JumpIf.ensures)
+    (subst (λ (i : Insn). Moves hit following i.jt a) view c.new_offset.ensures)
+    (subst (λ (i : Insn). Moves miss following i.jf b) view c.new_offset-in-JumpIf.ensures)
     c.arrive-in-JumpIf.ensures c.arrive-in-JumpIf-2.ensures)
 
 pub returns-in-Jump : goal.returns-in-Jump
