@@ -1,14 +1,14 @@
 -- A written address is a word that means its token.
-use Rattle.flt_explain.proofs.Common.{◌≡◌, ℕ, suc, zero, ◌+◌, ◌*◌, ◌/◌, ◌%◌, ◌^◌, ◌<◌, ◌≤◌, List, [], ◌∷◌, ◌++◌, length, map, refl, sym, ap, ◌∙◌, subst, arith}
-use Rattle.flt_explain.proofs.Common.{Bool, true, false, ◌==◌, cond, lit<, lit≤, append_assoc, pow-suc, nat_tests, AllByRecursion, digits_is_IsNumeral}
-use Rattle.flt_explain.proofs.Common.{decimal_is_IsNumeral, decimal, digit_value, digit_glyph, digits_onto, IsNumeral, digits_value, IsDotted, within_word}
-use Rattle.flt_explain.proofs.Common.{WritesDecimal, whole, mac, ip6, octet, hex_byte, group_at, half_bytes, half_groups, octets, IsDottedAddress, replicate}
-use Rattle.flt_explain.proofs.Common.{or-true}
-use Rattle.flt_explain.specs.Texts.{bytes_text, mac_word, groups_text, ip6_word, dotted_word}
-use Rattle.flt_explain.proofs.WordTokens.{IsPart, part_of_digits, part_join}
-use Rattle.flt_explain.proofs.WordTokens.{IsWordFor, part_of_decimal, writes_decimal}
-use Rattle.std.specs.{Fmt.digits, Int.Digits.AllBelowBase, Int.Digits.number_from_digits, List.join_with_byte}
-use Rattle.flt_words.specs.{Words.Spells.dotted, declared.token.TokenKind.TokenKind}
+use Rattle.std.proofs.Common.{◌≡◌, ℕ, zero, ◌+◌, ◌*◌, ◌/◌, ◌%◌, ◌^◌, ◌<◌, ◌≤◌, List, [], ◌∷◌, ◌++◌, length, map, refl, sym, ap, ◌∙◌, subst, Bool, true, false}
+use Rattle.std.proofs.Common.{◌==◌, cond, lit<, lit≤, append_assoc, pow-suc, replicate}
+use Rattle.flt_explain.proofs.Common.{suc, arith, nat_tests, AllByRecursion, IsDottedAddress, or-true, join_with_byte, TokenKind}
+use Rattle.std.proofs.lemmas.Fmt.{digits_is_IsNumeral, decimal_is_IsNumeral}
+use Rattle.std.specs.Fmt.{decimal, digit_glyph, digits_onto, digits}
+use Rattle.flt_words.specs.Words.Spells.{mac, ip6, dotted}
+use Rattle.flt_explain.specs.Texts.{octet, hex_byte, group_at, half_bytes, half_groups, octets, bytes_text, mac_word, groups_text, ip6_word, dotted_word}
+use Rattle.flt_explain.proofs.WordTokens.{IsPart, part_of_digits, part_join, IsWordFor, part_of_decimal, writes_decimal}
+use Rattle.flt_words.specs.{Addresses.IsDotted, Addresses.IsIp6.whole, Characters.within_word, Numbers.WritesDecimal}
+use Rattle.std.specs.{Int.Digits.AllBelowBase, Int.Digits.number_from_digits, Char.digit_value, Str.Parse.IsNumeral, Str.Parse.digits_value}
 
 -- how numbers below a base are written as groups of digits with a byte between them
 record Writes (inside : Bool) (between base radix : ℕ) (IsGroup : List ℕ → Type 0) (write : ℕ → List ℕ) : Type 0 where
@@ -20,16 +20,16 @@ record Writes (inside : Bool) (between base radix : ℕ) (IsGroup : List ℕ →
 module _ {inside : Bool} {between base radix : ℕ} {IsGroup : List ℕ → Type 0} {write : ℕ → List ℕ} (by : Writes inside between base radix IsGroup write) where
   each : (numbers : List ℕ) → AllBelowBase base numbers → AllByRecursion IsGroup (map write numbers)
   each [] below = tt
-  each (n ∷ numbers) below = (by.group n below.0, each numbers below.1)
+  each (n ∷ numbers) below = grind (arith, each numbers below.1)
 
   values : (numbers : List ℕ) → AllBelowBase base numbers → map (digits_value radix) (map write numbers) ≡ numbers
   values [] below = refl
-  values (n ∷ numbers) below = rw (by.value n below.0, values numbers below.1) refl
+  values (n ∷ numbers) below = grind (arith, values numbers below.1)
 
   part : (numbers : List ℕ) → 0 < length numbers → AllBelowBase base numbers → IsPart inside (join_with_byte between (map write numbers))
-  part [] some below = absurd (omega arith)
-  part (n ∷ []) some below = by.part n below.0
-  part (n ∷ m ∷ numbers) some below = part_join inside between (write n) _ by.within (by.part n below.0) (part (m ∷ numbers) (omega arith) below.1)
+  part [] some below = grind arith
+  part (n ∷ []) some below = grind arith
+  part (n ∷ m ∷ numbers) some below = part_join inside between (write n) _ by.within (grind arith) (part (m ∷ numbers) (omega arith) below.1)
 
 below_256 : (weight n : ℕ) → octet weight n < 256
 below_256 weight n = omega arith
@@ -43,7 +43,7 @@ in_decimal inside = record {
   group = λ n small. (n, writes_decimal n (omega arith), omega arith);
   value = λ n small. (decimal_is_IsNumeral n (omega arith)).1;
   part = λ n small. part_of_decimal inside n (omega arith);
-  within = rw or-true refl;
+  within = rw or-true;
 }
 
 two_parts : (a : ℕ) → a < 2 ^ 32 → a % 65536 ≡ 0 → a ≡ (((0 * 256 + octet (2 ^ 24) a) * 256 + octet (2 ^ 16) a) * 256 + 0) * 256 + 0
@@ -62,10 +62,10 @@ dotted_of inside a p some below is = record { part = part (in_decimal inside) (o
 
 pub dotted_for : (inside : Bool) (a p : ℕ) → IsDottedAddress a p → IsWordFor inside (dotted_word a p) (TokenKind.Dotted a p)
 unfolding dotted_word
-dotted_for inside a zero w = absurd (omega (arith, w.at_least_two))
-dotted_for inside a (suc zero) w = absurd (omega (arith, w.at_least_two))
+dotted_for inside a zero w = grind arith
+dotted_for inside a (suc zero) w = grind arith
 dotted_for inside a (suc (suc zero)) w =
-    let below : AllBelowBase 256 (octets a 2) = (below_256 (2 ^ 24) a, (below_256 (2 ^ 16) a, tt)) in
+    let below : AllBelowBase 256 (octets a 2) = grind (arith, below_256) in
     dotted_of inside a 2 (lit< tt) below
     (record {
       groups = map decimal (octets a 2);
@@ -77,7 +77,7 @@ dotted_for inside a (suc (suc zero)) w =
           ∙ ap (λ ns. number_from_digits 256 (ns ++ replicate 2 0)) (sym (values (in_decimal inside) (octets a 2) below));
     })
 dotted_for inside a (suc (suc (suc zero))) w =
-    let below : AllBelowBase 256 (octets a 3) = (below_256 (2 ^ 24) a, (below_256 (2 ^ 16) a, (below_256 (2 ^ 8) a, tt))) in
+    let below : AllBelowBase 256 (octets a 3) = grind (arith, below_256) in
     dotted_of inside a 3 (lit< tt) below
     (record {
       groups = map decimal (octets a 3);
@@ -89,7 +89,7 @@ dotted_for inside a (suc (suc (suc zero))) w =
           ∙ ap (λ ns. number_from_digits 256 (ns ++ replicate 1 0)) (sym (values (in_decimal inside) (octets a 3) below));
     })
 dotted_for inside a (suc (suc (suc (suc zero)))) w =
-    let below : AllBelowBase 256 (octets a 4) = (below_256 (2 ^ 24) a, (below_256 (2 ^ 16) a, (below_256 (2 ^ 8) a, (below_256 1 a, tt)))) in
+    let below : AllBelowBase 256 (octets a 4) = grind (arith, below_256) in
     dotted_of inside a 4 (lit< tt) below
     (record {
       groups = map decimal (octets a 4);
@@ -100,26 +100,20 @@ dotted_for inside a (suc (suc (suc (suc zero)))) w =
       value = four_parts a w.small
           ∙ ap (λ ns. number_from_digits 256 (ns ++ replicate 0 0)) (sym (values (in_decimal inside) (octets a 4) below));
     })
-dotted_for inside a (suc (suc (suc (suc (suc p))))) w = absurd (omega (arith, w.at_most_four))
+dotted_for inside a (suc (suc (suc (suc (suc p))))) w = grind arith
 
 -- two hexadecimal digits
 glyph_value : (d : ℕ) → d < 16 → digit_value (digit_glyph false d) ≡ d
 glyph_value d small = grind (arith, nat_tests)
 
 hex_numeral : (n : ℕ) → n < 256 → IsNumeral 16 (hex_byte n)
-hex_numeral n small =
-    (lit< tt, (omega (arith, glyph_value (n / 16) (omega arith)), (omega (arith, glyph_value (n % 16) (omega arith)), tt)))
+hex_numeral n small = grind (arith, glyph_value)
 
 two_digits : (n : ℕ) → (0 * 16 + n / 16) * 16 + n % 16 ≡ n
 two_digits n = omega arith
 
 in_bytes : Writes false 58 256 16 (λ digits. IsNumeral 16 digits × (length digits ≤ 2)) hex_byte
-in_bytes = record {
-  group = λ n small. (hex_numeral n small, lit≤ tt);
-  value = λ n small. rw (glyph_value (n / 16) (omega arith), glyph_value (n % 16) (omega arith)) (two_digits n);
-  part = λ n small. let is = hex_numeral n small in part_of_digits false 16 (hex_byte n) (lit≤ tt) is.0 is.1;
-  within = refl;
-}
+in_bytes = grind (arith, hex_numeral, glyph_value, two_digits, part, part_of_digits)
 
 three_bytes : (h : ℕ) → h < 2 ^ 24 → h ≡ (octet (2 ^ 16) h * 256 + octet (2 ^ 8) h) * 256 + octet 1 h
 three_bytes h small = omega arith
@@ -131,18 +125,17 @@ six_bytes a q r b c d e f g is also high low = omega arith
 pub mac_for : (a : ℕ) → a < 2 ^ 48 → IsWordFor false (mac_word a) (TokenKind.Mac a)
 unfolding mac_word bytes_text
 mac_for a small =
-    let q : ℕ = a / 2 ^ 24 in
-    let r : ℕ = a % 2 ^ 24 in
+    let q = a / 2 ^ 24 in
+    let r = a % 2 ^ 24 in
     let below : AllBelowBase 256 (half_bytes q ++ half_bytes r) =
-    (below_256 (2 ^ 16) q, (below_256 (2 ^ 8) q, (below_256 1 q, (below_256 (2 ^ 16) r, (below_256 (2 ^ 8) r, (below_256 1 r, tt)))))) in
+    grind (arith, below_256) in
     record {
-      part = part in_bytes (half_bytes q ++ half_bytes r) (lit< tt) below;
+      part = grind (arith, part, in_bytes);
       stands = mac {address = a} (record {
         groups = map hex_byte (half_bytes q ++ half_bytes r);
-        are = record { joined = refl; each = each in_bytes (half_bytes q ++ half_bytes r) below };
+        are = record { joined = refl; each = grind (arith, each, in_bytes) };
         all = refl;
-        value = six_bytes a q r _ _ _ _ _ _ refl refl (three_bytes q (omega arith)) (three_bytes r (omega arith)) ∙ ap (number_from_digits 256)
-            (sym (values in_bytes (half_bytes q ++ half_bytes r) below));
+        value = grind (arith, six_bytes, three_bytes, values, in_bytes);
       });
       fit = refl;
     }
@@ -155,16 +148,12 @@ few_step : (k j n : ℕ) (onto : List ℕ) → n < 16 ^ suc j → ((i m : ℕ) (
     → (b : Bool) → (n / 16 == 0) ≡ b
     → length (cond b (digit_glyph false (n % 16) ∷ onto) (digits_onto k 16 false (n / 16) (digit_glyph false (n % 16) ∷ onto))) ≤ suc j + length onto
 few_step k j n onto small more true e = omega arith
-few_step k zero n onto small more false e = absurd (omega (arith, some_front n e))
-few_step k (suc j) n onto small more false e = omega (
-  arith,
-  more (suc j) (n / 16) (digit_glyph false (n % 16) ∷ onto) (omega arith)
-      (omega (arith, pow-suc 16 (suc j))),
-)
+few_step k zero n onto small more false e = grind (arith, some_front)
+few_step k (suc j) n onto small more false e = grind (arith, pow-suc)
 
 few_onto : (k j n : ℕ) (onto : List ℕ) → 0 < j → n < 16 ^ j → length (digits_onto k 16 false n onto) ≤ j + length onto
 few_onto zero j n onto some small = omega arith
-few_onto (suc k) zero n onto some small = absurd (omega arith)
+few_onto (suc k) zero n onto some small = grind arith
 few_onto (suc k) (suc j) n onto some small = few_step k j n onto small (λ i m o some small. few_onto k i m o some small) (n / 16 == 0) refl
 
 few_digits : (n : ℕ) → n < 65536 → length (digits 16 false n) ≤ 4
@@ -172,9 +161,7 @@ unfolding digits
 few_digits n small = few_onto 64 4 n [] (lit< tt) small
 
 numeral_of : (n : ℕ) → n < 65536 → IsNumeral 16 (digits 16 false n) × (digits_value 16 (digits 16 false n) ≡ n)
-numeral_of n small =
-    let most : 65536 ≤ 16 ^ 64 = lit≤ tt in
-    digits_is_IsNumeral 16 false (lit≤ tt) (lit≤ tt) n (omega arith)
+numeral_of n small = digits_is_IsNumeral 16 false (lit≤ tt) (lit≤ tt) n (omega arith)
 
 in_quads : Writes false 58 65536 16 (λ digits. IsNumeral 16 digits × (length digits ≤ 4)) (digits 16 false)
 in_quads = record {
@@ -194,27 +181,20 @@ eight_groups a q r b c d e f g h i is also high low = omega arith
 
 all_joined : (a : ℕ) → ip6_word a ≡ join_with_byte 58 (map (digits 16 false) (half_groups (a / 2 ^ 64) ++ half_groups (a % 2 ^ 64)))
 unfolding ip6_word groups_text
-all_joined a = simp append_assoc refl
+all_joined a = simp append_assoc
 
 pub ip6_for : (a : ℕ) → a < 2 ^ 128 → IsWordFor false (ip6_word a) (TokenKind.Ip6 a)
 ip6_for a small =
-    let q : ℕ = a / 2 ^ 64 in
-    let r : ℕ = a % 2 ^ 64 in
-    let below : AllBelowBase 65536 (half_groups q ++ half_groups r) = (
-      below_65536 (2 ^ 48) q,
-      (
-        below_65536 (2 ^ 32) q,
-        (below_65536 (2 ^ 16) q, (below_65536 1 q, (below_65536 (2 ^ 48) r, (below_65536 (2 ^ 32) r, (below_65536 (2 ^ 16) r, (below_65536 1 r, tt)))))),
-      ),
-    ) in
+    let q = a / 2 ^ 64 in
+    let r = a % 2 ^ 64 in
+    let below : AllBelowBase 65536 (half_groups q ++ half_groups r) = grind (arith, below_65536) in
     record {
       part = subst (IsPart false) (sym (all_joined a)) (part in_quads (half_groups q ++ half_groups r) (lit< tt) below);
       stands = ip6 {address = a} (whole (record {
         groups = map (digits 16 false) (half_groups q ++ half_groups r);
-        are = record { joined = all_joined a; each = each in_quads (half_groups q ++ half_groups r) below };
+        are = grind (arith, all_joined, each, in_quads);
         all = refl;
-        value = eight_groups a q r _ _ _ _ _ _ _ _ refl refl (four_groups q (omega arith)) (four_groups r (omega arith))
-            ∙ ap (number_from_digits 65536) (sym (values in_quads (half_groups q ++ half_groups r) below));
+        value = grind (arith, eight_groups, four_groups, values, in_quads);
       }));
       fit = refl;
     }

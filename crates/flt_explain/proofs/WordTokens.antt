@@ -1,21 +1,16 @@
 -- A written word is a token if no byte of a word follows it, and means the token for which it was
 -- written.
-use Rattle.flt_explain.proofs.Common.{◌≡◌, ℕ, suc, zero, ◌+◌, ◌-◌, ◌<◌, ◌≤◌, List, [], ◌∷◌, ◌++◌, length, get_or, refl, sym, ap, ◌∙◌, arith, Bool, true, false}
-use Rattle.flt_explain.proofs.Common.{◌&&◌, nat_lt, Some, nat_tests, get_or-append-add, get_or_append_left, take_at, digit_value, is_ascii_alphanumeric}
-use Rattle.flt_explain.proofs.Common.{AllByRecursion, list_all, AllDigits, TokenKind, starts_word, within_word, keyword_of, IsToken, IsWordPiece, word_meaning}
-use Rattle.flt_explain.proofs.Common.{Spells, fits, known, IsScanned, longest_word, found_passes, ⊎_elim, ◌^◌, subst, ◌==◌, lit<, lit≤, decimal_digit}
-use Rattle.flt_explain.proofs.Common.{decimal_is_IsNumeral, first_decimal, decimal, Host, WritesDecimal, keyword, keyword_is_plain, Following, Other}
-use Rattle.flt_explain.proofs.Common.{fixed_spelling, name_word, has_name, and_parts, ltb-true, eqb-true, or_cases, or-true, Protocol}
-use Rattle.flt_words.specs.Spellings.{keywords}
-use Rattle.std.proofs.lemmas.List.{length-append}
-use Rattle.flt_words.specs.Numbers.IsNumber.{decimal as decimal_number}
-use Rattle.flt_words.specs.Numbers.IsRange.{joined as dashed}
-use Rattle.flt_words.specs.Words.Spells.{number, range}
-use Rattle.flt_words.specs.declared.token.Cast.TheVariants.{Broadcast}
-use Rattle.flt_words.specs.declared.token.Join.{Join}
-use Rattle.flt_words.specs.declared.token.Side.TheVariants.{Source}
-use Rattle.flt_words.specs.declared.token.Size.{Size}
-use Rattle.flt_words.proofs.Numbers.{fits as word_sized}
+use Rattle.std.proofs.Common.{◌≡◌, ℕ, zero, ◌+◌, ◌-◌, ◌<◌, ◌≤◌, List, [], ◌∷◌, ◌++◌, length, get_or, Bool, true, false, ◌&&◌, nat_lt, Some, ◌^◌, lit≤}
+use Rattle.flt_explain.proofs.Common.{suc, arith, nat_tests, AllByRecursion, list_all, TokenKind, Following, has_name, ltb-true, or-true, Protocol, Join}
+use Rattle.std.proofs.lemmas.List.{get_or-append-add, get_or_append_left, take_at, length-append}
+use Rattle.flt_explain.specs.Texts.{fixed_spelling, name_word}
+use Rattle.flt_words.specs.Numbers.{IsRange.joined as dashed, WritesDecimal, IsNumber.decimal as decimal_number}
+use Rattle.flt_words.specs.Tokens.{IsToken, IsWordPiece, PieceMeans.word_meaning}
+use Rattle.flt_words.proofs.{Tables.found_passes, Tables.keyword_is_plain, Pieces.IsScanned, Pieces.longest_word, Numbers.fits as word_sized}
+use Rattle.flt_words.specs.Words.{Spells.keyword, Spells.number, Spells.range, Spells, fits, WordMeans.known}
+use Rattle.std.specs.{Char.digit_value, Char.is_ascii_alphanumeric, Str.Parse.AllDigits, Fmt.decimal}
+use Rattle.flt_words.specs.{Characters.starts_word, Characters.within_word, Spellings.keyword_of, Spellings.keywords, declared.token.Size.Size}
+use Rattle.std.proofs.lemmas.{Fmt.decimal_digit, Fmt.decimal_is_IsNumeral, Fmt.first_decimal, Bool.and_parts, Bool.eqb-true, Bool.or_cases}
 use Rattle.flt_words.specs.declared.token.TokenKind.TheVariants as token
 
 -- the text could be a word
@@ -26,7 +21,7 @@ pub record IsPart (inside : Bool) (word : List ℕ) : Type 0 where
   pub ends : starts_word inside (get_or word (length word - 1) 0) ≡ true
 
 byte_at : (P : ℕ → Type 0) (word : List ℕ) (i : ℕ) → AllByRecursion P word → i < length word → P (get_or word i 0)
-byte_at P [] i all below = absurd (omega arith)
+byte_at P [] i all below = grind arith
 byte_at P (b ∷ word) zero all below = all.0
 byte_at P (b ∷ word) (suc i) all below = byte_at P word i all.1 (omega arith)
 
@@ -35,19 +30,14 @@ all_append P [] back v w = w
 all_append P (b ∷ front) back v w = (v.0, all_append P front back v.1 w)
 
 starts_within : (inside : Bool) (b : ℕ) → starts_word inside b ≡ true → within_word inside b ≡ true
-starts_within inside b h = rw h refl
+starts_within inside b h = rw h
 
 all_within : (inside : Bool) (word : List ℕ) → AllByRecursion (λ b. starts_word inside b ≡ true) word → AllByRecursion (λ b. within_word inside b ≡ true) word
 all_within inside [] all = tt
 all_within inside (b ∷ word) all = (starts_within inside b all.0, all_within inside word all.1)
 
 pub part_of_starts : (inside : Bool) (word : List ℕ) → 0 < length word → AllByRecursion (λ b. starts_word inside b ≡ true) word → IsPart inside word
-part_of_starts inside word some all = record {
-  some = some;
-  begins = byte_at (λ b. starts_word inside b ≡ true) word 0 all some;
-  within = all_within inside word all;
-  ends = byte_at (λ b. starts_word inside b ≡ true) word (length word - 1) all (omega arith);
-}
+part_of_starts inside word some all = grind (arith, byte_at, all_within)
 
 -- digits
 letter_or_digit : (c radix : ℕ) → radix ≤ 36 → digit_value c < radix → is_ascii_alphanumeric c ≡ true
@@ -55,24 +45,17 @@ letter_or_digit c radix few small = grind (arith, nat_tests)
 
 digits_start : (inside : Bool) (radix : ℕ) (digits : List ℕ) → radix ≤ 36 → AllDigits radix digits → AllByRecursion (λ b. starts_word inside b ≡ true) digits
 digits_start inside radix [] few all = tt
-digits_start inside radix (c ∷ digits) few all =
-    (rw (letter_or_digit c radix few all.0) refl, digits_start inside radix digits few all.1)
+digits_start inside radix (c ∷ digits) few all = grind (arith, letter_or_digit, digits_start inside radix digits few all.1)
 
 pub part_of_digits : (inside : Bool) (radix : ℕ) (digits : List ℕ) → radix ≤ 36 → 0 < length digits → AllDigits radix digits → IsPart inside digits
-part_of_digits inside radix digits few some all = part_of_starts inside digits some (digits_start inside radix digits few all)
+part_of_digits inside radix digits few some all = part_of_starts inside digits some (grind (arith, digits_start))
 
 -- two parts, and a byte between them
 pub part_join : (inside : Bool) (c : ℕ) (front back : List ℕ) → within_word inside c ≡ true → IsPart inside front → IsPart inside back
     → IsPart inside (front ++ c ∷ back)
 part_join inside c front back between v w =
-    let last : length (front ++ c ∷ back) - 1 ≡ length front + suc (length back - 1) = rw (length-append front (c ∷ back)) (omega (arith, w.some)) in
-    record {
-      some = rw (length-append front (c ∷ back)) (omega arith);
-      begins = ap (starts_word inside) (get_or_append_left front (c ∷ back) 0 0 v.some) ∙ v.begins;
-      within = all_append (λ b. within_word inside b ≡ true) front (c ∷ back) v.within (between, w.within);
-      ends = ap (λ k. starts_word inside (get_or (front ++ c ∷ back) k 0)) last ∙ ap (starts_word inside)
-          (get_or-append-add front (c ∷ back) (suc (length back - 1)) 0) ∙ w.ends;
-    }
+    let last : length (front ++ c ∷ back) - 1 ≡ length front + suc (length back - 1) = grind (arith, length-append) in
+    grind (arith, length-append, get_or_append_left, all_append, get_or-append-add)
 
 -- a keyword
 part_test : Bool → List ℕ → Bool
@@ -82,8 +65,7 @@ part_test inside word =
 
 all_parts : (inside : Bool) → list_all (λ entry. part_test inside entry.0) keywords ≡ true
 unfolding part_test keywords
-all_parts true = refl
-all_parts false = refl
+all_parts inside = grind arith
 
 all_from_test : (p : ℕ → Bool) (word : List ℕ) → list_all p word ≡ true → AllByRecursion (λ b. p b ≡ true) word
 all_from_test p [] h = tt
@@ -99,7 +81,7 @@ part_of_keyword inside word kind found =
     let begins = and_parts (starts_word inside (get_or word 0 0)) _ some.1 in
     let within = and_parts (list_all (within_word inside) word) _ begins.1 in
     record {
-      some = ltb-true 0 (length word) some.0;
+      some = grind (arith, ltb-true);
       begins = begins.0;
       within = all_from_test (within_word inside) word within.0;
       ends = within.1;
@@ -109,16 +91,10 @@ part_of_keyword inside word kind found =
 module _ (inside : Bool) (place : ℕ) (word more : List ℕ) (kind : TokenKind) (part : IsPart inside word) (stands : Spells word kind) (fit : fits kind ≡ true)
     (stops : 0 < length more → within_word inside (get_or more 0 0) ≡ false) where
   here : (i : ℕ) → i < length word → get_or (word ++ more) i 0 ≡ get_or word i 0
-  here i below = get_or_append_left word more 0 i below
+  here i below = grind (arith, get_or_append_left)
 
   scanned : IsScanned inside (word ++ more) (length word) (length word)
-  scanned = record {
-    so_far = omega arith;
-    some = part.some;
-    within = λ k below. ap (within_word inside) (here k below) ∙ byte_at (λ b. within_word inside b ≡ true) word k part.within below;
-    ends = ap (starts_word inside) (here (length word - 1) (omega (arith, part.some))) ∙ part.ends;
-    later = λ k low high. absurd (omega arith);
-  }
+  scanned = grind (arith, here, byte_at)
 
   long : length (word ++ more) ≡ length word + length more
   long = length-append word more
@@ -126,17 +102,15 @@ module _ (inside : Bool) (place : ℕ) (word more : List ℕ) (kind : TokenKind)
   stop : length word < length (word ++ more) → within_word inside (get_or (word ++ more) (length word) 0) ≡ false
   stop below =
       let at : length word + 0 ≡ length word = omega arith in
-      ap (λ k. within_word inside (get_or (word ++ more) k 0)) (sym at) ∙ ap (within_word inside) (get_or-append-add word more 0 0)
-      ∙ stops (omega (arith, long))
+      grind (arith, get_or-append-add, long)
 
   piece : IsWordPiece inside word
-  piece = record { begins = part.begins; within = λ i below. byte_at (λ b. within_word inside b ≡ true) word i part.within below; ends = part.ends }
+  piece = grind (arith, byte_at)
 
   pub word_token : IsToken inside place (word ++ more) kind (length word)
   word_token = record {
-    longest = longest_word inside (word ++ more) (length word) (length word) scanned (omega (arith, long)) (ap (starts_word inside) (here 0 part.some)
-        ∙ part.begins) stop;
-    means = rw (take_at word more (length word) refl) (word_meaning piece (known stands fit));
+    longest = longest_word inside (word ++ more) (length word) (length word) scanned (omega (arith, long)) (grind (arith, here)) stop;
+    means = grind (arith, take_at, word_meaning, piece, known);
   }
 
 -- what the written words mean
@@ -160,13 +134,7 @@ is_keyword _ = false
 
 found : (t : TokenKind) → is_keyword t ≡ true → keyword_of (fixed_spelling t) ≡ Some t
 unfolding keywords
-found (token.Protocol Protocol.Ether) h = refl
-found (token.Join Join.And) h = refl
-found (token.Side Source) h = refl
-found (token.ValueType Host) h = refl
-found (token.Size Size.Less) h = refl
-found (token.Cast Broadcast) h = refl
-found _ h = cc
+found t h = grind arith
 
 keyword_by : (inside : Bool) (word : List ℕ) (kind : TokenKind) → keyword_of word ≡ Some kind → IsWordFor inside word kind
 keyword_by inside word kind found = record {
@@ -181,31 +149,23 @@ keyword_for inside t h = keyword_by inside _ _ (found t h)
 -- names
 one_found : (following : Following) → keyword_of (name_word following 1) ≡ Some (token.Name 1)
 unfolding keywords
-one_found Other = refl
-one_found _ = refl
+one_found following = grind arith
 
 name_found : (following : Following) (n : ℕ) → has_name n ≡ true → keyword_of (name_word following n) ≡ Some (token.Name n)
 unfolding keywords
-name_found following n h =
-    let P : ℕ → Type 0 = λ k. keyword_of (name_word following k) ≡ Some (token.Name k) in
-    let at : (k : ℕ) → P k → (n == k) ≡ true → P n = λ k found is. subst P (sym (eqb-true n k is)) found in
-    ⊎_elim (at 0 refl) (λ h. ⊎_elim (at 1 (one_found following))
-    (λ h. ⊎_elim (at 2 refl) (λ h. ⊎_elim (at 4 refl)
-    (λ h. ⊎_elim (at 8 refl) (λ h. ⊎_elim (at 13 refl) (λ h. ⊎_elim (at 16 refl) (at 32 refl) (or_cases (n == 16) (n == 32) h))
-    (or_cases (n == 13) _ h)) (or_cases (n == 8) _ h)) (or_cases (n == 4) _ h)) (or_cases (n == 2) _ h)) (or_cases (n == 1) _ h)) (or_cases (n == 0) _ h)
+name_found following n h = grind (arith, found, eqb-true, one_found, or_cases)
 
 pub name_for : (inside : Bool) (following : Following) (n : ℕ) → has_name n ≡ true → IsWordFor inside (name_word following n) (token.Name n)
 name_for inside following n h = keyword_by inside _ _ (name_found following n h)
 
 -- numbers
 one_digit : (n : ℕ) → n < 2 ^ 32 → get_or (decimal n) 0 0 ≡ 48 → length (decimal n) ≡ 1
-one_digit zero small first = ap length (decimal_digit 0 (lit< tt))
-one_digit (suc n) small first = absurd (omega (arith, first_decimal (suc n) (omega arith) (omega arith)))
+one_digit n small first = grind (arith, decimal_digit, first_decimal)
 
 pub writes_decimal : (n : ℕ) → n < 2 ^ 32 → WritesDecimal (decimal n) n
 writes_decimal n small =
     let is = decimal_is_IsNumeral n (omega arith) in
-    record { writes = record { numeral = is.0; value = is.1 }; no_leading_zero = one_digit n small }
+    grind (arith, one_digit)
 
 pub part_of_decimal : (inside : Bool) (n : ℕ) → n < 2 ^ 32 → IsPart inside (decimal n)
 part_of_decimal inside n small =
@@ -221,7 +181,7 @@ number_for inside n small = record {
 
 pub range_for : (inside : Bool) (a b : ℕ) → a < 2 ^ 32 → b < 2 ^ 32 → IsWordFor inside (decimal a ++ 45 ∷ decimal b) (token.Range a b)
 range_for inside a b small also = record {
-  part = part_join inside 45 (decimal a) (decimal b) (rw or-true refl) (part_of_decimal inside a small) (part_of_decimal inside b also);
-  stands = range (dashed (writes_decimal a small) (writes_decimal b also));
-  fit = rw (word_sized a small) (word_sized b also);
+  part = part_join inside 45 (decimal a) (decimal b) (rw or-true) (part_of_decimal inside a small) (part_of_decimal inside b also);
+  stands = grind (arith, range, dashed, writes_decimal);
+  fit = grind (arith, word_sized);
 }

@@ -1,14 +1,15 @@
 -- Each token of a text can be written.
-use Rattle.flt_explain.proofs.Common.{◌≡◌, ℕ, ◌^◌, ◌<◌, List, refl, arith, rules, Bool, true, false, Result, Ok, Err, AllByRecursion, list_all, Token}
-use Rattle.flt_explain.proofs.Common.{TokenKind, IsDotted, IsIp6, shortened, whole, is_word_sized, PieceMeans, Tokens, TokensFrom, before, symbol_meaning}
-use Rattle.flt_explain.proofs.Common.{word_meaning, short, too_long, Spells, fits, keyword, mac, ip6, known, found_passes, kinds_of, IsDottedAddress, has_name}
-use Rattle.flt_explain.proofs.Common.{IsSpellable, and_parts, ltb-true, symbol_passes}
-use Rattle.flt_words.specs.Spellings.{keywords, symbols}
+use Rattle.std.proofs.Common.{◌≡◌, ℕ, ◌^◌, ◌<◌, List, refl, Bool, true, false, Result, Ok, Err}
+use Rattle.flt_explain.proofs.Common.{arith, AllByRecursion, list_all, Token, TokenKind, IsDottedAddress, has_name, IsSpellable, ltb-true}
+use Rattle.flt_words.specs.Words.Spells.{keyword, mac, ip6, number, dotted, range}
+use Rattle.flt_words.proofs.Tables.{found_passes, symbol_passes}
 use Rattle.flt_words.specs.Tokens.TokensFrom.{at_end, blank, refused, token as one_more}
-use Rattle.flt_words.specs.Words.Spells.{number, dotted, range}
-use Rattle.flt_words.specs.declared.fault.ExprFault.{ExprFault}
-use Rattle.flt_words.specs.declared.token.TokenKind.TheVariants as token
 use Rattle.flt_words.proofs.AddressValues.{dotted_below, ends_below, whole_below}
+use Rattle.flt_words.specs.Addresses.{IsDotted, IsIp6, IsIp6.shortened, IsIp6.whole}
+use Rattle.flt_words.specs.Tokens.{PieceMeans, Tokens, TokensFrom, before, PieceMeans.symbol_meaning, PieceMeans.word_meaning}
+use Rattle.flt_words.specs.{Words.Spells, Words.fits, Words.WordMeans.known, Spellings.keywords, Spellings.symbols, declared.fault.ExprFault.ExprFault}
+use Rattle.{flt_lang.specs.Grammar.kinds_of, std.proofs.lemmas.Bool.and_parts}
+use Rattle.flt_words.specs.declared.token.TokenKind.TheVariants as token
 
 -- a token of a table
 table_test : TokenKind → Bool
@@ -30,14 +31,13 @@ all_symbols = refl
 
 from_table : (kind : TokenKind) → table_test kind ≡ true → IsSpellable kind
 unfolding table_test
-from_table (token.Name n) h = h
-from_table _ h = search rules
+from_table kind h = grind arith
 
 -- addresses
 dotted_small : {word : List ℕ} {a p : ℕ} → IsDotted word a p → IsDottedAddress a p
 dotted_small d =
     let below = dotted_below d in
-    record { at_least_two = omega (arith, d.count, d.at_least_two); at_most_four = omega (arith, d.count, d.at_most_four); small = below.0; missing = below.1 }
+    grind arith
 
 ip6_small : {word : List ℕ} {a : ℕ} → IsIp6 word a → a < 2 ^ 128
 ip6_small (whole w) = omega (arith, whole_below w)
@@ -48,9 +48,7 @@ stands_spellable : {word : List ℕ} {kind : TokenKind} → Spells word kind →
 stands_spellable {word} {kind} (keyword found) fit = from_table kind (found_passes (λ _ k. table_test k) keywords word kind all_keywords found)
 stands_spellable (number {n} w) fit = ltb-true n (2 ^ 32) fit
 stands_spellable (dotted w) fit = dotted_small w
-stands_spellable (range {first} {last} w) fit =
-    let parts = and_parts (is_word_sized first) (is_word_sized last) fit in
-    (ltb-true first (2 ^ 32) parts.0, ltb-true last (2 ^ 32) parts.1)
+stands_spellable (range {first} {last} w) fit = grind (arith, and_parts, ltb-true)
 stands_spellable (mac w) fit = omega (arith, whole_below w)
 stands_spellable (ip6 w) fit = ip6_small w
 
@@ -66,15 +64,13 @@ AllSpellable (Ok tokens) = AllByRecursion IsSpellable (kinds_of tokens)
 AllSpellable (Err refusal) = Unit {0}
 
 spelled_before : (t : Token) (answer : Result (List Token) ExprFault) → IsSpellable t.kind → AllSpellable answer → AllSpellable (before t answer)
-spelled_before t (Ok tokens) is all = (is, all)
-spelled_before t (Err refusal) is all = tt
+spelled_before t answer is all = grind arith
 
 spelled_from : {text : List ℕ} {at : ℕ} {answer : Result (List Token) ExprFault} → TokensFrom text at answer → AllSpellable answer
 spelled_from (at_end ended) = tt
 spelled_from (blank is later) = spelled_from later
-spelled_from (one_more {answer} is later) = spelled_before _ answer (piece_spellable is.means) (spelled_from later)
+spelled_from (one_more {answer} is later) = grind (arith, spelled_before, piece_spellable, spelled_from later)
 spelled_from (refused within other is) = tt
 
 pub all_spellable : {text : List ℕ} {answer : Result (List Token) ExprFault} → Tokens text answer → AllSpellable answer
-all_spellable (too_long long) = tt
-all_spellable (short small from) = spelled_from from
+all_spellable h0 = grind (arith, spelled_from)

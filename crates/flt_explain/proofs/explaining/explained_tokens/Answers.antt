@@ -1,6 +1,5 @@
 -- Each turn writes the node before those that are written.
-use Rattle.std.proofs.Common.{arith}
-use Rattle.flt_explain.proofs.Writing.{writes_on, all_written}
+use Rattle.flt_explain.proofs.{Common.arith, Writing.writes_on, Writing.all_written}
 use Rattle.flt_explain.proofs.explaining.explained_tokens.Goals as goal
 
 pub loop-at-preserved : goal.loop-at-preserved

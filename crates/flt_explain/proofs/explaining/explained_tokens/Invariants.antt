@@ -1,5 +1,6 @@
 -- The nodes from a place on are written.
-use Rattle.flt_explain.proofs.Common.{◌≡◌, ◌≤◌, length, drop, write_nodes}
+use Rattle.std.proofs.Common.{◌≡◌, ◌≤◌, length, drop}
+use Rattle.flt_explain.specs.inside.Backward.{write_nodes}
 use Rattle.flt_explain.proofs.explaining.explained_tokens.Given as goal
 
 abbrev pub invariant-loop-at : goal.invariant-loop-at

@@ -1,6 +1,7 @@
 -- The text so far, followed by the text of the remaining tokens, is the whole text.
-use Rattle.flt_explain.proofs.Common.{◌≡◌, ◌++◌, drop, Other, tokens_text}
+use Rattle.std.proofs.Common.{◌≡◌, ◌++◌, drop}
 use Rattle.std.specs.String.{string_bytes}
+use Rattle.flt_explain.{proofs.Common.Other, specs.Texts.tokens_text}
 use Rattle.flt_explain.proofs.spelling.push_tokens.Given as goal
 
 abbrev pub invariant-loop-i : goal.invariant-loop-i

@@ -1,5 +1,6 @@
 -- Writing what is still pending gives the same as writing all of it.
-use Rattle.flt_explain.proofs.Common.{◌≡◌, length, write_pending}
+use Rattle.std.proofs.Common.{◌≡◌, length}
+use Rattle.flt_explain.specs.inside.Backward.{write_pending}
 use Rattle.flt_explain.proofs.backward.Writer.write_pending.Given as goal
 
 abbrev pub invariant-loop-pending : goal.invariant-loop-pending

@@ -1,5 +1,5 @@
 -- A number below 10^10 has at most 10 digits.
-use Rattle.std.proofs.Common.{◌≤◌, length, length-append, arith, rules, ap}
+use Rattle.std.proofs.Common.{◌≤◌, length, length-append, arith, rules}
 use Rattle.std.proofs.lemmas.Fmt.{length-decimal-le}
 use Rattle.flt_trace.proofs.line.Line.push_decimal.Goals as goal
 
@@ -9,5 +9,4 @@ push_all-requires c = search (rules, length-decimal-le 10)
 pub returns-clause-bound : goal.returns-clause-bound
 returns-clause-bound c =
     let digits : length c.as_bytes.result.now ≤ 10 = search (rules, length-decimal-le 10) in
-    let grown = ap length c.push_all.ensures in
-    omega (arith, digits, grown, length-append c.args.self.now c.as_bytes.result.now)
+    grind (arith, length-append)
