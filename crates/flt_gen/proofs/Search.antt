@@ -255,19 +255,19 @@ module _ (f : FieldPlace) where
   chain_cheap held l few from [] = cheap_none false
   chain_cheap held l few from (i ∷ is) = grind (arith, rest_few, cheap_as, chain_cheap (Some f) 0 none_taken false is, none_taken, cheap_split, cheap_none)
 
-  search_cheap : (few k : ℕ) (held : Option FieldPlace) (l : ℕ) → Takes held l → (from : Bool) (is : List Interval)
-      → Cheap held (search few f k from is) l (2 * length is - 1 + first_more from is)
+  search_cheap : (m k : ℕ) (held : Option FieldPlace) (l : ℕ) → Takes held l → (from : Bool) (is : List Interval)
+      → Cheap held (search m f k from is) l (2 * length is - 1 + first_more from is)
   unfolding search
-  search_cheap few zero held l few from is = chain_cheap held l few from is
-  search_cheap few (suc k) held l few from is =
+  search_cheap m zero held l few from is = chain_cheap held l few from is
+  search_cheap m (suc k) held l few from is =
       let half = length is / 2 in
       let a = length-drop half is in
       let t = length-take half is in
-      if_case (λ (g : Formula). Cheap held g l (2 * length is - 1 + first_more from is)) (are_few few is) _ _ (λ e. chain_cheap held l few from is)
-      (λ e. let two = are_many few is e in
+      if_case (λ (g : Formula). Cheap held g l (2 * length is - 1 + first_more from is)) (are_few m is) _ _ (λ e. chain_cheap held l few from is)
+      (λ e. let two = are_many m is e in
       let first = first_of_half from half is (omega arith) in
-      cheap_as _ (omega arith) (cheap_split Less (low_of (drop half is)) few (search_cheap few k (Some f) 0 none_taken from (take half is))
-      (search_cheap few k (Some f) 0 none_taken true (drop half is))))
+      cheap_as _ (omega arith) (cheap_split Less (low_of (drop half is)) few (search_cheap m k (Some f) 0 none_taken from (take half is))
+      (search_cheap m k (Some f) 0 none_taken true (drop half is))))
 
 -- the loads of a side: of a mask and the length of a header there is only one
 lean : (index : ℕ) (mask : Option ℕ) (a b : Offset) → Reached index mask a b → (place_loads a + mask_loads mask ≤ 2)

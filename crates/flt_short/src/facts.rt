@@ -260,7 +260,11 @@ pub fn outcome_by_claim(claim: Claim, number: u32) -> Option<bool>
 
 /// Whether a claim says something of whether a number is this one.
 fn speaks_of(claim: Claim, number: u32) -> bool {
-    !matches!(claim, Claim::Nothing) && !matches!(claim, Claim::IsNot(one) if one != number)
+    match claim {
+        Claim::Nothing => false,
+        Claim::IsNot(one) => one == number,
+        _ => true,
+    }
 }
 
 /// The claim of the first fact that says something of whether a field is this number; `Nothing` if
