@@ -8,23 +8,17 @@ use base.Fml.{Fml, ftrue, fwand, froom}
 use prog.Memory.{size, capped}
 use prog.Align.{Dv, align_w, align-bytes}
 use prog.Capped.{capped_is, capped_small}
-use types.Logic.{Logic, sem}
 use types.Kit.{Item, Goal, Seq, ‵, ◌⊛◌, ◌$◌, ◌∵◌, !, qed, move, drop, use0, use1, split, frame, rewrite, fsplit, fjoin, fpick, fpack, feq_l, done}
-use types.Match.{live}
-use denote.RattleType.{RattleType}
 use denote.RawPtr.{Ptr, block_ptr, ptr_val, room_for, in_a_block}
-use denote.Laws.{Is, shows}
-use denote.Shadow.{makes_shadow}
-use denote.Struct.Struct.{Struct}
-use denote.Struct.Owning.{shape, to}
 use denote.Steps.{only, peeks, nothing}
-use Rattle.std.specs.contracts.option.Option as option
-use Rattle.linked_list_allocator.proofs.Nodes.{retypes}
 use Rattle.cap_heap.specs.Lending.{Place, units, units_at, bytes_at, block_token}
-use Rattle.cap_heap.specs.inside.Blocks.{HoldsBlock}
+use denote.Struct.{Struct.Struct, Owning.shape, Owning.to}
+use denote.{Laws.Is, Laws.shows, RattleType.RattleType, Shadow.makes_shadow}
+use types.{Logic.Logic, Logic.sem, Match.live}
+use Rattle.{linked_list_allocator.proofs.Nodes.retypes, cap_heap.specs.inside.Blocks.HoldsBlock, cap_heap.proofs.memory.Memory.TheLaws.lowers}
+use Rattle.std.specs.contracts.option.Option as option
 use Rattle.cap_heap.specs.contracts.memory.Memory as memory
 use Rattle.cap_heap.specs.contracts.memory.Memory.TheInside as inside
-use Rattle.cap_heap.proofs.memory.Memory.TheLaws.{lowers}
 
 abbrev pub memory_val : Ptr → ℕ → Val
 memory_val p s = vstruct (vcons (ptr_val p) (vcons (vint w64 s) vnil))

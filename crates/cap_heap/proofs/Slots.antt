@@ -2,26 +2,17 @@
 -- `Logic`.
 use Rattle.std.proofs.Common.{◌≡◌, ℕ, List, [], ◌∷◌, refl}
 use seplogic.Ra.Ura.{Ura}
-use mir.Syntax.{Ty}
-use mir.Val.{Val}
-use base.Fraction.{full_share}
 use base.Logic.{sep, wand, apply∗}
 use base.Fml.{Lft, Share, Fml, Incl-refl, ftrue, fsep, fex, fat, flft, ftok}
-use base.Mask.{every, less}
-use types.Logic.{Logic, sem}
 use types.Kit.{Item, Goal, Seq, Step, Soaks, step, ‵, raw, ◌⊛◌, later, ◌$◌, move, drop, use1, use2, use3, split, join, fsplit, fjoin, fpick, fpack, rewrite}
 use types.Kit.{await}
-use types.Na.{na_acc_in}
-use denote.RattleType.{RattleType}
-use denote.RawPtr.{Ptr}
 use denote.Memory.{cell_at, hidden_shr, lone}
-use denote.Opens.{unhide}
-use denote.Param.{layout}
-use denote.Steps.{nothing}
-use denote.Struct.Members.{Member}
 use Rattle.std.proofs.cell.Inside.{Good, round, wraps, unwraps}
-use Rattle.cap_heap.specs.inside.Slots.{fields_at}
-use Rattle.cap_heap.specs.Lending.{IsGivenBack}
+use Rattle.cap_heap.specs.{inside.Slots.fields_at, Lending.IsGivenBack}
+use denote.{Steps.nothing, Struct.Members.Member, RattleType.RattleType, RawPtr.Ptr, Opens.unhide, Param.layout}
+use mir.{Syntax.Ty, Val.Val}
+use base.{Fraction.full_share, Mask.every, Mask.less}
+use types.{Logic.Logic, Logic.sem, Na.na_acc_in}
 use Rattle.cap_heap.specs.contracts.memory.Memory as memory
 use Rattle.cap_heap.specs.contracts.slot.Slot as slot
 use Rattle.cap_heap.specs.contracts.slot.Slot.TheInside as inside

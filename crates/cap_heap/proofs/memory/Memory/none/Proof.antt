@@ -1,27 +1,18 @@
 -- `none` owns nothing. Assumes `Logic`.
 use Rattle.std.proofs.Common.{◌≡◌, [], ◌∷◌, refl, lit<}
-use mir.Syntax.{Fn}
-use mir.Val.{Val}
-use base.Logic.{SProp, emp}
-use base.Fml.{ftrue}
-use contract.Monad.{fact, fact_i}
-use contract.Running.{tables}
 use types.Kit.{‵, raw, ◌⊛◌, ◌$◌, ◌∵◌, !, qed, by, move, drop, use0, use1, split}
 use types.Part.{agg}
 use types.Run.{lit, no_more, and_then, returns, enter}
 use types.ByLocal.{alloc_all, pass_all, free_all, look_at, sets}
-use denote.RattleType.{owns}
-use denote.RawPtr.{null_ptr}
-use denote.Signature.{types_at}
-use denote.Steps.{nothing}
-use denote.Triple.Entry.{alive}
-use denote.Triple.Walked.{Stays, walk_of}
 use Rattle.std.proofs.raw_atomic.Walks.{proved_at, leaves}
-use Rattle.cap_heap.proofs.Blocks.{memory_val, memory_made}
+use Rattle.cap_heap.specs.contracts.memory.Memory.none.{ended, clauses, Key.name as #self}
+use Rattle.cap_heap.proofs.{Blocks.memory_val, Blocks.memory_made, memory.Memory.none.Statement.statement}
+use denote.Triple.{Entry.alive, Walked.Stays, Walked.walk_of}
+use denote.{RattleType.owns, RawPtr.null_ptr, Signature.types_at, Steps.nothing}
+use mir.{Syntax.Fn, Val.Val}
+use contract.{Monad.fact, Monad.fact_i, Running.tables}
+use base.{Logic.SProp, Logic.emp, Fml.ftrue}
 use Rattle.cap_heap.specs.contracts.memory.Memory as memory
-use Rattle.cap_heap.specs.contracts.memory.Memory.none.{ended, clauses}
-use Rattle.cap_heap.specs.contracts.memory.Memory.none.Key.{name as #self}
-use Rattle.cap_heap.proofs.memory.Memory.none.Statement.{statement}
 use Rattle.cap_heap.proofs.memory.Memory.none.Code as compiled
 
 pub none_spec : {M : Type 1} → statement M

@@ -7,35 +7,24 @@ use base.Logic.{SProp, ent, id⊢}
 use base.Fml.{froom}
 use prog.Memory.{size, align, capped}
 use prog.Wp.{Env, WpFn}
-use contract.Monad.{fact}
-use contract.Running.{tables}
 use types.Kit.{‵, raw, ◌⊛◌, some, later, prop, at_ret, ◌$◌, ◌∵◌, !, qed, by, move, drop, use0, use1, split, join, pick, regoal, fjoin, await}
 use types.Part.{whole, sub, agg}
 use types.Match.{vrt, in_variant}
 use types.Run.{stop, fld, lit, of_opd, no_more, and_then, first, switches_on, exec, returns, enter}
 use types.ByLocal.{alloc_all, pass_all, free_all, look_at, get, get_in, get_tag, sets, sets_last, lands_as, env}
-use denote.RattleType.{owns}
-use denote.RawPtr.{Ptr, block_ptr}
-use denote.Signature.{types_at}
-use denote.Steps.{nothing, heard}
-use denote.Triple.Call.{calls_from}
-use denote.Triple.Entry.{alive}
-use denote.Triple.Spec.{triple_of}
-use denote.Triple.Clauses.{Lasts, lasts}
 use denote.Triple.Walked.{Stays, stay_dropped, walk_of, Goes-dropped}
 use Rattle.std.proofs.alloc.Calls.{Answer, answer_val, Answer-Ok, Answer-err}
 use Rattle.std.proofs.VecSteps.Shapes.{after, head, arm_body}
-use denote.Triple.Table.{framed}
 use Rattle.std.proofs.raw_atomic.Walks.{proved_at, leaves}
 use Rattle.bumpalo.proofs.Walks.{slot_at, then_runs}
-use Rattle.cap_heap.specs.Lending.{block_token}
 use Rattle.cap_heap.proofs.Blocks.{Taken, Told, taken, hands_out}
+use Rattle.cap_heap.specs.contracts.region.RegionAllocator.allocate.{ended, clauses, Key.name as #self}
+use contract.{Monad.fact, Running.tables}
+use denote.Triple.{Clauses.Lasts, Clauses.lasts, Call.calls_from, Entry.alive, Spec.triple_of, Table.framed}
+use Rattle.cap_heap.{specs.Lending.block_token, proofs.region.Region.take.Met.met as takes, proofs.region.RegionAllocator.allocate.Statement.statement}
+use denote.{RawPtr.Ptr, RawPtr.block_ptr, Steps.nothing, Steps.heard, RattleType.owns, Signature.types_at}
 use Rattle.cap_heap.specs.contracts.region.Region.take as callee
 use Rattle.cap_heap.specs.contracts.region.Region.take.Key as take_key
-use Rattle.cap_heap.proofs.region.Region.take.Met.{met as takes}
-use Rattle.cap_heap.specs.contracts.region.RegionAllocator.allocate.{ended, clauses}
-use Rattle.cap_heap.specs.contracts.region.RegionAllocator.allocate.Key.{name as #self}
-use Rattle.cap_heap.proofs.region.RegionAllocator.allocate.Statement.{statement}
 use Rattle.cap_heap.proofs.region.RegionAllocator.allocate.Code as compiled
 
 pub allocate_spec : {M : Type 1} → statement M

@@ -6,40 +6,26 @@ use base.Logic.{SProp, emp, id⊢, apply∗}
 use base.Fml.{Lft, ftrue, fwand}
 use prog.Memory.{size, align, capped}
 use prog.Wp.{Env, WpFn}
-use contract.Monad.{fact, fact_i}
-use contract.Running.{tables}
-use types.Logic.{sem}
 use types.Kit.{‵, raw, ◌⊛◌, some, later, prop, ◌$◌, ◌∵◌, !, qed, by, move, keep, drop, use0, use1, use2, split, split3, join, pick, rewrite, regoal, fsplit}
 use types.Kit.{fjoin, fpick, feq_l, flt_l, feq_i, await}
-use types.Part.{agg}
 use types.Run.{unit_lit, of_opd, no_more, and_then, returns, enter}
 use types.ByLocal.{alloc_all, pass_all, free_all, look_at, get, sets, lands_as, env}
-use denote.RattleType.{owns}
-use denote.Builtin.{usize, unit}
-use denote.Opens.{shr_dup}
 use denote.RawPtr.{Ptr, block_ptr, ptr_val, room_for, in_a_block}
-use denote.Signature.{types_at}
 use denote.Steps.{nothing, only, heard}
-use denote.Triple.Call.{calls_at}
-use denote.Triple.Entry.{alive}
-use denote.Triple.Spec.{triple_of}
-use denote.Triple.Clauses.{Lasts, lasts}
-use denote.Triple.Table.{framed}
 use denote.Triple.Walked.{Stays, stay_dropped, walk_of, Goes-dropped}
 use Rattle.std.proofs.raw_atomic.Walks.{proved_at, leaves}
 use Rattle.bumpalo.proofs.Walks.{slot_at}
-use Rattle.cap_heap.specs.Lending.{bytes_at, block_token}
-use Rattle.cap_heap.proofs.Blocks.{memory_val, memory_made}
+use Rattle.cap_heap.specs.contracts.region.RegionAllocator.deallocate.{ended, clauses, Key.name as #self}
+use Rattle.cap_heap.proofs.region.Region.{give.Met.met as gives, TheLaws.the_row_laws, size.Met.met as sizes}
+use Rattle.cap_heap.proofs.{Blocks.memory_val, Blocks.memory_made, region.RegionAllocator.deallocate.Statement.statement}
+use Rattle.cap_heap.specs.{Lending.bytes_at, Lending.block_token, contracts.region.Region.the_row as Region}
+use types.{Logic.sem, Part.agg}
+use denote.Triple.{Clauses.Lasts, Clauses.lasts, Call.calls_at, Entry.alive, Spec.triple_of, Table.framed}
+use contract.{Monad.fact, Monad.fact_i, Running.tables}
+use denote.{Builtin.usize, Builtin.unit, Signature.types_at, RattleType.owns, Opens.shr_dup}
 use Rattle.cap_heap.specs.contracts.memory.Memory as memory
-use Rattle.cap_heap.specs.contracts.region.Region.{the_row as Region}
-use Rattle.cap_heap.proofs.region.Region.TheLaws.{the_row_laws}
 use Rattle.cap_heap.specs.contracts.region.Region.size as sizer
-use Rattle.cap_heap.proofs.region.Region.size.Met.{met as sizes}
 use Rattle.cap_heap.specs.contracts.region.Region.give as giver
-use Rattle.cap_heap.proofs.region.Region.give.Met.{met as gives}
-use Rattle.cap_heap.specs.contracts.region.RegionAllocator.deallocate.{ended, clauses}
-use Rattle.cap_heap.specs.contracts.region.RegionAllocator.deallocate.Key.{name as #self}
-use Rattle.cap_heap.proofs.region.RegionAllocator.deallocate.Statement.{statement}
 use Rattle.cap_heap.proofs.region.RegionAllocator.deallocate.Code as compiled
 
 pub deallocate_spec : {M : Type 1} → statement M

@@ -1,14 +1,11 @@
 -- A `&` to a slot borrows all of it, and the thread's token opens the borrow. Assumes `Logic`.
 use Rattle.std.proofs.Common.{[], ◌∷◌}
-use base.Fraction.{full_share}
-use base.Fml.{fbor}
-use types.Logic.{lfts}
 use types.Kit.{‵, raw, later, ◌$◌, ◌∵◌, !, qed, use1, await, updating, now, done}
-use types.Na.{na_bor, bor_na}
-use denote.Memory.{part_at, part_of}
-use denote.Hidden.{guarded_shr_laws}
-use Rattle.cap_heap.specs.contracts.slot.Slot as slot
 use Rattle.cap_heap.proofs.slot.Slot.TheLaw.Statement.{statement}
+use base.{Fraction.full_share, Fml.fbor}
+use types.{Logic.lfts, Na.na_bor, Na.bor_na}
+use denote.{Memory.part_at, Memory.part_of, Hidden.guarded_shr_laws}
+use Rattle.cap_heap.specs.contracts.slot.Slot as slot
 
 pub shares : statement
 unfolding part_of

@@ -1,31 +1,19 @@
 -- `into_inner` unwraps the memory. Assumes `Logic`.
 use Rattle.std.proofs.Common.{List, [], ◌∷◌, ◌++◌, refl}
-use mir.Syntax.{Fn}
-use mir.Val.{Val}
-use base.Logic.{SProp, emp}
-use base.Fml.{ftrue}
 use prog.Wp.{WpFn}
-use contract.Monad.{fact, fact_i}
-use contract.Running.{tables}
 use types.Kit.{‵, raw, ◌⊛◌, prop, ◌$◌, ◌∵◌, !, qed, by, move, drop, use0, split, regoal, fsplit, fjoin}
 use types.Part.{whole, sub}
 use types.Run.{stop, fld, of_opd, returns, enter}
 use types.ByLocal.{alloc_all, pass_all, free_all, look_at, get, get_in, sets}
-use denote.RattleType.{owns}
-use denote.Signature.{types_at}
-use denote.Steps.{nothing}
-use denote.Triple.Entry.{alive}
 use denote.Triple.Walked.{Stays, stay_dropped, walk_of}
-use Rattle.std.proofs.ResultValues.{and_tt}
-use Rattle.std.proofs.alloc.Calls.{Goes-blank}
-use Rattle.std.proofs.cell.Inside.{round}
-use Rattle.std.proofs.raw_atomic.Walks.{proved_at, leaves}
 use Rattle.bumpalo.proofs.Walks.{slot_at}
-use Rattle.cap_heap.specs.Lending.{IsGivenBack}
-use Rattle.cap_heap.proofs.Slots.{contents_out}
-use Rattle.cap_heap.specs.contracts.slot.Slot.into_inner.{ended, clauses}
-use Rattle.cap_heap.specs.contracts.slot.Slot.into_inner.Key.{name as #self}
-use Rattle.cap_heap.proofs.slot.Slot.into_inner.Statement.{statement}
+use Rattle.cap_heap.specs.contracts.slot.Slot.into_inner.{ended, clauses, Key.name as #self}
+use Rattle.cap_heap.{specs.Lending.IsGivenBack, proofs.Slots.contents_out, proofs.slot.Slot.into_inner.Statement.statement}
+use denote.{RattleType.owns, Signature.types_at, Steps.nothing, Triple.Entry.alive}
+use mir.{Syntax.Fn, Val.Val}
+use contract.{Monad.fact, Monad.fact_i, Running.tables}
+use Rattle.std.proofs.{raw_atomic.Walks.proved_at, raw_atomic.Walks.leaves, cell.Inside.round, ResultValues.and_tt, alloc.Calls.Goes-blank}
+use base.{Logic.SProp, Logic.emp, Fml.ftrue}
 use Rattle.cap_heap.proofs.slot.Slot.into_inner.Code as compiled
 
 pub into_inner_spec : {M : Type 1} → statement M

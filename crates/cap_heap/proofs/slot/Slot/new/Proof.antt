@@ -1,35 +1,20 @@
 -- `new` wraps the memory. Assumes `Logic`.
 use Rattle.std.proofs.Common.{◌≡◌, List, [], ◌∷◌, ◌++◌, refl}
-use mir.Syntax.{Fn}
-use mir.Val.{Val}
-use base.Logic.{SProp, emp}
-use base.Fml.{ftrue}
 use prog.Wp.{WpFn}
-use contract.Monad.{fact, fact_i}
-use contract.Running.{tables}
 use types.Kit.{‵, raw, ◌⊛◌, prop, ◌$◌, ◌∵◌, !, qed, by, move, drop, use0, split, rewrite, regoal, fsplit, fjoin, fpack}
 use types.Part.{agg}
 use types.Run.{no_more, and_then, returns, enter}
 use types.ByLocal.{alloc_all, pass_all, free_all, look_at, get, sets}
-use denote.Exit.{rest, yes}
-use denote.RattleType.{owns}
-use denote.Laws.{Typed}
-use denote.Param.{layout}
-use denote.Signature.{types_at}
-use denote.Steps.{nothing}
-use denote.Triple.Entry.{alive}
 use denote.Triple.Walked.{Stays, stay_dropped, walk_of}
-use Rattle.std.proofs.ResultValues.{and_tt}
-use Rattle.std.proofs.alloc.Calls.{Goes-blank}
-use Rattle.std.proofs.cell.Inside.{one, round}
-use Rattle.std.proofs.raw_atomic.Walks.{proved_at, leaves}
 use Rattle.bumpalo.proofs.Walks.{slot_at}
-use Rattle.cap_heap.proofs.Slots.{Fields, contents_in}
+use Rattle.cap_heap.specs.contracts.slot.Slot.new.{ended, clauses, Key.name as #self}
+use Rattle.cap_heap.proofs.{Slots.Fields, Slots.contents_in, memory.Memory.TheLaws.the_row_laws, slot.Slot.new.Statement.statement}
+use mir.{Syntax.Fn, Val.Val}
+use contract.{Monad.fact, Monad.fact_i, Running.tables}
+use denote.{Exit.rest, Exit.yes, Steps.nothing, Triple.Entry.alive, RattleType.owns, Laws.Typed, Param.layout, Signature.types_at}
+use Rattle.std.proofs.{raw_atomic.Walks.proved_at, raw_atomic.Walks.leaves, cell.Inside.one, cell.Inside.round, ResultValues.and_tt, alloc.Calls.Goes-blank}
+use base.{Logic.SProp, Logic.emp, Fml.ftrue}
 use Rattle.cap_heap.specs.contracts.memory.Memory as memory
-use Rattle.cap_heap.proofs.memory.Memory.TheLaws.{the_row_laws}
-use Rattle.cap_heap.specs.contracts.slot.Slot.new.{ended, clauses}
-use Rattle.cap_heap.specs.contracts.slot.Slot.new.Key.{name as #self}
-use Rattle.cap_heap.proofs.slot.Slot.new.Statement.{statement}
 use Rattle.cap_heap.proofs.slot.Slot.new.Code as compiled
 
 pub new_spec : {M : Type 1} → statement M

@@ -1,37 +1,23 @@
 -- `replace` opens the slot with the thread's token, reads it, writes it and closes it. Assumes `Logic`.
 use Rattle.std.proofs.Common.{ℕ, List, [], ◌∷◌, ◌++◌, refl}
-use mir.Syntax.{Fn}
-use mir.Val.{Val, vptr}
-use base.Logic.{SProp, emp}
 use base.Fml.{Lft, Share, ftrue, flft, ftok}
-use base.Mask.{every}
 use prog.Wp.{Env, WpFn}
 use contract.Monad.{fact, fact_i}
 use types.Kit.{‵, raw, ◌⊛◌, prop, at_ret, ◌$◌, ◌∵◌, !, qed, by, move, keep, use0, split, join, rewrite, regoal, fsplit, fsplit3, fjoin}
 use types.Part.{whole, sub, look_in, store_in}
 use types.Run.{stop, fld, load, addr, of_opd, assigns, first, blocks, exec, returns, enter}
 use types.ByLocal.{alloc_all, pass_all, free_all, look_at, get, through, sets, sets_last, env}
-use denote.Exit.{rest, yes}
-use denote.RattleType.{owns}
-use denote.RawPtr.{Ptr}
-use denote.Param.{layout}
-use denote.Signature.{types_at}
-use denote.Steps.{nothing, heard}
 use denote.Triple.Walked.{Stays, stay_dropped, walk_of, Goes-dropped}
-use Rattle.std.proofs.VecSteps.Shapes.{after}
-use Rattle.std.proofs.alloc.Calls.{Goes-blank}
-use Rattle.std.proofs.cell.Inside.{one}
-use Rattle.std.proofs.raw_atomic.Walks.{leaves}
 use Rattle.bumpalo.proofs.Walks.{slot_at, with_token, proved_with_token}
-use Rattle.cap_heap.specs.Lending.{IsGivenBack}
-use Rattle.cap_heap.proofs.Slots.{opens_slot, shuts_slot}
+use Rattle.cap_heap.specs.contracts.slot.Slot.replace.{ended, clauses, Key.name as #self}
+use Rattle.cap_heap.proofs.slot.Slot.replace.{Statement.statement, Code.code}
+use Rattle.std.proofs.{VecSteps.Shapes.after, alloc.Calls.Goes-blank, cell.Inside.one, raw_atomic.Walks.leaves}
+use Rattle.cap_heap.{specs.Lending.IsGivenBack, proofs.Slots.opens_slot, proofs.Slots.shuts_slot, proofs.memory.Memory.TheLaws.the_row_laws}
+use denote.{Steps.nothing, Steps.heard, Exit.rest, Exit.yes, RattleType.owns, RawPtr.Ptr, Param.layout, Signature.types_at}
+use mir.{Syntax.Fn, Val.Val, Val.vptr}
+use base.{Logic.SProp, Logic.emp, Mask.every}
 use Rattle.cap_heap.specs.contracts.memory.Memory as memory
-use Rattle.cap_heap.proofs.memory.Memory.TheLaws.{the_row_laws}
-use Rattle.cap_heap.specs.contracts.slot.Slot.replace.{ended, clauses}
-use Rattle.cap_heap.specs.contracts.slot.Slot.replace.Key.{name as #self}
-use Rattle.cap_heap.proofs.slot.Slot.replace.Statement.{statement}
 use Rattle.cap_heap.proofs.slot.Slot.replace.Code as compiled
-use Rattle.cap_heap.proofs.slot.Slot.replace.Code.{code}
 
 pub replace_spec : {M : Type 1} → statement M
 unfolding code
