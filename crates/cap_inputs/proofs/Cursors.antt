@@ -1,13 +1,15 @@
 -- Lemmas on one input among others: how it is found, and how it alone changes.
-use Rattle.cap_inputs.proofs.Common.{◌≡◌, ℕ, zero, suc, ◌+◌, ◌<◌, List, [], ◌∷◌, ◌++◌, length, max, Some, refl, sym, ◌∙◌, ap, subst, arith, get_or, Bool, true}
-use Rattle.cap_inputs.proofs.Common.{false, Result, Ok, append-nil, length-append, Placed, slice_set, Fault, Advances, slice_get, AllByRecursion, PacketOrder}
-use Rattle.cap_inputs.proofs.Common.{SectionFits, TakesIfAtHand, SkipsUnits, Phase, Reading, SourceView, Steps, end_offset, phase_after, Schedule, Turn, Merge}
-use Rattle.cap_inputs.proofs.Common.{ordering_of, schedule_after, schedule_after_decided, device_limits, limits_of, InputView, InputsView, InputPast}
-use Rattle.cap_inputs.proofs.Common.{AreInputsAfter, KnowGreatest, IsInput, ReadsInput, ReadSteps, greatest_of, input_after, input_after_decided, map, InTurn}
-use Rattle.cap_inputs.proofs.Common.{ByTime, order_of, first_schedule, FreshInput, fresh_view, fresh_inputs}
-use Rattle.std.proofs.lemmas.Option.{slice_get_read}
-use Rattle.cap_octet.specs.Packet.{Captured}
-use Rattle.cap_io.specs.Position.{given_in_all}
+use Rattle.std.proofs.Common.{◌≡◌, ℕ, zero, suc, ◌+◌, ◌<◌, List, [], ◌∷◌, ◌++◌, length, max, Some, refl, sym, ◌∙◌, ap, subst, arith, get_or, Bool, true, false}
+use Rattle.std.proofs.Common.{Result, Ok, map}
+use Rattle.std.specs.List.{slice_set, slice_get, AllByRecursion}
+use Rattle.cap_inputs.proofs.Common.{Fault, PacketOrder, Schedule, Turn, Merge, ordering_of, InputView, InTurn, ByTime, order_of, fresh_view, fresh_inputs}
+use Rattle.cap_io.specs.Source.{Advances, SectionFits, TakesIfAtHand, SkipsUnits, Phase, Reading, SourceView, Steps, end_offset, phase_after}
+use Rattle.cap_inputs.specs.inside.Cursor.{schedule_after, schedule_after_decided, first_schedule}
+use Rattle.cap_inputs.specs.Inputs.{device_limits, limits_of, InputsView, InputPast, AreInputsAfter, KnowGreatest, IsInput, ReadsInput, ReadSteps, greatest_of}
+use Rattle.cap_inputs.specs.Inputs.{input_after, input_after_decided}
+use Rattle.cap_octet.specs.{Views.FreshInput, Packet.Captured}
+use Rattle.std.proofs.lemmas.{List.append-nil, List.length-append, Option.slice_get_read}
+use Rattle.cap_io.specs.{Capture.Placed, Position.given_in_all}
 
 -- ---- each of some
 

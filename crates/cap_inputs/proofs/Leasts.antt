@@ -1,15 +1,14 @@
 -- The queue of a merge gives the packet with the least key.
-use Rattle.std.specs.List.{sum_by}
-use Rattle.std.proofs.Common.{length-append}
-use Rattle.std.proofs.lemmas.Bool.{and_parts, eqb-true}
-use Rattle.std.proofs.lemmas.List.{Elements.All-cons, Elements.All-nil, Elements.All-tail, Sums.sum_by-cons, Sorted.sum_by-IsPermutation}
-use Rattle.cap_inputs.specs.Queue.{Queue}
-use Rattle.cap_inputs.proofs.Common.{◌≡◌, ◌≢◌, ℕ, zero, suc, ◌+◌, ◌<◌, ◌≤◌, inl, inr, ◌&&◌, ◌||◌, Bool, true, false, IsTrue, if◌then◌else◌, List, [], ◌∷◌, ◌++◌}
-use Rattle.cap_inputs.proofs.Common.{length, Option, None, Some, Result, Ok, refl, sym, ◌∙◌, ap, map, arith, ◌==◌, nat_lt, add-zero, All, slice_set, nat_tests}
-use Rattle.cap_inputs.proofs.Common.{Waiting, Schedule, Turn, Merge, NotAfter, Precedes, IsFirstWaiting, is_entered, Fault, EntersQueue, HasPlaceFor}
-use Rattle.cap_inputs.proofs.Common.{HoldsQueue, IsQueued, Leaves, TakesFirst, is_merge, ordering_of, sum_waiting, InputView, IsInput, is_packet_found, key_of}
-use Rattle.cap_inputs.proofs.Common.{NoneWaits, IsLeast, KeysFrom, IsNextIn, Next, order_of}
+use Rattle.std.specs.List.{sum_by, All, slice_set}
+use Rattle.std.proofs.Common.{length-append, ◌≡◌, ◌≢◌, ℕ, zero, suc, ◌+◌, ◌<◌, ◌≤◌, inl, inr, ◌&&◌, ◌||◌, Bool, true, false, IsTrue, if◌then◌else◌, List, []}
+use Rattle.std.proofs.Common.{◌∷◌, ◌++◌, length, Option, None, Some, Result, Ok, refl, sym, ◌∙◌, ap, map, arith, ◌==◌, nat_lt, add-zero}
+use Rattle.cap_inputs.proofs.Common.{and_parts, eqb-true, Queue, nat_tests, Waiting, Schedule, Turn, Merge, Fault, ordering_of, InputView, Next, order_of}
+use Rattle.cap_inputs.specs.inside.Queue.{NotAfter, Precedes, IsFirstWaiting, is_entered}
+use Rattle.cap_inputs.specs.inside.Cursor.{EntersQueue, HasPlaceFor, HoldsQueue, IsQueued, Leaves, TakesFirst, is_merge, sum_waiting}
+use Rattle.cap_inputs.specs.Inputs.{IsInput, is_packet_found, key_of}
+use Rattle.cap_inputs.specs.inside.Inputs.{NoneWaits, IsLeast, KeysFrom, IsNextIn}
 use Rattle.cap_inputs.proofs.Cursors.{set-among}
+use Rattle.std.proofs.lemmas.List.{Elements.All-cons, Elements.All-nil, Elements.All-tail, Sums.sum_by-cons, Sorted.sum_by-IsPermutation}
 
 -- ---- sums
 

@@ -1,12 +1,14 @@
 -- The next action on the inputs is found by their number, their turn or the least key.
-use Rattle.std.proofs.{Math.Bool.or-true, lemmas.Bool.and_right, lemmas.List.Elements.All-from_recursion, lemmas.List.Folds.list_all-append}
-use Rattle.std.proofs.{lemmas.List.Folds.list_any-append, lemmas.List.Folds.list_any_none}
-use Rattle.cap_inputs.proofs.Common.{IsAtTurn, add-zero, append-nil, ◌≡◌, inl, inr, ◌&&◌, ◌||◌, if◌then◌else◌, ℕ, suc, ◌+◌, ◌<◌, ◌≤◌, Bool, true, false, not}
-use Rattle.cap_inputs.proofs.Common.{cond, nat_le, List, [], ◌∷◌, ◌++◌, length, refl, sym, ◌∙◌, ap, ap₂, arith, list_all, list_any, position_or_len, slice_get}
-use Rattle.cap_inputs.proofs.Common.{slice_get_past, AllByRecursion, nat_tests, Phase, Ended, PacketOrder, InTurn, ByTime, Next, InputView, InputsView, IsInput}
-use Rattle.cap_inputs.proofs.Common.{ended_count, has_least_key, is_open, is_unready, key_of, next_at, next_of, place_next, AllEnded, AllReady, IsNext}
-use Rattle.cap_inputs.proofs.Common.{IsNextIn, IsOpen, IsReady, KeysFrom}
+use Rattle.std.proofs.lemmas.List.Folds.{list_all-append, list_any-append, list_any_none}
+use Rattle.cap_inputs.specs.inside.Inputs.{IsAtTurn, AllEnded, AllReady, IsNext, IsNextIn, IsOpen, IsReady, KeysFrom}
+use Rattle.std.proofs.Common.{add-zero, ◌≡◌, inl, inr, ◌&&◌, ◌||◌, if◌then◌else◌, ℕ, suc, ◌+◌, ◌<◌, ◌≤◌, Bool, true, false, not, cond, nat_le, List, [], ◌∷◌}
+use Rattle.std.proofs.Common.{◌++◌, length, refl, sym, ◌∙◌, ap, ap₂, arith}
+use Rattle.std.specs.List.{list_all, list_any, position_or_len, slice_get, AllByRecursion}
+use Rattle.cap_inputs.proofs.Common.{nat_tests, PacketOrder, InTurn, ByTime, Next, InputView}
+use Rattle.cap_io.specs.Source.{Phase, Ended}
+use Rattle.cap_inputs.specs.Inputs.{InputsView, IsInput, ended_count, has_least_key, is_open, is_unready, key_of, next_at, next_of, place_next}
 use Rattle.cap_inputs.proofs.Cursors.{get-input, weaker}
+use Rattle.std.proofs.{Math.Bool.or-true, lemmas.List.Elements.All-from_recursion, lemmas.List.append-nil, lemmas.Bool.and_right, lemmas.Option.slice_get_past}
 
 -- ---- the first input for which a test is true
 

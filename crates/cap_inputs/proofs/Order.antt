@@ -1,10 +1,11 @@
 -- The packets of a merge, continued from the current ones, are in the order of the complete inputs.
-use Rattle.cap_inputs.proofs.Common.{AllByRecursion, ◌≡◌, ℕ, suc, ◌+◌, ◌<◌, ◌≤◌, true, false, max, List, [], ◌∷◌, ◌++◌, length, refl, sym, ◌∙◌, ap, arith}
-use Rattle.cap_inputs.proofs.Common.{add-zero, subst, append_assoc, Fault, Placed, Items, Ending, Packet, SequenceEnd, Complete, FaultIn, with_front}
-use Rattle.cap_inputs.proofs.Common.{InputItems, Entry, end_after, entries_of, all_entries, comes_before, insert_entry, sort_entries, sequence_of_entries}
-use Rattle.cap_inputs.proofs.Common.{first_end, fault_without_packets, unless_fault, sequence_by_time}
+use Rattle.std.proofs.Common.{◌≡◌, ℕ, suc, ◌+◌, ◌<◌, ◌≤◌, true, false, max, List, [], ◌∷◌, ◌++◌, length, refl, sym, ◌∙◌, ap, arith, add-zero, subst}
+use Rattle.cap_io.specs.Capture.{Placed, Items, Ending}
+use Rattle.cap_io.specs.Sequence.{Packet, SequenceEnd, Complete, FaultIn, with_front, InputItems, Entry, end_after, entries_of, all_entries, comes_before}
+use Rattle.cap_io.specs.Sequence.{insert_entry, sort_entries, sequence_of_entries, first_end, fault_without_packets, unless_fault, sequence_by_time}
 use Rattle.cap_io.proofs.Merging.{each-append, each-sorted}
-use Rattle.cap_inputs.proofs.Cursors.{weaker}
+use Rattle.cap_inputs.proofs.{Common.Fault, Cursors.weaker}
+use Rattle.std.{specs.List.AllByRecursion, proofs.lemmas.List.append_assoc}
 
 -- what all entries and the fault of inputs without packets have of one input
 abbrev input_entries : ℕ → InputItems → List Entry

@@ -1,14 +1,16 @@
 -- The schedule agrees with the inputs, and still does after each read and decision.
-use Rattle.std.proofs.lemmas.{Bool.cases_order, Option.slice_get_within}
-use Rattle.cap_inputs.proofs.Common.{◌≡◌, ◌≢◌, ◌⊎◌, inl, inr, ℕ, zero, suc, ◌+◌, ◌<◌, ◌≤◌, Bool, true, false, List, [], ◌∷◌, ◌++◌, length, map, Some, Result}
-use Rattle.cap_inputs.proofs.Common.{Ok, Err, refl, sym, ◌∙◌, ap, arith, slice_get, slice_set, AllByRecursion, Fault, Phase, Reading, Ended, Failed}
-use Rattle.cap_inputs.proofs.Common.{phase_after, Schedule, Turn, Merge, Next, ordering_of, EntersQueue, HoldsQueue, is_merge, ◌&&◌, key_of, EachAt, IsOfTurn}
-use Rattle.cap_inputs.proofs.Common.{IsOfMerge, IsNextAt, IsScheduled, first_schedule, schedule_after, schedule_after_decided, waits_at, PacketOrder, InTurn}
-use Rattle.cap_inputs.proofs.Common.{ByTime, InputView, IsInput, input_after_decided, is_packet_found, AllEnded, AllReady, IsAtTurn, IsNextIn, IsOpen, IsReady}
-use Rattle.cap_inputs.proofs.Common.{NoneWaits}
+use Rattle.std.proofs.Common.{◌≡◌, ◌≢◌, ◌⊎◌, inl, inr, ℕ, zero, suc, ◌+◌, ◌<◌, ◌≤◌, Bool, true, false, List, [], ◌∷◌, ◌++◌, length, map, Some, Result, Ok, Err}
+use Rattle.std.proofs.Common.{refl, sym, ◌∙◌, ap, arith, ◌&&◌}
+use Rattle.std.specs.List.{slice_get, slice_set, AllByRecursion}
+use Rattle.cap_inputs.proofs.Common.{Fault, Schedule, Turn, Merge, Next, ordering_of, PacketOrder, InTurn, ByTime, InputView, Queue}
+use Rattle.cap_io.specs.Source.{Phase, Reading, Ended, Failed, phase_after}
+use Rattle.cap_inputs.specs.inside.Cursor.{EntersQueue, HoldsQueue, is_merge, EachAt, IsOfTurn, IsOfMerge, IsNextAt, IsScheduled, first_schedule}
+use Rattle.cap_inputs.specs.inside.Cursor.{schedule_after, schedule_after_decided, waits_at}
+use Rattle.cap_inputs.specs.Inputs.{key_of, IsInput, input_after_decided, is_packet_found}
+use Rattle.cap_inputs.specs.inside.Inputs.{AllEnded, AllReady, IsAtTurn, IsNextIn, IsOpen, IsReady, NoneWaits}
 use Rattle.cap_inputs.proofs.Cursors.{get-input, input-at, same-input, schedule-order, set-among}
 use Rattle.cap_inputs.proofs.Leasts.{queue-read}
-use Rattle.cap_inputs.specs.Queue.{Queue}
+use Rattle.std.proofs.lemmas.{Bool.cases_order, Option.slice_get_within}
 
 -- ---- of each, and of each by its index
 

@@ -1,10 +1,10 @@
 -- The entry that the heap returns comes before those that remain.
-use Rattle.cap_inputs.proofs.Common.{◌≡◌, ◌≢◌, ℕ, zero, suc, ◌<◌, inl, inr, false, IsTrue, length, get_or, nat_eq, List, [], ◌∷◌, map, sym, ap, ◌∙◌, arith, All}
-use Rattle.cap_inputs.proofs.Common.{AllByRecursion, IsPermutation, IsUpperBound, lt_by_cmp, Reverse, IsPermutation-map, nat_tests, cases_order, Waiting}
-use Rattle.cap_inputs.proofs.Common.{Precedes, NotAfter, inputs_of, IsOnceEach, IsFirstWaiting, is_entered}
-use Rattle.std.specs.List.{IsDistinct}
-use Rattle.std.specs.{Ordering.is_lt, Ordering.nat_cmp, Ordering.ordering_then, declared.cmp.Ordering.Ordering}
-use Rattle.std.proofs.lemmas.Map.Keys.{IsDistinct-IsPermutation, IsDistinct-cons}
+use Rattle.std.proofs.Common.{◌≡◌, ◌≢◌, ℕ, zero, suc, ◌<◌, inl, inr, false, IsTrue, length, get_or, nat_eq, List, [], ◌∷◌, map, sym, ap, ◌∙◌, arith}
+use Rattle.cap_inputs.proofs.Common.{Reverse, IsPermutation-map, nat_tests, Waiting}
+use Rattle.cap_inputs.specs.inside.Queue.{Precedes, NotAfter, inputs_of, IsOnceEach, IsFirstWaiting, is_entered}
+use Rattle.std.specs.List.{All, AllByRecursion, IsDistinct, Sorted.IsPermutation}
+use Rattle.std.proofs.lemmas.{Bool.cases_order, Map.Keys.IsDistinct-IsPermutation, Map.Keys.IsDistinct-cons}
+use Rattle.std.specs.{Ordering.is_lt, Ordering.nat_cmp, Ordering.ordering_then, BinaryHeap.IsUpperBound, BinaryHeap.lt_by_cmp, declared.cmp.Ordering.Ordering}
 
 -- the order of time, then number
 abbrev pub time_then_input : Waiting → Waiting → Ordering

@@ -1,7 +1,7 @@
 -- Units that hold packets and end cleanly read back as these packets.
-use Rattle.cap_io.proofs.Common.{arith, ◌≡◌, ℕ, ◌+◌, List, [], ◌∷◌, ◌++◌, length, map, None, refl, sym, ap, ap₂, ◌∙◌, append_assoc, append-nil, map-append}
-use Rattle.cap_io.proofs.Common.{AllByRecursion, Captured, Declared, Nothing, IsUnit, Placed, placed_at, AreUnits, no_unit, unit_then, NoUnit, front_of}
-use Rattle.cap_io.proofs.Common.{End, items, after_packets, ReadsBack}
+use Rattle.cap_io.proofs.Common.{arith, append_assoc, append-nil, map-append, AllByRecursion, Captured, Declared, ReadsBack}
+use Rattle.std.proofs.Common.{◌≡◌, ℕ, ◌+◌, List, [], ◌∷◌, ◌++◌, length, map, None, refl, sym, ap, ap₂, ◌∙◌}
+use Rattle.cap_io.specs.Capture.{Nothing, IsUnit, Placed, placed_at, AreUnits, no_unit, unit_then, NoUnit, front_of, End, items, after_packets}
 use Rattle.cap_io.proofs.Cuts.{items_from-units, items_from-stops}
 
 -- what is declared, from a place on

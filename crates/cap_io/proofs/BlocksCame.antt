@@ -1,14 +1,16 @@
 -- The effect of reading a block, from one read of the device to the next.
-use Rattle.cap_io.proofs.Common.{◌≡◌, ℕ, true, ◌+◌, ◌<◌, ◌≤◌, ◌⊎◌, inl, inr, List, [], ◌∷◌, ◌++◌, length, take, drop, Option, Some, None, Result, Ok, Err, refl}
-use Rattle.cap_io.proofs.Common.{rules, sym, ap, ◌∙◌, subst, arith, unwrap_or, length-append, length-take-le, drop_at, drop-drop, take-append-drop, checked}
-use Rattle.cap_io.proofs.Common.{first_failing, Captured, Fault, NoMemory, ReadFailed, Order, checked_ok, checked_err, block_checks, parts_in, frame_checks}
-use Rattle.cap_io.proofs.Common.{frame_fault, frame_in, most_block, Described, IsBlock, Section, block_size, frame_after, interfaces_before, order_before}
-use Rattle.cap_io.proofs.Common.{packets_in, parts_after, section_after, unit_fault, passes, frame_checks-append, frame_in-append, unit_fault-frame}
-use Rattle.cap_io.proofs.Common.{unit_fault-short, unit_fault-block, unit_fault-among, parts_in-append, block_checks-append, Frame, Enters, held_packet}
-use Rattle.cap_io.proofs.Common.{section_of, AddsInterface, IsBlockFault, IsEntryFault, most_in_unit, block_length, RestMissing, span_bytes, is_interface}
-use Rattle.cap_io.proofs.Common.{PacketSpans}
+use Rattle.std.proofs.Common.{◌≡◌, ℕ, true, ◌+◌, ◌<◌, ◌≤◌, ◌⊎◌, inl, inr, List, [], ◌∷◌, ◌++◌, length, take, drop, Option, Some, None, Result, Ok, Err, refl}
+use Rattle.std.proofs.Common.{rules, sym, ap, ◌∙◌, subst, unwrap_or}
+use Rattle.cap_io.proofs.Common.{arith, length-append, length-take-le, drop_at, drop-drop, take-append-drop, checked, first_failing, Captured, Fault, NoMemory}
+use Rattle.cap_io.proofs.Common.{ReadFailed, Order, checked_ok, checked_err, Described, block_size, Frame, AddsInterface, IsEntryFault, PacketSpans}
+use Rattle.cap_pcapng.specs.Unit.{IsBlock, Section, frame_after, interfaces_before, order_before, packets_in, parts_after, section_after, unit_fault}
+use Rattle.cap_pcapng.proofs.Units.{passes, frame_checks-append, frame_in-append, unit_fault-frame, unit_fault-short, unit_fault-block, unit_fault-among}
+use Rattle.cap_pcapng.proofs.Units.{parts_in-append, block_checks-append}
+use Rattle.cap_pcapng.specs.Effect.{Enters, held_packet, section_of, IsBlockFault, span_bytes, is_interface}
 use Rattle.cap_io.proofs.Fronts.{decisive_block_length, length_by_header-whole}
 use Rattle.cap_io.proofs.OwnFaults.{entry-not_failed, own-frame, own-not_failed, own-not_memory}
+use Rattle.cap_io.specs.{Reading.most_in_unit, Reading.block_length, inside.Reading.RestMissing}
+use Rattle.cap_pcapng.specs.{Block.block_checks, Block.parts_in, Frame.frame_checks, Frame.frame_fault, Frame.frame_in, Frame.most_block}
 
 -- ---- what was read
 

@@ -1,16 +1,19 @@
 -- The effect of reading a unit, from one read of the device to the next.
-use Rattle.cap_io.proofs.Common.{◌≡◌, ℕ, Bool, IsTrue, IfOk, IfErr, ◌+◌, ◌<◌, ◌≤◌, inl, inr, List, [], ◌++◌, length, take, drop, Option, Some, None, is_some}
-use Rattle.cap_io.proofs.Common.{unwrap_or, true, false, Result, Ok, Err, refl, sym, subst, ap, ap₂, ◌∙◌, arith, take_all, length-append, take-append-drop}
-use Rattle.cap_io.proofs.Common.{drop_at, drop-drop, append_assoc, append-nil, TakesFull, checked, first_failing, Fault, NotACaptureFile, ReadFailed}
-use Rattle.cap_io.proofs.Common.{NoMemory, checked_ok, checked_err, Head, RecordHead, form_in, header_fault, header_in, captured_len, field_checks}
-use Rattle.cap_io.proofs.Common.{record_header_in, record_size, record_packet, form_in-append, header_fault-append, header_fault-no_magic, header_fault-short}
-use Rattle.cap_io.proofs.Common.{field_checks-append, record_header_in-append, captured_len-append, record_fault-fields, record_fault-short, IsRecord-came}
-use Rattle.cap_io.proofs.Common.{is_section, Declared, Nothing, PcapFile, Front, a_pcap_record, front_of, is_pcapng, most_in_unit, most_taken, stated_length}
-use Rattle.cap_io.proofs.Common.{decisive_length, IsTaken, TakesMemory, NoUnitCame, RestMissing, HeaderCame, PacketCame}
+use Rattle.std.proofs.Common.{◌≡◌, ℕ, Bool, IsTrue, IfOk, IfErr, ◌+◌, ◌<◌, ◌≤◌, inl, inr, List, [], ◌++◌, length, take, drop, Option, Some, None, is_some}
+use Rattle.std.proofs.Common.{unwrap_or, true, false, Result, Ok, Err, refl, sym, subst, ap, ap₂, ◌∙◌, length-drop}
+use Rattle.cap_io.proofs.Common.{arith, length-append, take-append-drop, drop_at, drop-drop, append_assoc, append-nil, TakesFull, checked, first_failing, Fault}
+use Rattle.cap_io.proofs.Common.{NotACaptureFile, ReadFailed, NoMemory, checked_ok, checked_err, Head, RecordHead, form_in, header_fault, header_in, is_section}
+use Rattle.cap_io.proofs.Common.{Declared, PacketCame}
+use Rattle.cap_pcap.specs.Record.{captured_len, field_checks, record_header_in, record_size, record_packet}
+use Rattle.cap_pcap.proofs.Headers.{form_in-append, header_fault-append, header_fault-no_magic, header_fault-short}
+use Rattle.cap_pcap.proofs.Records.{field_checks-append, record_header_in-append, captured_len-append, record_fault-fields, record_fault-short, IsRecord-came}
+use Rattle.cap_io.specs.Capture.{Nothing, PcapFile, Front, a_pcap_record, front_of, is_pcapng}
+use Rattle.cap_io.specs.Reading.{most_in_unit, most_taken, stated_length, decisive_length, IsTaken, TakesMemory}
+use Rattle.cap_io.specs.inside.Reading.{NoUnitCame, RestMissing, HeaderCame}
 use Rattle.cap_io.proofs.Fronts.{front_of-no_header, front_of-no_record, front_of-pcapng, is_section-append, is_pcapng-append, most_taken-block}
 use Rattle.cap_io.proofs.Fronts.{most_taken-header, most_taken-record, most_taken-front, length_by_header-whole, decisive_length-header}
 use Rattle.cap_io.proofs.OwnFaults.{own-fields, own-header, own-not_failed, own-not_memory}
-use Rattle.std.proofs.{Common.length-drop, Math.ListN.drop_of_length-le}
+use Rattle.std.proofs.{lemmas.List.take_all, Math.ListN.drop_of_length-le}
 use Rattle.cap_pcapng.proofs.Units as block
 
 -- bytes that were read, and some more after them

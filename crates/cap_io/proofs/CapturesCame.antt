@@ -1,20 +1,20 @@
 -- The effect of reading the units of a capture of any format.
 use Rattle.cap_io.proofs.BlocksCame.{BlockCame, BlockMissing, Describes}
 use Rattle.cap_io.proofs.Came.{Taken-following, most_taken-file}
-use Rattle.cap_io.proofs.Common.{◌≡◌, ℕ, ◌+◌, ◌<◌, ◌≤◌, ◌^◌, IsTrue, Result, Ok, Err, inl, inr, true, List, [], ◌∷◌, ◌++◌, length, take, Option, rules, Some}
-use Rattle.cap_io.proofs.Common.{None, is_some, refl, sym, ap, ◌∙◌, subst, arith, unwrap_or, option_to_list, length-append, length-take-le, Captured, Fault}
-use Rattle.cap_io.proofs.Common.{Truncated, Order, Head, Parts, SectionParts, frame_in, is_section, order_in, Described, FitSection}
-use Rattle.cap_io.proofs.Common.{IsBlock, Section, interfaces_before, order_before, packet_by, packets_in, parts_after, section_after, section_by, unit_fault}
-use Rattle.cap_io.proofs.Common.{passes, unit_fault-few, Frame, PacketSpans, FileState, Enters, KnowsIfAny, held_packet, section_of, Declared, Nothing}
-use Rattle.cap_io.proofs.Common.{PcapFile, PcapngFile, Front, IsUnit, a_pcap_header, a_first_block, a_block, file_after, first_link_after, front_of, is_pcapng}
-use Rattle.cap_io.proofs.Common.{TakesMemory, declared_by, NoMemory, most_in_unit, read_failures, most_taken, packet_in_unit, decisive_length, block_length}
-use Rattle.cap_io.proofs.Common.{BeginsBlock, FrontMissing, HasInterface, HeaderCame, IsConsistent, PacketCame, ReadsUnit, NoUnitCame, RestMissing, UnitPassed}
-use Rattle.cap_io.proofs.Common.{known_first_link, known_order, section_before, unit_size, span_bytes}
+use Rattle.std.proofs.Common.{◌≡◌, ℕ, ◌+◌, ◌<◌, ◌≤◌, ◌^◌, IsTrue, Result, Ok, Err, inl, inr, true, List, [], ◌∷◌, ◌++◌, length, take, Option, rules, Some, None}
+use Rattle.std.proofs.Common.{is_some, refl, sym, ap, ◌∙◌, subst, unwrap_or}
+use Rattle.cap_io.proofs.Common.{arith, option_to_list, length-append, length-take-le, Captured, Fault, Truncated, Order, Head, is_section, Described, Frame}
+use Rattle.cap_io.proofs.Common.{PacketSpans, FileState, Declared, PcapngFile, NoMemory, PacketCame, Ghosts, NextUnit, UnitReader}
+use Rattle.cap_pcapng.specs.Unit.{IsBlock, Section, interfaces_before, order_before, packet_by, packets_in, parts_after, section_after, section_by, unit_fault}
+use Rattle.cap_pcapng.proofs.Units.{passes, unit_fault-few}
+use Rattle.cap_pcapng.specs.Effect.{Enters, KnowsIfAny, held_packet, section_of, span_bytes}
+use Rattle.cap_io.specs.Capture.{Nothing, PcapFile, Front, IsUnit, a_pcap_header, a_first_block, a_block, file_after, first_link_after, front_of, is_pcapng}
+use Rattle.cap_io.specs.Reading.{TakesMemory, declared_by, most_in_unit, read_failures, most_taken, packet_in_unit, decisive_length, block_length}
+use Rattle.cap_io.specs.inside.Reading.{BeginsBlock, FrontMissing, HasInterface, HeaderCame, IsConsistent, ReadsUnit, NoUnitCame, RestMissing, UnitPassed}
+use Rattle.cap_io.specs.inside.Reading.{known_first_link, known_order, section_before, unit_size, Moves}
 use Rattle.cap_io.proofs.Fronts.{block_unless, front_of-following, front_of-pcapng, front_of_block-none, is_pcapng-append, most_taken-block}
 use Rattle.cap_io.proofs.Fronts.{decisive_length-pcapng, decisive_block_length, decisive_block_length-few}
-use Rattle.cap_octet.specs.declared.device.Input.{Ghosts}
-use Rattle.cap_io.specs.inside.Reading.{Moves}
-use Rattle.cap_io.specs.declared.{file_state.NextUnit.NextUnit, next_unit.UnitReader.UnitReader}
+use Rattle.cap_pcapng.specs.{Frame.frame_in, Frame.order_in, Block.Parts, Block.SectionParts, Interface.FitSection}
 use Rattle.cap_io.specs.declared.file_state.FileState.TheVariants as state
 
 -- ---- no block

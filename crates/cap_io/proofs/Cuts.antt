@@ -1,10 +1,10 @@
 -- Each capture is cut into units in exactly one way.
-use Rattle.cap_io.proofs.Common.{◌≡◌, ℕ, zero, suc, ◌+◌, ◌<◌, ◌≤◌, List, [], ◌++◌, length, take, drop, Option, refl, sym, ◌∙◌, ap, ap₂, arith, zero-add}
-use Rattle.cap_io.proofs.Common.{append_assoc, append-nil, length-drop, take_at, drop_at, take-append-drop, Captured, Fault, Declared, Nothing, IsUnit, Placed}
-use Rattle.cap_io.proofs.Common.{placed_at, AreUnits, no_unit, unit_then, Front, Whole, NoUnit, front_of, items, after_packets, ending_by, EachHasCut}
-use Rattle.cap_io.proofs.Common.{EachHasOneCut, CutTellsItems, add-zero, length-append, Items, no_items, items_with}
+use Rattle.std.proofs.Common.{◌≡◌, ℕ, zero, suc, ◌+◌, ◌<◌, ◌≤◌, List, [], ◌++◌, length, take, drop, Option, refl, sym, ◌∙◌, ap, ap₂, zero-add, add-zero}
+use Rattle.cap_io.proofs.Common.{arith, append_assoc, append-nil, length-drop, take_at, drop_at, take-append-drop, Captured, Fault, Declared, length-append}
+use Rattle.cap_io.specs.Capture.{Nothing, IsUnit, Placed, placed_at, AreUnits, no_unit, unit_then, Front, Whole, NoUnit, front_of, items, after_packets}
+use Rattle.cap_io.specs.Capture.{ending_by, Items, no_items, items_with, items_within, items_from}
+use Rattle.cap_io.specs.Laws.{EachHasCut, EachHasOneCut, CutTellsItems}
 use Rattle.cap_io.proofs.Units.{front_of-unit, front_of-is}
-use Rattle.cap_io.specs.Capture.{items_within, items_from}
 
 -- ---- a unit has a byte at least
 

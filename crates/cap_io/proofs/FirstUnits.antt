@@ -1,24 +1,23 @@
 -- The unit that some bytes begin with.
 use Rattle.cap_io.proofs.BlocksCame.{BlockCame, FrontSays, WholeCame, block_came, block_refused, front_says}
 use Rattle.cap_io.proofs.CapturesCame.{first-packets, order-held, section-kept}
-use Rattle.cap_io.proofs.Common.{◌≡◌, ℕ, ◌+◌, ◌^◌, ◌<◌, ◌≤◌, List, [], ◌∷◌, ◌++◌, length, take, drop, Option, Some, Ok, Err, refl, sym, ap, ◌∙◌, subst, arith}
-use Rattle.cap_io.proofs.Common.{lt-leb, take-take, length-take-le, take-append-drop, length-append, checked, first_failing, checked_ok, checked_err, Captured}
-use Rattle.cap_io.proofs.Common.{Fault, Truncated, Order, Head, RecordHead, header_fault, header_in, header_in-append, header_fault-append, field_checks}
-use Rattle.cap_io.proofs.Common.{field_checks-append, record_header_in, record_header_in-append, record_fault, record_fault-fields, record_fault-short}
-use Rattle.cap_io.proofs.Common.{captured_len, most_captured, most_in_unit, is_section, frame_checks-append, frame_in-append, frame_fault, frame_in}
-use Rattle.cap_io.proofs.Common.{most_interfaces, Described, Section, block_size, interfaces_before, order_before, packets_in, parts_after, parts_in}
-use Rattle.cap_io.proofs.Common.{parts_in-append, unit_fault, unit_fault-frame, unit_fault-short, Frame, PacketSpans, IsBlockFault, section_of, FileState}
-use Rattle.cap_io.proofs.Common.{Declared, Nothing, PcapFile, PcapngFile, Whole, NoUnit, IsUnit}
-use Rattle.cap_io.proofs.Common.{file_after, first_link_after, front_of, is_pcapng, declared_by, packet_in_unit, known_first_link, known_order, section_before}
-use Rattle.cap_io.proofs.Common.{HasInterface, IsConsistent, BeginsWithPacket, PacketCame, append_assoc, record_spans}
+use Rattle.std.proofs.Common.{◌≡◌, ℕ, ◌+◌, ◌^◌, ◌<◌, ◌≤◌, List, [], ◌∷◌, ◌++◌, length, take, drop, Option, Some, Ok, Err, refl, sym, ap, ◌∙◌, subst}
+use Rattle.cap_io.proofs.Common.{arith, lt-leb, take-take, length-take-le, take-append-drop, length-append, checked, first_failing, checked_ok, checked_err}
+use Rattle.cap_io.proofs.Common.{Captured, Fault, Truncated, Order, Head, RecordHead, header_fault, header_in, is_section, most_interfaces, Described}
+use Rattle.cap_io.proofs.Common.{block_size, Frame, PacketSpans, FileState, Declared, PcapngFile, PacketCame, append_assoc, BlockEffect}
+use Rattle.cap_pcap.proofs.Headers.{header_in-append, header_fault-append}
+use Rattle.cap_pcap.specs.Record.{field_checks, record_header_in, record_fault, captured_len, most_captured}
+use Rattle.cap_pcap.proofs.Records.{field_checks-append, record_header_in-append, record_fault-fields, record_fault-short}
+use Rattle.cap_io.specs.Reading.{most_in_unit, declared_by, packet_in_unit}
+use Rattle.cap_pcapng.proofs.Units.{frame_checks-append, frame_in-append, parts_in-append, unit_fault-frame, unit_fault-short}
+use Rattle.cap_pcapng.specs.Unit.{Section, interfaces_before, order_before, packets_in, parts_after, unit_fault}
+use Rattle.cap_pcapng.specs.Effect.{IsBlockFault, section_of, FitsIfAny, HasEffect, LiesAsSaid, interfaces_after, packet_in_effect}
+use Rattle.cap_io.specs.Capture.{Nothing, PcapFile, Whole, NoUnit, IsUnit, file_after, first_link_after, front_of, is_pcapng}
+use Rattle.cap_io.specs.inside.Reading.{known_first_link, known_order, section_before, HasInterface, IsConsistent, BeginsWithPacket, record_spans, BeginsAt}
 use Rattle.cap_io.proofs.Fronts.{block_unless, front_of-following, front_of-pcapng, front_of-no_record, front_of_block-none, is_pcapng-append}
-use Rattle.cap_io.proofs.Came.{fields_came, record_came}
-use Rattle.cap_io.proofs.Units.{block-front, front_of-is, front_of-unit}
 use Rattle.cap_io.specs.FirstUnit.{BeginsWithUnit, HoldsPackets}
-use Rattle.cap_io.specs.inside.Reading.{BeginsAt}
-use Rattle.cap_pcapng.specs.Block.{Parts}
-use Rattle.cap_pcapng.specs.Effect.{FitsIfAny, HasEffect, LiesAsSaid, interfaces_after, packet_in_effect}
-use Rattle.cap_pcapng.specs.declared.effect.BlockEffect.{BlockEffect}
+use Rattle.cap_pcapng.specs.{Frame.frame_fault, Frame.frame_in, Block.parts_in, Block.Parts}
+use Rattle.cap_io.proofs.{Came.fields_came, Came.record_came, Units.block-front, Units.front_of-is, Units.front_of-unit}
 use Rattle.cap_io.specs.declared.file_state.FileState.TheVariants as state
 use Rattle.cap_pcapng.specs.declared.effect.BlockEffect.TheVariants as does
 

@@ -1,10 +1,12 @@
 -- The first unit of some bytes depends only on their prefix.
-use Rattle.cap_io.proofs.Common.{rules, ◌≡◌, ℕ, ◌<◌, ◌≤◌, Bool, List, [], ◌∷◌, ◌++◌, length, take, Option, Some, None, true, false, ap, arith, le-leb}
-use Rattle.cap_io.proofs.Common.{length-append, Fault, Head, first_failing, form_in, header_fault, header_in, record_size, record_fault, record_packet}
-use Rattle.cap_io.proofs.Common.{is_section, Section, block_size, packets_in, unit_fault, least_length, is_some, is_none, unwrap_or, if◌then◌else◌, Nothing}
-use Rattle.cap_io.proofs.Common.{PcapFile, PcapngFile, Front, Whole, NoUnit, file_after, front_of, front_of_block, is_pcapng, unit_unless, most_in_unit}
-use Rattle.cap_io.proofs.Common.{most_taken, length_by_header, block_length, decisive_length}
-use Rattle.cap_octet.proofs.Numbers.{number_in-append}
+use Rattle.std.proofs.Common.{rules, ◌≡◌, ℕ, ◌<◌, ◌≤◌, Bool, List, [], ◌∷◌, ◌++◌, length, take, Option, Some, None, true, false, ap, is_some, is_none}
+use Rattle.std.proofs.Common.{unwrap_or, if◌then◌else◌}
+use Rattle.cap_io.proofs.Common.{arith, le-leb, length-append, Fault, Head, first_failing, form_in, header_fault, header_in, is_section, block_size, PcapngFile}
+use Rattle.cap_pcap.specs.Record.{record_size, record_fault, record_packet}
+use Rattle.cap_pcapng.specs.Unit.{Section, packets_in, unit_fault}
+use Rattle.cap_io.specs.Capture.{Nothing, PcapFile, Front, Whole, NoUnit, file_after, front_of, front_of_block, is_pcapng, unit_unless}
+use Rattle.cap_io.specs.Reading.{most_in_unit, most_taken, length_by_header, block_length, decisive_length}
+use Rattle.{cap_pcapng.proofs.Units.least_length, cap_octet.proofs.Numbers.number_in-append}
 
 -- ---- by the fault in a unit's place
 

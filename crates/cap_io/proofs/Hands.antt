@@ -1,11 +1,10 @@
 -- A record that the device has at hand is the next unit.
-use Rattle.cap_io.proofs.Common.{rules, ◌≡◌, ℕ, Bool, true, IsTrue, is_some, ◌+◌, ◌^◌, ◌<◌, ◌≤◌, List, ◌++◌, length, take, drop, ap, ◌∙◌, arith}
-use Rattle.cap_io.proofs.Common.{length-take, length-take-le, take-take, take-append-drop, HasGiven, PacketSpans, most_in_unit, packet_in_unit, PacketCame}
-use Rattle.cap_io.proofs.Common.{Declared, SourceView, Reading, HasInterface, end_offset, BeginsWithPacket, UnitLent, TakesIfAtHand, TakesNext, false}
+use Rattle.std.proofs.Common.{rules, ◌≡◌, ℕ, Bool, true, IsTrue, is_some, ◌+◌, ◌^◌, ◌<◌, ◌≤◌, List, ◌++◌, length, take, drop, ap, ◌∙◌, false}
+use Rattle.cap_io.proofs.Common.{arith, length-take, length-take-le, take-take, take-append-drop, HasGiven, PacketSpans, PacketCame, Declared, Ghosts}
+use Rattle.cap_io.specs.Source.{SourceView, Reading, end_offset, TakesIfAtHand}
+use Rattle.cap_io.specs.inside.Reading.{HasInterface, BeginsWithPacket, UnitLent}
 use Rattle.cap_io.proofs.Passing.{FindsPacket-next, time-held}
-use Rattle.cap_io.specs.inside.Lending.{Lends}
-use Rattle.cap_io.specs.declared.lending.Lending.{Lending}
-use Rattle.cap_octet.specs.declared.device.Input.{Ghosts}
+use Rattle.cap_io.specs.{Reading.most_in_unit, Reading.packet_in_unit, declared.lending.Lending.Lending, inside.Source.TakesNext, inside.Lending.Lends}
 
 -- bytes that begin with others begin alike
 pub begins-same : (bytes front : List ℕ) (size : ℕ) → take (length front) bytes ≡ front → size ≤ length front → take size front ≡ take size bytes

@@ -1,10 +1,10 @@
 -- The different interfaces of packets, in the order of first use.
-use Rattle.cap_io.proofs.Common.{rules, ◌≡◌, ◌≤◌, ◌||◌, ◌+◌, suc, Bool, true, false, not, cond, if◌then◌else◌, Some, number_among, is_among, refl, ap, List, []}
-use Rattle.cap_io.proofs.Common.{◌∷◌, ◌++◌, length, sym, arith, fold, fold-append, Captured, Format, Pcapng, Interface, interface_of, is_same, new_among}
-use Rattle.cap_io.proofs.Common.{interfaces_after_packet, kept_interfaces, ℕ, map, nat_le, ◌<◌, list_any, position_or_len, append-nil, map-append}
-use Rattle.cap_io.proofs.Common.{length-append, le-leb, lt-leb, most_output_interfaces, interface_in, zero, All-append, All, HasNumber, IsFirst}
-use Rattle.cap_io.proofs.Common.{FitFile, InterfaceNumber}
-use Rattle.std.proofs.{Common.length-append, Common.slice_get, Math.Bool.or-true}
+use Rattle.std.proofs.Common.{rules, ◌≡◌, ◌≤◌, ◌||◌, ◌+◌, suc, Bool, true, false, not, cond, if◌then◌else◌, Some, refl, ap, List, [], ◌∷◌, ◌++◌, length, sym, ℕ}
+use Rattle.std.proofs.Common.{map, nat_le, ◌<◌, zero, length-append, slice_get}
+use Rattle.cap_io.proofs.Common.{number_among, arith, fold-append, Captured, Format, Pcapng, append-nil, map-append, length-append, le-leb, lt-leb}
+use Rattle.cap_io.proofs.Common.{interface_in, All-append, HasNumber, IsFirst, InterfaceNumber, or-true}
+use Rattle.cap_io.specs.Text.{is_among, Interface, interface_of, is_same, new_among, interfaces_after_packet, kept_interfaces, most_output_interfaces, FitFile}
+use Rattle.std.specs.List.{fold, list_any, position_or_len, All}
 use Rattle.cap_io.specs.declared.numbering.InterfaceKey.{InterfaceKey}
 
 -- ---- the same

@@ -1,7 +1,7 @@
 -- The order of a merge is sorted, has each packet once, and keeps the order of each input.
-use Rattle.cap_io.proofs.Common.{◌≡◌, ℕ, ◌+◌, ◌<◌, ◌≤◌, true, false, if◌then◌else◌, max, List, [], ◌∷◌, ◌++◌, refl, sym, ap, arith, nat_eq}
-use Rattle.cap_io.proofs.Common.{subst, IsPermutation, Placed, Ending}
-use Rattle.std.specs.List.{AllByRecursion}
+use Rattle.std.proofs.Common.{◌≡◌, ℕ, ◌+◌, ◌<◌, ◌≤◌, true, false, if◌then◌else◌, max, List, [], ◌∷◌, ◌++◌, refl, sym, ap, nat_eq, subst, IsPermutation}
+use Rattle.cap_io.proofs.Common.{arith, AllByRecursion}
+use Rattle.cap_io.specs.Capture.{Placed, Ending}
 use Rattle.std.proofs.lemmas.List.Sorted.{IsPermutation-refl, IsPermutation-trans, IsPermutation-cons, IsPermutation-middle}
 use Rattle.cap_io.specs.Merging.{AreSorted, IsNoLater, IsNoLaterThan, MergesSort, StopAtFault, StopsBy, events_of, of_input}
 use Rattle.cap_io.specs.Sequence.{Entry, Event, Packet, SequenceEnd, Complete, FaultIn, Sequence, InputItems, all_entries, comes_before, end_after, entries_of}

@@ -1,11 +1,12 @@
 -- Checks never report that the device failed, or that memory ran out.
-use Rattle.cap_io.proofs.Common.{◌≡◌, ◌<◌, ◌++◌, [], ◌∷◌, length, None, ap, length-append, ltb-true, most_interfaces, is_interface, section_by, section_of}
-use Rattle.cap_io.proofs.Common.{Section, Enters, ℕ, inl, inr, Bool, true, false, List, Option, Some, Err, refl, arith, first_failing, Fault, NoMemory}
-use Rattle.cap_io.proofs.Common.{ReadFailed, Order, Parts, SectionParts, InterfaceParts, EnhancedParts, SimpleParts, SkippedParts, block_checks, body_checks}
-use Rattle.cap_io.proofs.Common.{parts_in, Head, header_fault, field_checks, frame_checks, Described, checks_among, Frame, IsBlockFault}
-use Rattle.cap_io.proofs.Common.{AddsInterface, IsEntryFault, read_failures}
-use Rattle.cap_pcapng.specs.{declared.frames.BlockType.BlockType}
+use Rattle.std.proofs.Common.{◌≡◌, ◌<◌, ◌++◌, [], ◌∷◌, length, None, ap, ℕ, inl, inr, Bool, true, false, List, Option, Some, Err, refl}
+use Rattle.cap_io.proofs.Common.{length-append, ltb-true, most_interfaces, arith, first_failing, Fault, NoMemory, ReadFailed, Order, Head, header_fault}
+use Rattle.cap_io.proofs.Common.{Described, Frame, AddsInterface, IsEntryFault}
+use Rattle.cap_pcapng.specs.Effect.{is_interface, section_of, Enters, IsBlockFault}
+use Rattle.cap_pcapng.specs.Block.{Parts, SectionParts, InterfaceParts, EnhancedParts, SimpleParts, SkippedParts, block_checks, body_checks, parts_in}
 use Rattle.cap_pcapng.proofs.Faults.{AreAll, all_failing, all_of_options}
+use Rattle.cap_pcapng.specs.{Unit.section_by, Unit.Section, Unit.checks_among, Frame.frame_checks, declared.frames.BlockType.BlockType}
+use Rattle.{cap_pcap.specs.Record.field_checks, cap_io.specs.Reading.read_failures}
 
 -- ---- no check reports that the device failed, or that memory ran out
 

@@ -1,13 +1,13 @@
 -- What parts add that are written one after another, and what a sink adds with them.
-use Rattle.cap_io.proofs.Common.{rules, ◌≡◌, ◌⊎◌, ℕ, ◌+◌, ◌<◌, Bool, not, if◌then◌else◌, List, [], ◌∷◌, ◌++◌, length, take, Option}
-use Rattle.cap_io.proofs.Common.{Result, is_ok, Ok, Err, sym, ap, ◌∙◌, arith, flat_map, append_assoc, append-nil, take-append-le, checked, AppendsOrStops}
-use Rattle.cap_io.proofs.Common.{Stops, Captured, Fault, WriteFailed, Format, Pcap, NsecPcap, Pcapng, InterfaceNumber, SinkState, HasNumber, WritesPacket}
-use Rattle.cap_io.proofs.Common.{file_start_in, appended_packet, Interface, interface_of, file_start, record_text, Appends, packet_block_text, description_text}
-use Rattle.std.proofs.{Common.length-append, Math.Seq.take-append-add}
-use Rattle.cap_octet.specs.Writer.{WritesExactly}
-use Rattle.cap_octet.specs.declared.device.{DeviceFault.DeviceFault, Output.Ghosts, Stopped.Stopped}
+use Rattle.std.proofs.Common.{rules, ◌≡◌, ◌⊎◌, ℕ, ◌+◌, ◌<◌, Bool, not, if◌then◌else◌, List, [], ◌∷◌, ◌++◌, length, take, Option, Result, is_ok, Ok, Err, sym}
+use Rattle.std.proofs.Common.{ap, ◌∙◌, length-append}
+use Rattle.cap_io.proofs.Common.{arith, flat_map, append_assoc, append-nil, checked, AppendsOrStops, Stops, Captured, Fault, Format, Pcap, NsecPcap, Pcapng}
+use Rattle.cap_io.proofs.Common.{InterfaceNumber, SinkState, HasNumber, Appends, description_text, WritesExactly, interface_text}
+use Rattle.cap_io.specs.Text.{file_start_in, appended_packet, Interface, interface_of, file_start, record_text}
 use Rattle.cap_pcap.specs.Encoding.{IsPcap, file_header as pcap_header, resolution_of}
-use Rattle.cap_pcapng.specs.Encoding.{interface_text}
+use Rattle.cap_io.specs.{Sink.WritesPacket, inside.Sink.packet_block_text}
+use Rattle.std.proofs.{lemmas.List.take-append-le, Math.Seq.take-append-add}
+use Rattle.cap_octet.specs.declared.{fault.Fault.TheVariants.WriteFailed, device.Stopped.Stopped, device.DeviceFault.DeviceFault, device.Output.Ghosts}
 
 pub appends-as : {E : Type 0} (r : Result (Unit {0}) E) (written bytes bytes' written' : List ℕ) → bytes ≡ bytes' → AppendsOrStops r written bytes
     written' → AppendsOrStops r written bytes' written'

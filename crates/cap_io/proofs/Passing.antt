@@ -1,16 +1,15 @@
 -- Units from one place in a file to a later one, and the items after them.
-use Rattle.cap_io.proofs.Common.{◌≡◌, ℕ, ◌+◌, ◌-◌, ◌≤◌, ◌<◌, ◌^◌, Bool, false, Result, Ok, Err, HasGiven, most_in_unit, read_failures, List, [], ◌++◌, length}
-use Rattle.cap_io.proofs.Common.{take, Option, Some, None, is_some, true, refl, sym, ap, ◌∙◌, arith, slice_get, option_map, append_assoc, rules, drop-take}
-use Rattle.cap_io.proofs.Common.{take-take, length-append, length-take-le, Order, Head, Described, packet_of, Fault, NoMemory, PacketSpans, Declared}
-use Rattle.cap_io.proofs.Common.{PcapFile, PcapngFile, AreUnits, no_unit, TakesMemory, held_length, no_unit_fits, packet_in_unit, EndCame, HasInterface}
-use Rattle.cap_io.proofs.Common.{PacketCame, NoUnitCame, UnitPassed, span_bytes, SourceView, Reading, Ended, Failed, SkipsUnits, IsBroken, FindsPacket}
-use Rattle.cap_io.proofs.Common.{FindsEnd, FindsFault, block_at, end_offset, phase_at, IsBetween, HoldsIfAny}
-use Rattle.cap_io.proofs.Cuts.{AreUnits-append}
-use Rattle.cap_io.proofs.Units.{FitUnits-append, FitUnits-wider, one_unit_fits, one_unit}
-use Rattle.cap_pcapng.specs.{Comment.comment_in, declared.effect.Span.Span}
-use Rattle.cap_io.specs.declared.{file_state.NextUnit.NextUnit, source.Stage.Stage}
-use Rattle.cap_io.specs.{Source.KeepsBounds, inside.Source.Continues, inside.Source.NextBounds, inside.Source.past_unit}
-use Rattle.std.specs.Result.{OnOk}
+use Rattle.std.proofs.Common.{◌≡◌, ℕ, ◌+◌, ◌-◌, ◌≤◌, ◌<◌, ◌^◌, Bool, false, Result, Ok, Err, List, [], ◌++◌, length, take, Option, Some, None, is_some, true}
+use Rattle.std.proofs.Common.{refl, sym, ap, ◌∙◌, rules}
+use Rattle.cap_io.proofs.Common.{HasGiven, arith, slice_get, option_map, append_assoc, drop-take, take-take, length-append, length-take-le, Order, Head}
+use Rattle.cap_io.proofs.Common.{Described, Fault, NoMemory, PacketSpans, Declared, PcapngFile, PacketCame, NextUnit, Stage, KeepsBounds, OnOk}
+use Rattle.cap_io.specs.Reading.{most_in_unit, read_failures, TakesMemory, held_length, no_unit_fits, packet_in_unit}
+use Rattle.cap_io.specs.Capture.{PcapFile, AreUnits, no_unit}
+use Rattle.cap_io.specs.inside.Reading.{EndCame, HasInterface, NoUnitCame, UnitPassed}
+use Rattle.cap_io.specs.Source.{SourceView, Reading, Ended, Failed, SkipsUnits, IsBroken, FindsPacket, FindsEnd, FindsFault, block_at, end_offset, phase_at}
+use Rattle.cap_io.specs.inside.Source.{IsBetween, HoldsIfAny, Continues, NextBounds, past_unit}
+use Rattle.cap_pcapng.specs.{Unit.packet_of, Effect.span_bytes, Comment.comment_in, declared.effect.Span.Span}
+use Rattle.cap_io.proofs.{Cuts.AreUnits-append, Units.FitUnits-append, Units.FitUnits-wider, Units.one_unit_fits, Units.one_unit}
 
 -- ---- no unit is gone over
 

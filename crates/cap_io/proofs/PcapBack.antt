@@ -1,15 +1,15 @@
 -- A capture that is written in a pcap format reads back.
-use Rattle.cap_io.proofs.Common.{rules, ◌≡◌, ℕ, ◌+◌, ◌*◌, ◌/◌, ◌%◌, ◌^◌, ◌<◌, ◌≤◌, Bool, List, [], ◌∷◌, ◌++◌, length, drop, None, refl, sym, ap, subst, ◌∙◌}
-use Rattle.cap_io.proofs.Common.{arith, lt-ltb, AllByRecursion, flat_map, first_failing, u32_in, Captured, Fault, LinkTypesDiffer, Pcap, NsecPcap, Little}
-use Rattle.cap_io.proofs.Common.{IsHeader, IsRecord, field_checks, most_captured, nanoseconds_of_part, record_packet, parts_of_second, Head, Resolution}
-use Rattle.cap_io.proofs.Common.{Microseconds, Nanoseconds, record_fault-whole, PcapFile, a_pcap_header, a_pcap_record, Back, InRange, IsPlain, ReadsBack}
-use Rattle.cap_io.proofs.Common.{has_link, record_text, state_after}
+use Rattle.std.proofs.Common.{rules, ◌≡◌, ℕ, ◌+◌, ◌*◌, ◌/◌, ◌%◌, ◌^◌, ◌<◌, ◌≤◌, Bool, List, [], ◌∷◌, ◌++◌, length, drop, None, refl, sym, ap, subst, ◌∙◌}
+use Rattle.std.proofs.Common.{lt-ltb, le-leb}
+use Rattle.cap_io.proofs.Common.{arith, AllByRecursion, flat_map, first_failing, u32_in, Captured, Fault, LinkTypesDiffer, Pcap, NsecPcap, Little, IsHeader}
+use Rattle.cap_io.proofs.Common.{Head, Resolution, Microseconds, Nanoseconds, Back, InRange, IsPlain, ReadsBack, number_in}
+use Rattle.cap_pcap.specs.Record.{IsRecord, field_checks, most_captured, nanoseconds_of_part, record_packet, parts_of_second}
+use Rattle.cap_io.specs.Capture.{PcapFile, a_pcap_header, a_pcap_record}
+use Rattle.cap_io.specs.Text.{has_link, record_text, state_after}
 use Rattle.cap_io.proofs.Backs.{Holds, each-following, holds-none, holds-unit, reads-back}
 use Rattle.cap_io.proofs.Texts.{bare_text, text-start}
-use Rattle.std.proofs.Common.{le-leb}
-use Rattle.cap_octet.specs.Number.{number_in}
+use Rattle.{cap_pcap.proofs.Records.record_fault-whole, cap_pcapng.proofs.Numerals.number_at}
 use Rattle.cap_pcap.specs.Encoding as pcap
-use Rattle.cap_pcapng.proofs.Numerals.{number_at}
 
 -- ---- a record
 

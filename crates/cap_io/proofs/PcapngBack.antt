@@ -1,16 +1,17 @@
 -- A capture that is written in pcapng reads back.
-use Rattle.cap_io.proofs.Common.{rules, ◌≡◌, ℕ, ◌<◌, ◌≤◌, Bool, true, false, List, [], ◌∷◌, ◌++◌, length, map, if◌then◌else◌, Option, None, Some, refl, sym, ap}
-use Rattle.cap_io.proofs.Common.{subst, ◌∙◌, arith, AllByRecursion, flat_map, slice_get, option_map, fold-append, append_assoc, append-nil, length-map}
-use Rattle.cap_io.proofs.Common.{map-append, slice_get-map, slice_get_within, first_failing, Captured, Pcapng, Described, most_interfaces, Section, packets_in}
-use Rattle.cap_io.proofs.Common.{Nothing, PcapngFile, IsUnit, a_first_block, a_block, first_link_after, Back, InRange, IsCarried, ReadsBack, Interface}
-use Rattle.cap_io.proofs.Common.{interface_of, is_among, kept_interfaces, new_among, number_among}
+use Rattle.std.proofs.Common.{rules, ◌≡◌, ℕ, ◌<◌, ◌≤◌, Bool, true, false, List, [], ◌∷◌, ◌++◌, length, map, if◌then◌else◌, Option, None, Some, refl, sym, ap}
+use Rattle.std.proofs.Common.{subst, ◌∙◌, length-append}
+use Rattle.cap_io.proofs.Common.{arith, AllByRecursion, flat_map, slice_get, option_map, fold-append, append_assoc, append-nil, length-map, map-append}
+use Rattle.cap_io.proofs.Common.{first_failing, Captured, Pcapng, Described, most_interfaces, PcapngFile, Back, InRange, IsCarried, ReadsBack, number_among}
+use Rattle.std.proofs.lemmas.Option.{slice_get-map, slice_get_within}
+use Rattle.cap_io.specs.Capture.{Nothing, IsUnit, a_first_block, a_block, first_link_after}
+use Rattle.cap_io.specs.Text.{Interface, interface_of, is_among, kept_interfaces, new_among}
 use Rattle.cap_io.proofs.Backs.{Holds, each-following, holds-none, holds-unit, reads-back}
 use Rattle.cap_io.proofs.Interfaces.{found, kept-grows, kept-push}
 use Rattle.cap_io.proofs.Texts.{bare_text, text-start}
-use Rattle.std.proofs.Common.{length-append}
-use Rattle.cap_pcapng.specs.Laws.{ReadsAs, written_interface, written_section}
-use Rattle.cap_pcapng.specs.Encoding as pcapng
 use Rattle.cap_pcapng.proofs.WrittenBack.{section_back, interface_back, packet_back}
+use Rattle.cap_pcapng.specs.{Unit.Section, Unit.packets_in, Laws.ReadsAs, Laws.written_interface, Laws.written_section}
+use Rattle.cap_pcapng.specs.Encoding as pcapng
 
 -- ---- units
 

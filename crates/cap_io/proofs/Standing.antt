@@ -1,12 +1,12 @@
 -- The position of a source in its capture, from one call to the next.
-use Rattle.cap_io.proofs.Common.{◌≡◌, ℕ, ◌+◌, ◌-◌, ◌<◌, ◌⊎◌, inl, inr, Bool, true, false, List, [], ◌∷◌, ◌++◌, length, Option, Some, refl, sym, ◌∙◌, ap, arith}
-use Rattle.cap_io.proofs.Common.{add-zero, zero-add, Result, Ok, append_assoc, append-nil, length-append, length-drop, Fault, ReadFailed, NoMemory, Declared}
-use Rattle.cap_io.proofs.Common.{Nothing, Placed, placed_at, AreUnits, no_unit, items, after_packets, ending_by, FaultAt, front_of, NoUnit, SourceView, Phase}
-use Rattle.cap_io.proofs.Common.{Reading, Ended, Failed, source_at, SkipsUnits, FindsPacket, FindsEnd, FindsFault, Advances, Finds, FitUnits, no_unit_fits}
-use Rattle.cap_io.proofs.Common.{decisive_length}
+use Rattle.std.proofs.Common.{◌≡◌, ℕ, ◌+◌, ◌-◌, ◌<◌, ◌⊎◌, inl, inr, Bool, true, false, List, [], ◌∷◌, ◌++◌, length, Option, Some, refl, sym, ◌∙◌, ap, add-zero}
+use Rattle.std.proofs.Common.{zero-add, Result, Ok}
+use Rattle.cap_io.proofs.Common.{arith, append_assoc, append-nil, length-append, length-drop, Fault, ReadFailed, NoMemory, Declared}
+use Rattle.cap_io.specs.Capture.{Nothing, Placed, placed_at, AreUnits, no_unit, items, after_packets, ending_by, FaultAt, front_of, NoUnit, items_from}
+use Rattle.cap_io.specs.Source.{SourceView, Phase, Reading, Ended, Failed, source_at, SkipsUnits, FindsPacket, FindsEnd, FindsFault, Advances, Finds}
+use Rattle.cap_io.specs.Reading.{FitUnits, no_unit_fits, decisive_length}
 use Rattle.cap_io.proofs.Cuts.{AreUnits-append, items_from-units, items_from-stops}
 use Rattle.cap_io.proofs.Units.{FitUnits-append, FitUnits-wider, held_length-le, one_unit_fits, one_unit}
-use Rattle.cap_io.specs.Capture.{items_from}
 use Rattle.cap_io.specs.Position.{IsAt, IsCutShort, MemoryEndsAt, given_in_all}
 
 ended_twice : Reading ≡ Ended → ⊥

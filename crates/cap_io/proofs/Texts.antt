@@ -1,11 +1,12 @@
 -- A sink has written the bytes of the packets that were put to it.
-use Rattle.cap_io.proofs.Common.{arith, rules, ◌≡◌, ◌⊎◌, ℕ, Bool, List, [], ◌∷◌, ◌++◌, Option, None, Some, Result, Ok, Err, refl, sym, ◌∙◌, ap, append_assoc}
-use Rattle.cap_io.proofs.Common.{append-nil, first_failing, AppendsOrStops, Captured, Fault, WriteFailed, NoMemory, LinkTypesDiffer, TooLong, TimeOutOfRange}
-use Rattle.cap_io.proofs.Common.{TooManyOutputInterfaces, Format, SinkState, Broken, added_text, appended_packet, file_start, has_room, kept_interfaces}
-use Rattle.cap_io.proofs.Common.{packets_text, refusal_of, state_after, state_after_packet, takes_memory, text, SinkView, sink_at, HasPut, HasPackets}
-use Rattle.cap_io.proofs.Common.{AddsPacket, PutsNext, WritesPacket, PutsPacket, PutWrites, IsPutAnswer, Finishes, FinishWrites, FinishesEmpty}
-use Rattle.cap_io.proofs.Common.{link_or_ethernet, refusal_in, added_in, EachPutGoesByPackets, PutExtendsText}
-use Rattle.cap_io.proofs.Interfaces.{kept-push}
+use Rattle.cap_io.proofs.Common.{arith, append_assoc, append-nil, first_failing, AppendsOrStops, Captured, Fault, NoMemory, LinkTypesDiffer, Format, SinkState}
+use Rattle.std.proofs.Common.{rules, ◌≡◌, ◌⊎◌, ℕ, Bool, List, [], ◌∷◌, ◌++◌, Option, None, Some, Result, Ok, Err, refl, sym, ◌∙◌, ap}
+use Rattle.cap_octet.specs.declared.fault.Fault.TheVariants.{WriteFailed, TooLong, TimeOutOfRange, TooManyOutputInterfaces}
+use Rattle.cap_io.specs.Text.{added_text, appended_packet, file_start, has_room, kept_interfaces, packets_text, refusal_of, state_after, state_after_packet}
+use Rattle.cap_io.specs.Text.{takes_memory, text}
+use Rattle.cap_io.specs.Sink.{SinkView, sink_at, HasPut, HasPackets, AddsPacket, PutsNext, WritesPacket, PutsPacket, PutWrites, IsPutAnswer, Finishes}
+use Rattle.cap_io.specs.Sink.{FinishWrites, FinishesEmpty, link_or_ethernet, refusal_in, added_in}
+use Rattle.cap_io.{proofs.Interfaces.kept-push, specs.declared.sink.SinkState.TheVariants.Broken, specs.Laws.EachPutGoesByPackets, specs.Laws.PutExtendsText}
 
 -- ---- faults that refuse no packet
 

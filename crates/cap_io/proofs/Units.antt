@@ -1,16 +1,18 @@
 -- Complete units, and what bytes begin with.
-use Rattle.cap_io.proofs.Common.{rules, ◌≡◌, ℕ, Bool, true, false, ◌&&◌, cond, is_some, ◌⊎◌, inl, inr, ◌<◌, ◌≤◌, List, [], ◌∷◌, ◌++◌, length, take, drop}
-use Rattle.cap_io.proofs.Common.{Option, None, Some, refl, sym, ◌∙◌, ap, arith, append-nil, length-append, length-take-le, take-append-drop, take_at, Captured}
-use Rattle.cap_io.proofs.Common.{Fault, Head, Resolution, Microseconds, Nanoseconds, form_in, header_checks, header_fault, header_in, magic, IsHeader}
-use Rattle.cap_io.proofs.Common.{record_fault, record_size, record_packet, IsRecord, header_fault-append, header_fault-none, header_in-append, IsRecord-front}
-use Rattle.cap_io.proofs.Common.{IsRecord-take, ◌==◌, nat_le, u32_in, Little, Big, all_met, section_type, IsBlock, Section, block_size, packets_in, unit_fault}
-use Rattle.cap_io.proofs.Common.{Declared, Nothing, PcapFile, PcapngFile, IsUnit, a_pcap_header, a_pcap_record, a_first_block, a_block, file_after, is_pcapng}
-use Rattle.cap_io.proofs.Common.{placed_at, AreUnits, no_unit, unit_then, Whole, front_of, subst, append_assoc, FitUnits, no_unit_fits, unit_fits, held_length}
+use Rattle.std.proofs.Common.{rules, ◌≡◌, ℕ, Bool, true, false, ◌&&◌, cond, is_some, ◌⊎◌, inl, inr, ◌<◌, ◌≤◌, List, [], ◌∷◌, ◌++◌, length, take, drop, Option}
+use Rattle.std.proofs.Common.{None, Some, refl, sym, ◌∙◌, ap, ◌==◌, nat_le, subst, eqb-true}
+use Rattle.cap_io.proofs.Common.{arith, append-nil, length-append, length-take-le, take-append-drop, take_at, Captured, Fault, Head, Resolution, Microseconds}
+use Rattle.cap_io.proofs.Common.{Nanoseconds, form_in, header_checks, header_fault, header_in, magic, IsHeader, u32_in, Little, Big, all_met, section_type}
+use Rattle.cap_io.proofs.Common.{block_size, Declared, PcapngFile, append_assoc, number_in}
+use Rattle.cap_pcap.specs.Record.{record_fault, record_size, record_packet, IsRecord}
+use Rattle.cap_pcap.proofs.Headers.{header_fault-append, header_fault-none, header_in-append}
+use Rattle.cap_pcap.proofs.Records.{IsRecord-front, IsRecord-take, passes}
+use Rattle.cap_pcapng.specs.Unit.{IsBlock, Section, packets_in, unit_fault}
+use Rattle.cap_io.specs.Capture.{Nothing, PcapFile, IsUnit, a_pcap_header, a_pcap_record, a_first_block, a_block, file_after, is_pcapng, placed_at, AreUnits}
+use Rattle.cap_io.specs.Capture.{no_unit, unit_then, Whole, front_of}
+use Rattle.cap_io.specs.Reading.{FitUnits, no_unit_fits, unit_fits, held_length}
 use Rattle.cap_io.proofs.Fronts.{block_unless, front_of_file, header_unless, record_unless, front_of-header, front_of-record, front_of-pcapng}
 use Rattle.cap_io.proofs.Fronts.{front_of-following, front_of_block-whole}
-use Rattle.std.proofs.Common.{eqb-true}
-use Rattle.cap_pcap.proofs.Records.{passes}
-use Rattle.cap_octet.specs.Number.{number_in}
 use Rattle.cap_pcapng.proofs.Units as block
 
 -- ---- which kind of file

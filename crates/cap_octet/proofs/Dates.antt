@@ -2,8 +2,7 @@
 use Rattle.std.proofs.Common.{◌≡◌, ℕ, zero, suc, ◌+◌, ◌-◌, ◌*◌, ◌/◌, ◌%◌, ◌<◌, Bool, true, ◌&&◌, T, eqb, ◌++◌, get_or, refl, arith, eqb→eq, eq-zero-or-pos, inl}
 use Rattle.std.proofs.Common.{inr, append_assoc}
 use lib.Ieee.Fits.{and_l, and_r}
-use Rattle.cap_octet.specs.Date.{NANOS_PER_SECOND, NANOS_PER_DAY, date_text, digits, second_text}
-use Rattle.cap_octet.specs.declared.date.TheConstants.{PAIRS}
+use Rattle.cap_octet.specs.{Date.NANOS_PER_SECOND, Date.NANOS_PER_DAY, Date.date_text, Date.digits, Date.second_text, declared.date.TheConstants.PAIRS}
 
 -- the date of a time is that of its second, and the digits of what is over
 pub date_text_split : (t : ℕ) → date_text t ≡ second_text (t / NANOS_PER_SECOND) ++ digits 9 (t % NANOS_PER_SECOND)

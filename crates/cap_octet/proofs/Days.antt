@@ -1,12 +1,12 @@
 -- Counting days one by one gives the same dates as jiff's day numbers.
-use Rattle.cap_octet.proofs.Common.{◌≡◌, ℕ, ap, zero, suc, ◌+◌, ◌<◌, ◌≤◌, ◌⊎◌, inl, inr, sym, ◌∙◌, arith, ℤ, pos, negsuc, ◌≤ℤ◌, ◌+ℤ◌, ◌-◌, unsigned_abs, Some}
-use Rattle.cap_octet.proofs.Common.{nat_lt, to_z, w16, to_z_pos, lt-ltb, le-ltb, days_in_month, IsCivilDate, epoch_day, signed_arith, le-leb, day_number}
-use Rattle.jiff_core.specs.{Calendar.days_from_civil, declared.civil.date.Date.Date}
+use Rattle.std.proofs.Common.{◌≡◌, ℕ, ap, zero, suc, ◌+◌, ◌<◌, ◌≤◌, ◌⊎◌, inl, inr, sym, ◌∙◌, arith, ℤ, pos, negsuc, ◌≤ℤ◌, ◌+ℤ◌, ◌-◌, Some, nat_lt, to_z, w16}
+use Rattle.cap_octet.proofs.Common.{unsigned_abs, to_z_pos, lt-ltb, le-ltb, le-leb}
 use Rattle.cap_octet.specs.Calendar.{Day, ymd, next_day, day_from_epoch}
-use Rattle.cap_octet.specs.Laws.{DayHasItsNumber, NumberHasItsDay}
-use Rattle.jiff_core.proofs.CalendarLemmas.{days_in_month_bounds}
 use Rattle.jiff_core.proofs.DateLemmas.{days_from_civil-day, days_from_civil-next_month, days_from_civil-next_year, days_from_civil-max, epoch_day_injective}
 use Rattle.jiff_core.proofs.DateLemmas.{epoch_day_same, epoch_day-lt, cases_date}
+use Rattle.jiff_core.proofs.{SignedLemmas.signed_arith, CalendarLemmas.days_in_month_bounds}
+use Rattle.cap_octet.specs.{Timestamp.day_number, Laws.DayHasItsNumber, Laws.NumberHasItsDay}
+use Rattle.jiff_core.specs.{Calendar.days_in_month, Calendar.IsCivilDate, Calendar.days_from_civil, Date.epoch_day, declared.civil.date.Date.Date}
 
 abbrev date_of : (y m d : ℕ) → IsCivilDate (pos y) m d → Date
 date_of y m d civil = record { year = pos y; month = m; day = d; year_in = civil.0; month_in = civil.1; day_in = civil.2 }

@@ -1,7 +1,7 @@
 -- A read into the first part of a buffer is a read into the buffer.
-use Rattle.cap_octet.proofs.Common.{ℕ, ◌<◌, ◌≤◌, List, ◌++◌, length, take, drop, sym, ◌∙◌, ap, arith, Result, Ok, Err, IfOk, drop-append-le, append_assoc}
-use Rattle.cap_octet.proofs.Common.{length-take-le, take-append-drop, TakesSome, Reads}
-use Rattle.cap_octet.specs.declared.device.DeviceFault.{DeviceFault}
+use Rattle.std.proofs.Common.{ℕ, ◌<◌, ◌≤◌, List, ◌++◌, length, take, drop, sym, ◌∙◌, ap, arith, Result, Ok, Err, IfOk}
+use Rattle.std.proofs.lemmas.List.{drop-append-le, append_assoc, length-take-le, take-append-drop}
+use Rattle.cap_octet.specs.{Device.TakesSome, Device.Reads, declared.device.DeviceFault.DeviceFault}
 
 -- a read into the front of a buffer is a read into the buffer
 TakesSome-front : (u b : List ℕ) (most n : ℕ) (u' p : List ℕ) → most ≤ length b → (0 < length b → 0 < most) → n ≤ length (take most b)

@@ -1,9 +1,8 @@
 -- A number in bytes depends only on its own bytes, not on those after it.
 use Rattle.std.proofs.Common.{◌≡◌, ℕ, ◌+◌, ◌≤◌, List, ◌++◌, length, arith, length-drop}
-use Rattle.std.proofs.lemmas.List.{drop-append-le}
 use Rattle.byteorder.specs.Numbers.{big_from-append, little_from-append}
-use Rattle.cap_octet.specs.Number.{number_in}
 use Rattle.cap_octet.specs.declared.number.Order.{Order, TheVariants.Little, TheVariants.Big}
+use Rattle.{std.proofs.lemmas.List.drop-append-le, cap_octet.specs.Number.number_in}
 
 pub number_in-append : (order : Order) (width : ℕ) (front more : List ℕ) (at : ℕ) → at + width ≤ length front
     → number_in order width (front ++ more) at ≡ number_in order width front at

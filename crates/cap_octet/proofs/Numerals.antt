@@ -1,9 +1,8 @@
 -- n decimal digits are a number below 10^n, and more digits never make a number smaller.
-use Rattle.cap_octet.proofs.Common.{[], ◌≡◌, ℕ, ◌+◌, ◌*◌, ◌^◌, ◌<◌, ◌≤◌, Bool, true, false, nat_lt, ◌&&◌, List, ◌∷◌, length, drop, get_or, refl, arith}
-use Rattle.cap_octet.proofs.Common.{mul-le-mul_left, pow-le-pow_right, at_drop_more, AllDigits, digits_value_after, digits_value, are_digits, decimal_value}
-use Rattle.cap_octet.proofs.Common.{in_u64}
-use Rattle.std.proofs.lemmas.{Int.Digits.digits_value-lt}
-use Rattle.std.specs.Char.{digit_value}
+use Rattle.std.proofs.Common.{[], ◌≡◌, ℕ, ◌+◌, ◌*◌, ◌^◌, ◌<◌, ◌≤◌, Bool, true, false, nat_lt, ◌&&◌, List, ◌∷◌, length, drop, get_or, refl, arith}
+use Rattle.cap_octet.specs.Digits.{are_digits, decimal_value, in_u64}
+use Rattle.std.proofs.{Math.Nat.mul-le-mul_left, Math.Nat.pow-le-pow_right, lemmas.List.at_drop_more, lemmas.Int.Digits.digits_value-lt}
+use Rattle.std.specs.{Str.Parse.AllDigits, Str.Parse.digits_value_after, Str.Parse.digits_value, Char.digit_value}
 
 pub grows : (radix n : ℕ) (cs : List ℕ) → 1 ≤ radix → n ≤ digits_value_after radix n cs
 grows radix n [] h = omega arith

@@ -1,10 +1,12 @@
 -- Two reads after each other are one longer read, and two writes one longer write.
-use Rattle.cap_octet.proofs.Common.{◌≡◌, ℕ, ◌+◌, ◌-◌, ◌<◌, ◌≤◌, Bool, true, false, if◌then◌else◌, List, ◌++◌, length, take, drop, sym, ◌∙◌, ap, arith, subst}
-use Rattle.cap_octet.proofs.Common.{Option, None, Some, length-take, drop-drop, drop_at, take_at, append-nil, append_assoc, take-take, take_all, drop-append-le}
-use Rattle.cap_octet.proofs.Common.{take-append-drop, take-add, Takes, TakesSome, TakesFull}
-use Rattle.std.specs.Io.{BufRead.DropsConsumable, KnownBytes.Consumes, KnownBytes.prepend_known}
-use Rattle.std.proofs.{Math.ListN.drop_of_length-le, lemmas.List.length-drop}
+use Rattle.std.proofs.Common.{◌≡◌, ℕ, ◌+◌, ◌-◌, ◌<◌, ◌≤◌, Bool, true, false, if◌then◌else◌, List, ◌++◌, length, take, drop, sym, ◌∙◌, ap, arith, subst, Option}
+use Rattle.std.proofs.Common.{None, Some}
+use Rattle.cap_octet.proofs.Common.{length-take}
+use Rattle.std.proofs.lemmas.List.{drop-drop, drop_at, take_at, append-nil, append_assoc, take-take, take_all, drop-append-le, take-append-drop, length-drop}
+use Rattle.cap_octet.specs.Device.{Takes, TakesSome, TakesFull}
 use borrow.Rule.Slice.PartMut.{put_mid, mid_of}
+use Rattle.std.proofs.Math.{Seq.take-add, ListN.drop_of_length-le}
+use Rattle.std.specs.Io.{BufRead.DropsConsumable, KnownBytes.Consumes, KnownBytes.prepend_known}
 
 -- the bytes after the first c ones of the buffer, after the first c were read
 following : (u b : List ℕ) (c : ℕ) → c ≤ length u → drop c (take c u ++ drop c b) ≡ drop c b

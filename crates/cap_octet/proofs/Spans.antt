@@ -1,10 +1,10 @@
 -- Reading seconds and their fraction in 64 bits gives the same value as in unbounded numbers.
-use Rattle.cap_octet.proofs.Common.{◌≡◌, ℕ, ◌+◌, ◌-◌, ◌*◌, ◌^◌, ◌<◌, ◌≤◌, Bool, true, false, List, length, Option, Some, None, refl, sym, ap, ◌∙◌, arith}
-use Rattle.cap_octet.proofs.Common.{if◌then◌else◌, take, drop, one-le-pow, mul-le-mul_right, decimal_value, in_u64, duration_of_parts, fraction_nanoseconds}
-use Rattle.cap_octet.proofs.Common.{number_at}
+use Rattle.std.proofs.Common.{◌≡◌, ℕ, ◌+◌, ◌-◌, ◌*◌, ◌^◌, ◌<◌, ◌≤◌, Bool, true, false, List, length, Option, Some, None, refl, sym, ap, ◌∙◌, arith}
+use Rattle.std.proofs.Common.{if◌then◌else◌, take, drop, length-take}
+use Rattle.std.proofs.Math.Nat.{one-le-pow, mul-le-mul_right}
 use Rattle.cap_octet.proofs.Numerals.{below_ten_to, few_in_u64}
-use Rattle.std.proofs.{Common.length-take, lemmas.Nat.pow-add}
-use Rattle.std.specs.Option.{option_and_then}
+use Rattle.cap_octet.specs.{Seconds.duration_of_parts, Seconds.fraction_nanoseconds, Digits.decimal_value, Digits.in_u64, Timestamp.number_at}
+use Rattle.std.{proofs.lemmas.Nat.pow-add, specs.Option.option_and_then}
 
 -- a number of a digits, moved to nine
 nine : (a v : ℕ) → a ≤ 9 → v < 10 ^ a → v * 10 ^ (9 - a) < 1000000000

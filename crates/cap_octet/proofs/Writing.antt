@@ -1,8 +1,8 @@
 -- What has been written when a write of several parts stops.
-use Rattle.cap_octet.proofs.Common.{◌≡◌, ℕ, ◌+◌, ◌<◌, List, ◌++◌, length, take, drop, get_or, Err, ap, sym, ◌∙◌, arith, length-append, take-append-add}
-use Rattle.cap_octet.proofs.Common.{flat_map, append_assoc, take-append-le, take-append-drop, drop_more, Stops, WritesAll}
-use Rattle.std.proofs.lemmas.Grind.{flat_map-append}
-use Rattle.cap_octet.specs.declared.device.Stopped.{Stopped}
+use Rattle.std.proofs.Common.{◌≡◌, ℕ, ◌+◌, ◌<◌, List, ◌++◌, length, take, drop, get_or, Err, ap, sym, ◌∙◌, arith, length-append}
+use Rattle.std.proofs.lemmas.List.{append_assoc, take-append-le, take-append-drop, drop_more}
+use Rattle.cap_octet.specs.{Device.Stops, Device.WritesAll, declared.device.Stopped.Stopped}
+use Rattle.std.{specs.List.flat_map, proofs.Math.Seq.take-append-add, proofs.lemmas.Grind.flat_map-append}
 
 -- a part that stopped after others, and that more would have followed
 stops-at : (old mid new done part more : List ℕ) (stopped : Stopped) → mid ≡ old ++ done → stopped.written < length part

@@ -1,17 +1,17 @@
 -- A block is entered into the table of interfaces, and its packet has the data of the definitions.
-use Rattle.cap_pcapng.proofs.Common.{◌≡◌, ℕ, ◌+◌, ◌-◌, ◌^◌, ◌<◌, ◌≤◌, Bool, true, false, List, [], ◌∷◌, length, take, drop, Option, Some, None, Ok, refl, sym}
-use Rattle.cap_pcapng.proofs.Common.{ap, ap₂, subst, ◌∙◌, arith, lit≤, leb-true, length-drop, inl, inr, if◌then◌else◌, nat_lt, is_some, unwrap_or}
-use Rattle.cap_pcapng.proofs.Common.{AllByRecursion, slice_get, option_map, ok_or, drop-drop, drop-take, take-take, length-take-le, length-take, take_all}
-use Rattle.cap_pcapng.proofs.Common.{first_failing, Fault, TimeOutOfRange, TooManyInterfaces, Order, all_met, met_front, Parts, InterfaceParts, EnhancedParts}
-use Rattle.cap_pcapng.proofs.Common.{SimpleParts, block_checks, block_fault, option_checks, body_checks, body_in, data_checks, parts_in, parts_in_body}
-use Rattle.cap_pcapng.proofs.Common.{parts_of, simple_captured, comment_code, comment_in, Described, most_interfaces, first_value, fitting_options}
-use Rattle.cap_pcapng.proofs.Common.{padded_length, representable_time, checks_among, packet_by, packet_of, section_by, Frame, Enters, IsBlockFault}
-use Rattle.cap_pcapng.proofs.Common.{held_packet, section_of}
-use Rattle.cap_pcapng.proofs.{Faults.all_failing, Faults.all_of_options, OptionLists.options_in-none}
-use Rattle.cap_pcapng.proofs.WholeBlocks.{block_fails, block_passes}
-use Rattle.cap_pcapng.specs.declared.blocks.{Block.Block, EnhancedBlock.EnhancedBlock, SimpleBlock.SimpleBlock}
-use Rattle.cap_pcapng.specs.declared.{effect.PacketSpans.PacketSpans, frames.BlockType.BlockType}
-use Rattle.cap_pcapng.specs.inside.Effect.{PacketFound, fault_among}
+use Rattle.std.proofs.Common.{◌≡◌, ℕ, ◌+◌, ◌-◌, ◌^◌, ◌<◌, ◌≤◌, Bool, true, false, List, [], ◌∷◌, length, take, drop, Option, Some, None, Ok, refl, sym, ap, ap₂}
+use Rattle.std.proofs.Common.{subst, ◌∙◌, arith, lit≤, leb-true, length-drop, inl, inr, if◌then◌else◌, nat_lt, is_some, unwrap_or}
+use Rattle.std.proofs.lemmas.List.{drop-drop, drop-take, take-take, length-take-le, length-take, take_all}
+use Rattle.cap_pcapng.proofs.Common.{first_failing, Fault, TimeOutOfRange, TooManyInterfaces, Order, all_met, met_front, comment_code, Described, first_value}
+use Rattle.cap_pcapng.proofs.Common.{fitting_options, padded_length, Frame, Block, EnhancedBlock}
+use Rattle.cap_pcapng.specs.Block.{Parts, InterfaceParts, EnhancedParts, SimpleParts, block_checks, block_fault, option_checks, body_checks, body_in}
+use Rattle.cap_pcapng.specs.Block.{data_checks, parts_in, parts_in_body, parts_of, simple_captured}
+use Rattle.cap_pcapng.specs.Unit.{checks_among, packet_by, packet_of, section_by}
+use Rattle.cap_pcapng.specs.Effect.{Enters, IsBlockFault, held_packet, section_of}
+use Rattle.cap_pcapng.specs.declared.{frames.BlockType.BlockType, blocks.SimpleBlock.SimpleBlock, effect.PacketSpans.PacketSpans}
+use Rattle.cap_pcapng.proofs.{WholeBlocks.block_fails, WholeBlocks.block_passes, Faults.all_failing, Faults.all_of_options, OptionLists.options_in-none}
+use Rattle.cap_pcapng.specs.{inside.Effect.PacketFound, inside.Effect.fault_among, Time.representable_time, Comment.comment_in, Interface.most_interfaces}
+use Rattle.std.specs.{List.AllByRecursion, List.slice_get, Option.option_map, Option.ok_or}
 
 -- ---- a packet's data
 

@@ -1,9 +1,10 @@
 -- What is true of the faults of all checks is true of the first that fails; and which faults
 -- options have.
-use Rattle.cap_pcapng.proofs.Common.{arith, ◌≡◌, ℕ, zero, suc, Bool, true, false, List, [], ◌∷◌, ◌++◌, Some, Result, Ok, Err, cond, subst, AllByRecursion}
-use Rattle.cap_pcapng.proofs.Common.{first_failing, Fault, BadOption, BadTimeResolution, Order, Parts, InterfaceParts, option_checks, checks_after, list_checks}
-use Rattle.cap_pcapng.proofs.Common.{CodedValue, fits_at}
-use Rattle.cap_pcapng.specs.OptionList.{options_in, options_within}
+use Rattle.std.proofs.Common.{arith, ◌≡◌, ℕ, zero, suc, Bool, true, false, List, [], ◌∷◌, ◌++◌, Some, Result, Ok, Err, cond, subst}
+use Rattle.std.specs.List.{AllByRecursion}
+use Rattle.cap_pcapng.proofs.Common.{first_failing, Fault, BadOption, BadTimeResolution, Order, checks_after}
+use Rattle.cap_pcapng.specs.OptionList.{CodedValue, fits_at, options_in, options_within}
+use Rattle.cap_pcapng.specs.{Block.Parts, Block.InterfaceParts, Block.option_checks, InterfaceOptions.list_checks}
 
 -- ---- the faults of some rows
 

@@ -1,10 +1,12 @@
 -- The options of an interface, read one after another.
-use Rattle.cap_pcapng.proofs.Common.{◌≡◌, ℕ, Bool, true, false, List, [], ◌∷◌, ◌++◌, cond, refl, sym, ap, ◌∙◌, eqb-true, Option, Some, None, Result, Ok, ◌<◌}
-use Rattle.cap_pcapng.proofs.Common.{◌^◌, unwrap_or, arith, is_some, if◌then◌else◌, option_map, option_or, met_front, failing_front, first_failing, Fault}
-use Rattle.cap_pcapng.proofs.Common.{Order, checks_after, first_checks, first_value, fitting_options, list_checks, units_in_value, CodedValue, microseconds}
-use Rattle.std.proofs.{Math.Nat.one-le-pow, lemmas.List.append_assoc}
-use Rattle.cap_pcapng.specs.declared.interface.FoundOptions.{FoundOptions}
+use Rattle.std.proofs.Common.{◌≡◌, ℕ, Bool, true, false, List, [], ◌∷◌, ◌++◌, cond, refl, sym, ap, ◌∙◌, eqb-true, Option, Some, None, Result, Ok, ◌<◌, ◌^◌}
+use Rattle.std.proofs.Common.{unwrap_or, arith, is_some, if◌then◌else◌}
+use Rattle.std.specs.Option.{option_map, option_or}
+use Rattle.cap_pcapng.proofs.Common.{met_front, failing_front, first_failing, Fault, Order, checks_after, first_value, fitting_options}
+use Rattle.cap_pcapng.specs.InterfaceOptions.{first_checks, list_checks, units_in_value}
 use Rattle.cap_pcapng.specs.inside.Interface.{Adds, IsFound, is_found, value_for}
+use Rattle.cap_pcapng.specs.{declared.interface.FoundOptions.FoundOptions, OptionList.CodedValue, Time.microseconds}
+use Rattle.std.proofs.{Math.Nat.one-le-pow, lemmas.List.append_assoc}
 
 -- the options that an iterator still returns after some were read without a fault, and this was
 -- found in them

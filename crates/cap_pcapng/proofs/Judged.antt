@@ -1,6 +1,6 @@
 -- A reader's result, by its value or by its fault.
-use Rattle.cap_pcapng.proofs.Common.{◌≡◌, Bool, List, None, Some, Result, Ok, Err, IfOk, IfErr, first_failing, Fault}
-use Rattle.cap_pcapng.specs.Answer.{ChecksGive}
+use Rattle.std.proofs.Common.{◌≡◌, Bool, List, None, Some, Result, Ok, Err, IfOk, IfErr}
+use Rattle.cap_pcapng.{proofs.Common.first_failing, proofs.Common.Fault, specs.Answer.ChecksGive}
 
 pub judged-passes : {X : Type 0} → (checks : List (Bool × Fault)) (result : Result X Fault) (Holds : X → Type 0) → ChecksGive checks result Holds
     → IfOk result (λ _. first_failing checks ≡ None)

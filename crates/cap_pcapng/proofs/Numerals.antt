@@ -1,7 +1,7 @@
 -- A number that was written reads back.
-use Rattle.cap_pcapng.proofs.Common.{arith, ◌≡◌, ℕ, ◌^◌, ◌<◌, List, ◌++◌, drop, little_bytes, little_number, Little}
-use Rattle.byteorder.specs.Numbers.{little_number-reads_back}
-use Rattle.cap_octet.specs.Number.{number_in}
+use Rattle.std.proofs.Common.{arith, ◌≡◌, ℕ, ◌^◌, ◌<◌, List, ◌++◌, drop}
+use Rattle.cap_pcapng.proofs.Common.{little_bytes, Little, number_in}
+use Rattle.byteorder.specs.{Endian.little_number, Numbers.little_number-reads_back}
 
 pub number_at : (width : ℕ) (text : List ℕ) (at x : ℕ) (rest : List ℕ) → drop at text ≡ little_bytes width x ++ rest → x < 256 ^ width
     → number_in Little width text at ≡ x

@@ -1,9 +1,9 @@
 -- The first option of a list, and those after it.
-use Rattle.cap_pcapng.proofs.Common.{◌≡◌, ℕ, zero, suc, ◌+◌, ◌<◌, ◌≤◌, Bool, true, false, List, [], ◌∷◌, ◌||◌, cond, length, drop, refl, ap, ◌∙◌, ◌-◌, take}
-use Rattle.cap_pcapng.proofs.Common.{arith, lit<, ltb-false, lt-ltb, le-ltb, eq-eqb, ne_eqb, length-drop, min, ◌≢◌, Result, Ok, Err, IsErr, lt-leb, drop_min}
-use Rattle.cap_pcapng.proofs.Common.{take_rest, u16_in, Fault, BadOption, Order, fitting_options, CodedValue, item_of, option_at, option_size, ends_at, fits_at}
-use Rattle.cap_pcapng.proofs.Common.{padded_length}
-use Rattle.cap_pcapng.specs.{OptionList.options_in, OptionList.options_within, declared.options.BlockOption.BlockOption}
+use Rattle.std.proofs.Common.{◌≡◌, ℕ, zero, suc, ◌+◌, ◌<◌, ◌≤◌, Bool, true, false, List, [], ◌∷◌, ◌||◌, cond, length, drop, refl, ap, ◌∙◌, ◌-◌, take, arith}
+use Rattle.std.proofs.Common.{lit<, ltb-false, lt-ltb, le-ltb, eq-eqb, ne_eqb, length-drop, min, ◌≢◌, Result, Ok, Err, IsErr}
+use Rattle.cap_pcapng.proofs.Common.{lt-leb, u16_in, Fault, BadOption, Order, fitting_options, padded_length, BlockOption}
+use Rattle.std.proofs.lemmas.List.{drop_min, take_rest}
+use Rattle.cap_pcapng.specs.OptionList.{CodedValue, item_of, option_at, option_size, ends_at, fits_at, options_in, options_within}
 
 false_first : (a b : Bool) → (a || b) ≡ false → a ≡ false
 false_first false b is = refl

@@ -1,13 +1,12 @@
 -- Options that were written read back.
-use Rattle.cap_pcapng.proofs.Common.{◌≡◌, ℕ, ◌+◌, ◌-◌, ◌^◌, ◌<◌, ◌≤◌, List, [], ◌∷◌, ◌++◌, length, take, drop, replicate, refl, sym, ap, ap₂, ◌∙◌, arith}
-use Rattle.cap_pcapng.proofs.Common.{append_assoc, length-append, None, Result, Ok, le-leb, unwrap_or, length-replicate, take_at, drop_at, little_bytes}
-use Rattle.cap_pcapng.proofs.Common.{first_failing, u16_in, Fault, Little, comment_code, comment_in, described_by, described_in, first_value, fitting_options}
-use Rattle.cap_pcapng.proofs.Common.{list_checks, written_interface, CodedValue, option_at, option_size, padded_length, comment_text, end_text, name_text}
-use Rattle.cap_pcapng.proofs.Common.{option_text, padded_text, resolution_text}
-use Rattle.cap_pcapng.proofs.Numerals.{number_at}
-use Rattle.cap_pcapng.proofs.OptionLists.{goes_on, options_in-more, options_in-none}
-use Rattle.cap_octet.specs.Number.{number_in}
-use Rattle.cap_pcapng.specs.OptionList.{options_in, options_within}
+use Rattle.std.proofs.Common.{◌≡◌, ℕ, ◌+◌, ◌-◌, ◌^◌, ◌<◌, ◌≤◌, List, [], ◌∷◌, ◌++◌, length, take, drop, replicate, refl, sym, ap, ap₂, ◌∙◌, arith, append_assoc}
+use Rattle.std.proofs.Common.{length-append, None, Result, Ok, le-leb, unwrap_or}
+use Rattle.std.proofs.lemmas.List.{length-replicate, take_at, drop_at}
+use Rattle.cap_pcapng.proofs.Common.{little_bytes, first_failing, u16_in, Fault, Little, comment_code, first_value, fitting_options, padded_length, number_in}
+use Rattle.cap_pcapng.specs.OptionList.{CodedValue, option_at, option_size, options_in, options_within}
+use Rattle.cap_pcapng.specs.Encoding.{comment_text, end_text, name_text, option_text, padded_text, resolution_text}
+use Rattle.cap_pcapng.specs.{Interface.described_by, Interface.described_in, Laws.written_interface, Comment.comment_in, InterfaceOptions.list_checks}
+use Rattle.cap_pcapng.proofs.{Numerals.number_at, OptionLists.goes_on, OptionLists.options_in-more, OptionLists.options_in-none}
 
 length-option_text : (code : ℕ) (value : List ℕ) → length (option_text code value) ≡ padded_length (4 + length value)
 length-option_text code value = simp (length-append, length-replicate) (omega arith)

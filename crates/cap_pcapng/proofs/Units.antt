@@ -1,10 +1,11 @@
 -- The first bytes determine which block they begin with.
-use Rattle.cap_pcapng.proofs.Common.{◌≡◌, Parts, ℕ, ◌<◌, ◌≤◌, Bool, true, false, ◌&&◌, List, [], ◌∷◌, ◌++◌, length, take, drop, Option, Some, None}
-use Rattle.cap_pcapng.proofs.Common.{refl, sym, ap, ap₂, ◌∙◌, arith, leb-true, le-leb, nat_le, lt-leb, length-take-le, take-append-drop, take-append-le}
-use Rattle.cap_pcapng.proofs.Common.{drop-append-le, first_failing, Fault, Truncated, Order, all_met, failing_front, met_front, block_checks, body_in, parts_in}
-use Rattle.cap_pcapng.proofs.Common.{frame_checks, frame_in, length_in, IsBlock, Section, block_size, checks_among, frame_after, interfaces_before}
-use Rattle.cap_pcapng.proofs.Common.{order_before, parts_after, unit_fault, Frame}
-use Rattle.std.proofs.lemmas.List.{length-append, length-drop}
+use Rattle.std.proofs.Common.{◌≡◌, ℕ, ◌<◌, ◌≤◌, Bool, true, false, ◌&&◌, List, [], ◌∷◌, ◌++◌, length, take, drop, Option, Some, None, refl, sym, ap, ap₂, ◌∙◌}
+use Rattle.std.proofs.Common.{arith, leb-true, le-leb, nat_le}
+use Rattle.cap_pcapng.specs.Block.{Parts, block_checks, body_in, parts_in}
+use Rattle.cap_pcapng.proofs.Common.{lt-leb, first_failing, Fault, Truncated, Order, all_met, failing_front, met_front, Frame}
+use Rattle.std.proofs.lemmas.List.{length-take-le, take-append-drop, take-append-le, drop-append-le, length-append, length-drop}
+use Rattle.cap_pcapng.specs.Frame.{frame_checks, frame_in, length_in}
+use Rattle.cap_pcapng.specs.Unit.{IsBlock, Section, block_size, checks_among, frame_after, interfaces_before, order_before, parts_after, unit_fault}
 use Rattle.cap_octet.proofs.Numbers.{number_in-append}
 
 -- ---- more bytes after

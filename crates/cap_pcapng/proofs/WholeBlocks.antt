@@ -1,8 +1,8 @@
 -- All checks of a block by itself, and those that need its section.
-use Rattle.cap_pcapng.proofs.Common.{arith, take, drop, ◌≡◌, ℕ, ◌-◌, ◌≤◌, ◌⊎◌, inl, inr, Bool, true, false, List, [], ◌∷◌, ◌++◌, length, Some, None, refl}
-use Rattle.cap_pcapng.proofs.Common.{le-leb, eq-eqb, first_failing, u32_in, Fault, block_checks, block_fault, body_checks, option_checks, parts_in}
-use Rattle.cap_pcapng.proofs.Common.{parts_in_body, Frame}
-use Rattle.cap_pcapng.proofs.Units.{both_none}
+use Rattle.std.proofs.Common.{arith, take, drop, ◌≡◌, ℕ, ◌-◌, ◌≤◌, ◌⊎◌, inl, inr, Bool, true, false, List, [], ◌∷◌, ◌++◌, length, Some, None, refl, le-leb}
+use Rattle.std.proofs.Common.{eq-eqb}
+use Rattle.cap_pcapng.specs.Block.{block_checks, block_fault, body_checks, option_checks, parts_in, parts_in_body}
+use Rattle.cap_pcapng.proofs.{Common.first_failing, Common.u32_in, Common.Fault, Common.Frame, Units.both_none}
 
 -- the checks of a body, and of its options
 abbrev pub own_checks : Frame → List ℕ → List (Bool × Fault)

@@ -1,17 +1,19 @@
 -- Blocks that were written read back.
-use Rattle.cap_pcapng.proofs.Common.{◌≡◌, ℕ, ◌+◌, ◌-◌, ◌*◌, ◌/◌, ◌%◌, ◌^◌, ◌<◌, ◌≤◌, false, List, [], ◌∷◌, ◌++◌, length, take, drop, refl, sym, ap, ap₂, ◌∙◌}
-use Rattle.cap_pcapng.proofs.Common.{arith, append_assoc, length-append, Some, None, le-leb, leb-true, lt-ltb, eq-eqb, lit≤, pos, ◌==◌, slice_get}
-use Rattle.cap_pcapng.proofs.Common.{option_to_list, length-replicate, take_at, drop_at, little_bytes, all_met, first_failing, u16_in, u32_in, Little}
-use Rattle.cap_pcapng.proofs.Common.{EnhancedParts, InterfaceParts, Parts, block_checks, body_checks, body_in, parts_in, parts_in_body, comment_in}
-use Rattle.cap_pcapng.proofs.Common.{frame_checks, frame_in, most_block, section_type, type_of_block, Captured, Described, most_interfaces, InterfaceBack}
-use Rattle.cap_pcapng.proofs.Common.{PacketBack, SectionBack, ReadsAs, written_interface, written_section, padded_length, representable_time, checks_among}
-use Rattle.cap_pcapng.proofs.Common.{packet_by, section_by, block_size, block_text, comment_text, end_text, block_fit_checks, interface_body, name_text}
-use Rattle.cap_pcapng.proofs.Common.{packet_body, padded_text, resolution_text, Frame}
-use Rattle.cap_pcapng.proofs.Numerals.{number_at}
-use Rattle.cap_pcapng.proofs.OptionsBack.{comment_back, options_describe, options_pass}
-use Rattle.cap_pcapng.proofs.Units.{unit_fault-passes}
+use Rattle.std.proofs.Common.{◌≡◌, ℕ, ◌+◌, ◌-◌, ◌*◌, ◌/◌, ◌%◌, ◌^◌, ◌<◌, ◌≤◌, false, List, [], ◌∷◌, ◌++◌, length, take, drop, refl, sym, ap, ap₂, ◌∙◌, arith}
+use Rattle.std.proofs.Common.{append_assoc, length-append, Some, None, le-leb, leb-true, lt-ltb, eq-eqb, lit≤, pos, ◌==◌}
+use Rattle.std.proofs.lemmas.List.{length-replicate, take_at, drop_at}
+use Rattle.cap_pcapng.proofs.Common.{little_bytes, all_met, first_failing, u16_in, u32_in, Little, Described, padded_length, Frame, number_in}
+use Rattle.cap_pcapng.specs.Block.{EnhancedParts, InterfaceParts, Parts, block_checks, body_checks, body_in, parts_in, parts_in_body}
+use Rattle.cap_pcapng.specs.Frame.{frame_checks, frame_in, most_block, section_type, type_of_block}
+use Rattle.cap_pcapng.specs.Laws.{InterfaceBack, PacketBack, SectionBack, ReadsAs, written_interface, written_section}
+use Rattle.cap_pcapng.specs.Unit.{checks_among, packet_by, section_by, block_size}
+use Rattle.cap_pcapng.specs.Encoding.{block_text, comment_text, end_text, block_fit_checks, interface_body, name_text, packet_body, padded_text}
+use Rattle.cap_pcapng.specs.Encoding.{resolution_text}
 use Rattle.cap_pcapng.proofs.WrittenBlocks.{comment_text-whole, length-interface_body, length-packet_body}
-use Rattle.cap_octet.specs.{Date.NANOS_PER_SECOND, Number.number_in}
+use Rattle.cap_pcapng.specs.{Time.representable_time, Comment.comment_in, Interface.most_interfaces}
+use Rattle.cap_octet.specs.{Packet.Captured, Date.NANOS_PER_SECOND}
+use Rattle.std.specs.{List.slice_get, Option.option_to_list}
+use Rattle.cap_pcapng.proofs.{OptionsBack.comment_back, OptionsBack.options_describe, OptionsBack.options_pass, Numerals.number_at, Units.unit_fault-passes}
 
 -- ---- a section header
 

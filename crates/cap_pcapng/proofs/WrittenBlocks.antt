@@ -1,8 +1,11 @@
 -- A block that is written is its parts, joined, and as long as is told.
-use Rattle.cap_pcapng.proofs.Common.{◌≡◌, ℕ, ◌+◌, ◌-◌, ◌<◌, ◌≤◌, List, [], ◌∷◌, ◌++◌, length, take, drop, replicate, refl, sym, ap, ap₂, ◌∙◌, arith}
-use Rattle.cap_pcapng.proofs.Common.{append_assoc, length-append, ne_eqb, ◌%◌, ◌==◌, false, true, false≢true, append-nil, drop_at, length-replicate}
-use Rattle.cap_pcapng.proofs.Common.{replicate-append-replicate, take_all, little_bytes, Captured, padded_length, block_text, comment_text, end_text, interface_body}
-use Rattle.cap_pcapng.proofs.Common.{interface_header, interface_text, name_text, packet_body, packet_header, packet_block, resolution_text}
+use Rattle.std.proofs.Common.{◌≡◌, ℕ, ◌+◌, ◌-◌, ◌<◌, ◌≤◌, List, [], ◌∷◌, ◌++◌, length, take, drop, replicate, refl, sym, ap, ap₂, ◌∙◌, arith, append_assoc}
+use Rattle.std.proofs.Common.{length-append, ne_eqb, ◌%◌, ◌==◌, false, true}
+use Rattle.std.proofs.lemmas.List.{append-nil, drop_at, length-replicate, replicate-append-replicate, take_all}
+use Rattle.cap_pcapng.proofs.Common.{little_bytes, padded_length}
+use Rattle.cap_pcapng.specs.Encoding.{block_text, comment_text, end_text, interface_body, interface_header, interface_text, name_text, packet_body}
+use Rattle.cap_pcapng.specs.Encoding.{packet_header, packet_block, resolution_text}
+use Rattle.{std.proofs.lemmas.Bool.false≢true, cap_octet.specs.Packet.Captured}
 
 -- the last zeros before other bytes, and these
 block_end : (k zeros n : ℕ) (more end : List ℕ) → zeros ≤ k → end ≡ replicate k 0 ++ more → n ≡ k + length more

@@ -1,15 +1,12 @@
 -- A command line that clap accepts has a subcommand, since one is required.
-use Rattle.capkit.proofs.Common.{rules, arith, ◌≡◌, ◌∙◌, ap, sym, refl, subst, Bool, true, false, List, [], ◌∷◌, Option, Some, None, ◌&&◌, is_some, not, find}
-use Rattle.capkit.proofs.Common.{if◌then◌else◌, option_map, Box, ArgMatches, subcommand_name_of, subcommand_rows_of, TakesWords, line_app, name_of, Asks}
-use Rattle.capkit.proofs.Common.{Subcommand}
-use Rattle.std.specs.Box.{box_value}
-use Rattle.clap.specs.Faults.{built_fault, level_fault}
-use Rattle.clap.specs.Kinds.{Kinds, check_kinds, or_else}
+use Rattle.capkit.proofs.Common.{rules, arith, ◌≡◌, ◌∙◌, ap, sym, refl, subst, Bool, true, false, List, [], ◌∷◌, Option, Some, None, if◌then◌else◌, ArgMatches}
+use Rattle.capkit.proofs.Common.{subcommand_rows_of, TakesWords, line_app, name_of, Asks, Subcommand}
+use Rattle.std.proofs.Common.{◌&&◌, is_some, not, find, option_map, Box}
 use Rattle.clap.specs.Simple.{App, Shape, built, entered, names_of, rows_at, subcommand_rows}
 use Rattle.clap.specs.Walk.{Held, Names, Row, Text, answers_to, nothing_held, stop_after}
-use Rattle.clap.specs.declared.parser.matches.ArgMatches.TheViews.{out-ArgMatches, out-SubCommand}
-use Rattle.clap.specs.declared.parser.matches.SubCommand.{SubCommand}
-use Rattle.capkit.specs.inside.Arguments.{subcommand_of_name}
+use Rattle.clap.specs.declared.parser.matches.{ArgMatches.TheViews.out-ArgMatches, ArgMatches.TheViews.out-SubCommand, SubCommand.SubCommand}
+use Rattle.{std.specs.Box.box_value, capkit.specs.inside.Arguments.subcommand_of_name}
+use Rattle.clap.specs.{Kinds.Kinds, Kinds.check_kinds, Kinds.or_else, Words.subcommand_name_of, Faults.built_fault, Faults.level_fault}
 use Rattle.capkit.specs.declared.arguments.Subcommand.TheVariants as sub
 
 -- where no step of several fails, the last one doesn't

@@ -1,7 +1,6 @@
 -- Adding the rows of a table one by one gives the same as adding them all.
-use Rattle.std.proofs.Common.{arith, ◌≡◌, ◌∙◌, ◌||◌, Bool, false, ◌+◌, ◌<◌, ◌≤◌, ap, add-one, drop-cons, ℕ, List, length, drop, map, slice_index_or}
+use Rattle.capkit.proofs.Common.{arith, ◌≡◌, ◌∙◌, ◌||◌, Bool, false, ◌+◌, ◌<◌, ◌≤◌, ap, add-one, drop-cons, ℕ, List, length, drop, map, slice_index_or, fold}
 use Rattle.std.proofs.{Math.Bool.or-false, lemmas.List.drop_all}
-use Rattle.std.specs.Prelude.{fold}
 
 pub one_more : {A B X : Type 0} (step : A → B → A) (f : X → B) (xs : List X) (i : ℕ) (d : X) (old new : A) (made : B) → i < length xs
     → new ≡ step old made → made ≡ f (slice_index_or xs i d)

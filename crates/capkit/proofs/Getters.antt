@@ -1,7 +1,7 @@
 -- The getters of clap's matches return the texts of the options.
-use Rattle.capkit.proofs.Common.{◌≡◌, ap, sym, refl, List, ℕ, Bool, true, false, Option, Some, None, unwrap_or, codes, option_map_or, bytes_eq, ParsesBool}
-use Rattle.capkit.proofs.Common.{false_from_ne_true, ReadsOne, first_value-rows, one_text-rows, raw_values-rows}
-use Rattle.std.proofs.lemmas.Slice.Eq.{bytes_eq-Decides}
+use Rattle.capkit.proofs.Common.{◌≡◌, ap, sym, refl, List, ℕ, Bool, true, false, Option, Some, None, codes, option_map_or, bytes_eq, ReadsOne, one_text-rows}
+use Rattle.clap.proofs.WalkLemmas.{first_value-rows, raw_values-rows}
+use Rattle.std.{proofs.lemmas.Bool.false_from_ne_true, proofs.lemmas.Slice.Eq.bytes_eq-Decides, proofs.Common.unwrap_or, specs.Str.Parse.ParsesBool}
 
 pub ruleset reads = (first_value-rows, one_text-rows, raw_values-rows)
 

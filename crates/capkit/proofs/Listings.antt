@@ -1,10 +1,8 @@
 -- A command with a proper listing may be run.
-use Rattle.std.proofs.Common.{◌≡◌, ℕ, zero, suc, Bool, true, false, ◌&&◌, ◌||◌, not, nat_eq, nat_lt, refl, string_bytes, arith}
-use Rattle.std.proofs.lemmas.Bool.{lt-ltb}
-use Rattle.std.specs.{Global.Global, Global.Vec}
-use Rattle.cap_command.specs.Command.{is_proper}
-use Rattle.cap_command.specs.declared.command.Command.{Command}
+use Rattle.capkit.proofs.Common.{◌≡◌, ℕ, Bool, true, false, ◌||◌, nat_lt, refl, string_bytes, arith, lt-ltb, Global, Vec}
+use Rattle.std.proofs.Common.{zero, suc, ◌&&◌, not, nat_eq}
 use Rattle.capkit.specs.Line.{has_expression, with_code}
+use Rattle.cap_command.specs.{Command.is_proper, declared.command.Command.Command}
 
 no-words : (a h r : Bool) (n : ℕ) → (a && (h && r)) && not (nat_lt 0 n) ≡ true → (a && ((nat_eq n 0 || false) && r)) ≡ true
 no-words false h r n is = (cc)

@@ -1,10 +1,11 @@
 -- Which numbers digits write, and where a word is split at its hyphen.
 use Rattle.cap_octet.specs.Digits.{decimal_value, in_u64}
-use Rattle.std.specs.Char.{digit_value}
-use Rattle.capkit.proofs.Common.{ap, IfNone, ◌==◌, lit<, suc, ◌+◌, ◌≤◌, cond, ◌≡◌, ◌<◌, ◌^◌, ℕ, Bool, true, false, List, [], ◌∷◌, length, refl, sym, ◌∙◌, rules}
-use Rattle.capkit.proofs.Common.{arith, IfSome, nat_lt, ◌||◌, not, if◌then◌else◌, Option, Some, None, is_ascii_digit, after_first, before_first, list_all}
-use Rattle.capkit.proofs.Common.{list_any, position_or_len, Bor, MatchOption, le-ltb, lt-ltb, IsDigitsTest, is_hyphen, range_number, sides_of}
-use Rattle.std.proofs.lemmas.{Bool.Decides.nat_tests, Str.Pattern.IsSplitOnceResult, Str.Pattern.split_once_first}
+use Rattle.capkit.proofs.Common.{ap, IfNone, ◌+◌, ◌≤◌, ◌≡◌, ◌<◌, ℕ, Bool, true, false, List, [], ◌∷◌, length, refl, sym, ◌∙◌, rules, arith, nat_lt, ◌||◌}
+use Rattle.capkit.proofs.Common.{if◌then◌else◌, Option, Some, None, list_all, list_any, Bor, le-ltb, lt-ltb, nat_tests}
+use Rattle.std.proofs.Common.{◌==◌, lit<, suc, cond, ◌^◌, IfSome, not}
+use Rattle.capkit.specs.Range.{is_hyphen, range_number, sides_of}
+use Rattle.std.proofs.lemmas.Str.{Parse.IsDigitsTest, Pattern.IsSplitOnceResult, Pattern.split_once_first}
+use Rattle.std.specs.{List.after_first, List.before_first, List.position_or_len, Char.digit_value, Char.is_ascii_digit, Option.MatchOption}
 
 pub test : IsDigitsTest (λ ds. list_all is_ascii_digit ds ≡ true)
 test = search rules

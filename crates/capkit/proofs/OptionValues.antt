@@ -1,13 +1,13 @@
 -- The values of the options of `edit` and `print` are within their bounds.
-use Rattle.capkit.proofs.Common.{◌≡◌, ◌≤◌, ◌^◌, ◌-◌, ◌∙◌, ◌==◌, ap, refl, ℕ, Bool, true, false, Option, Some, None, Result, Ok, Err, arith, ◌&&◌, IfSome}
-use Rattle.capkit.proofs.Common.{nat_le, nat_lt, if◌then◌else◌, position, option_and_then, option_map_or, ParsesUnsigned, digits_value, without_leading_plus}
-use Rattle.capkit.proofs.Common.{and_from, and_parts, le-leb, is_at_least_one, is_time, is_window, least_window, most_window, ReadsOne, Text, number_between}
-use Rattle.cap_octet.specs.{Digits.decimal_value}
+use Rattle.capkit.proofs.Common.{◌≡◌, ◌≤◌, ◌∙◌, ap, refl, ℕ, Bool, true, false, Option, Some, None, Result, Ok, Err, arith, nat_lt, if◌then◌else◌, position}
+use Rattle.capkit.proofs.Common.{option_and_then, option_map_or, and_from, and_parts, le-leb, is_time, ReadsOne, Text, number_between, ValueParser}
+use Rattle.std.proofs.Common.{◌^◌, ◌-◌, ◌==◌, ◌&&◌, IfSome, nat_le}
+use Rattle.std.specs.Str.Parse.{ParsesUnsigned, digits_value, without_leading_plus}
+use Rattle.cap_command.specs.Command.{is_at_least_one, is_window, least_window, most_window}
 use Rattle.cap_octet.specs.Seconds.{duration_at, duration_value, duration_of_parts, time_below_end}
-use Rattle.cap_octet.specs.Timestamp.{date_time_value, time_value, time_of_parts}
 use Rattle.clap.specs.ValueTests.{is_numeral, is_unsigned_in}
-use Rattle.clap.specs.declared.builder.value_parser.ValueParser.{ValueParser}
 use Rattle.clap.proofs.ValueTestLemmas.{Accepts-accepts, accepts-Accepts}
+use Rattle.cap_octet.specs.{Digits.decimal_value, Timestamp.date_time_value, Timestamp.time_value, Timestamp.time_of_parts}
 
 -- ---- numbers
 

@@ -1,9 +1,8 @@
 -- What clap accepts and refuses is what the rules of the command line accept and refuse.
-use Rattle.capkit.proofs.Common.{arith, ◌≡◌, ◌∙◌, ap, sym, subst, true, List, Result, Ok, Err, IfOk, IfErr, map, refl, App, FailsBy, HasKind, HasMatchesOf}
-use Rattle.capkit.proofs.Common.{Text, fault_of, is_simple, is_simple_and_free, kind_of, subcommand_of, subcommand_rows_of, takes, AreChoices, RefusesWords}
-use Rattle.capkit.proofs.Common.{TakesWords, format_names, line_app, link_names}
-use Rattle.clap.specs.declared.{builder.value_parser.ValueParser.ValueParser, error.Error.Error, error.kind.ErrorKind.TheVariants.OutOfMemory}
-use Rattle.clap.specs.declared.{parser.matches.ArgMatches.ArgMatches}
+use Rattle.capkit.proofs.Common.{arith, ◌≡◌, ◌∙◌, ap, sym, subst, true, List, Result, Ok, Err, IfOk, IfErr, map, refl, App, Text, subcommand_rows_of}
+use Rattle.capkit.proofs.Common.{TakesWords, line_app, ValueParser, Error, OutOfMemory, ArgMatches}
+use Rattle.clap.specs.Words.{FailsBy, HasKind, HasMatchesOf, fault_of, is_simple, is_simple_and_free, kind_of, subcommand_of, takes}
+use Rattle.capkit.specs.Arguments.{AreChoices, RefusesWords, format_names, link_names}
 use Rattle.cap_octet.specs.{Format.all_formats, Link.all_links}
 
 simple_line : (formats links : ValueParser) → is_simple (line_app formats links) ≡ true

@@ -1,10 +1,10 @@
 -- A line of `print` without a fault may be run.
 use Rattle.capkit.proofs.Common.{◌≡◌, ◌∙◌, ap, arith, refl, codes, Bool, true, false, List, [], ◌∷◌, length, Option, Some, None, String, string_bytes, vec_len}
-use Rattle.capkit.proofs.Common.{◌&&◌, ◌||◌, is_none, is_some, nat_lt, not, option_map, if◌then◌else◌, Global, join_by, option_map_or, lt-ltb}
-use Rattle.capkit.proofs.Common.{has_at_most_one_output, is_at_least_one, Row, Text, IsPrintOf, is_ready, or_else, print_fault, Line, Usage, OptionsExclude}
-use Rattle.capkit.proofs.Common.{◌++◌, ℕ, map}
-use Rattle.std.proofs.{Common.flat_map, Math.Bool.or-true, lemmas.Bool.or_parts}
-use Rattle.cap_octet.specs.declared.format.Format.{Format}
+use Rattle.capkit.proofs.Common.{◌||◌, is_none, nat_lt, if◌then◌else◌, Global, join_by, option_map_or, lt-ltb, Row, Text, Line, Usage, ◌++◌, ℕ, map, or_parts}
+use Rattle.std.proofs.Common.{◌&&◌, is_some, not, option_map, flat_map}
+use Rattle.cap_command.specs.Command.{has_at_most_one_output, is_at_least_one}
+use Rattle.capkit.specs.Line.{IsPrintOf, is_ready, or_else, print_fault}
+use Rattle.{cap_octet.specs.declared.format.Format.Format, capkit.specs.declared.usage.Usage.TheVariants.OptionsExclude, std.proofs.Math.Bool.or-true}
 use Rattle.capkit.specs.declared.ids.TheConstants as ids
 use Rattle.capkit.specs.declared.print_line.TheConstants as print_ids
 

@@ -1,10 +1,12 @@
 -- When a range, or the names of several inputs, are refused.
 use Rattle.capkit.proofs.Common.{arith, ◌≡◌, ◌≤◌, ◌<◌, ◌∙◌, ap, sym, refl, ℕ, Bool, true, false, List, [], ◌∷◌, length, map, take, Option, Some, None}
-use Rattle.capkit.proofs.Common.{slice_index_or, is_none, if◌then◌else◌, Bor, list_all, list_any, cond-false, and_from, cond-true, le-leb, le-ltb, lt-ltb}
-use Rattle.capkit.proofs.Common.{length-map, take_all, list_any-map, has_proper_ranges, is_range, most_ranges, Text, range_fault, range_number, range_of}
-use Rattle.capkit.proofs.Common.{sides_of, BadRange, TooManyValues, nat_lt, most_inputs, files_fault, or_else, uses_name_twice, Usage, NameUsedTwice}
+use Rattle.capkit.proofs.Common.{slice_index_or, is_none, if◌then◌else◌, Bor, list_all, list_any, and_from, le-leb, le-ltb, lt-ltb, take_all, list_any-map}
+use Rattle.capkit.proofs.Common.{is_range, Text, range_of, nat_lt, uses_name_twice, Usage}
+use Rattle.cap_command.specs.Command.{has_proper_ranges, most_ranges, most_inputs}
+use Rattle.capkit.specs.declared.usage.Usage.TheVariants.{BadRange, TooManyValues, NameUsedTwice}
 use Rattle.capkit.proofs.WrittenRanges.{between}
-use Rattle.std.proofs.lemmas.List.Folds.{list_any_at}
+use Rattle.std.proofs.lemmas.{Bool.cond-false, Bool.cond-true, List.length-map, List.Folds.list_any_at}
+use Rattle.capkit.specs.{Line.range_fault, Line.files_fault, Line.or_else, Range.range_number, Range.sides_of}
 
 abbrev is_bad : Text → Bool
 is_bad word = is_none (range_of word)

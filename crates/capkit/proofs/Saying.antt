@@ -1,8 +1,8 @@
 -- A line, or a fault, is what the words of the command line ask for.
 use Rattle.capkit.proofs.Common.{◌≡◌, inl, inr, refl, List, Some, None, Result, Ok, Err, IfOk, IfErr, OnOk, Bool, true, false, [], ◌∷◌, if◌then◌else◌, is_none}
-use Rattle.capkit.proofs.Common.{nat_lt, list_any, Row, Text, Asks, IsUsageOf, IsLineOf, SaysFault, SaysLine, fault_in, or_else, text_in, texts_in}
-use Rattle.capkit.proofs.Common.{uses_name_twice, Subcommand, Line, Usage, BadRange, BadTime, Memory, NameUsedTwice, OptionsExclude, Refused, TooManyValues}
-use Rattle.clap.specs.declared.error.Error.{Error}
+use Rattle.capkit.proofs.Common.{nat_lt, list_any, Row, Text, Asks, uses_name_twice, Subcommand, Line, Usage, Error}
+use Rattle.capkit.specs.Line.{IsUsageOf, IsLineOf, SaysFault, SaysLine, fault_in, or_else, text_in, texts_in}
+use Rattle.capkit.specs.declared.usage.Usage.TheVariants.{BadRange, BadTime, Memory, NameUsedTwice, OptionsExclude, Refused, TooManyValues}
 use Rattle.capkit.specs.declared.ids.TheConstants as ids
 use Rattle.capkit.specs.declared.edit_line.TheConstants as edit_ids
 use Rattle.capkit.specs.declared.arguments.Subcommand.TheVariants as sub

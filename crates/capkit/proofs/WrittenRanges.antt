@@ -1,12 +1,13 @@
 -- The range that is read from a word is the one that the word writes.
 use Rattle.capkit.proofs.Common.{◌≡◌, ◌∙◌, ◌++◌, ap, arith, refl, subst, sym, ℕ, Bool, true, false, List, ◌∷◌, Option, Some, None, IfNone, if◌then◌else◌}
-use Rattle.capkit.proofs.Common.{is_ascii_digit, after_first, before_first, list_all, list_any, IsNumeral, digits_value, and_from, and_parts, cond-true}
-use Rattle.capkit.proofs.Common.{eqb-true, lt-ltb, ltb-true, IsNumeralModel, not_in_digits, numerals_by_value, is_range, is_decimal, is_hyphen, range_number}
-use Rattle.capkit.proofs.Common.{range_between, range_of, sides_of}
+use Rattle.capkit.proofs.Common.{list_all, list_any, and_from, and_parts, lt-ltb, is_range, range_of}
+use Rattle.std.proofs.lemmas.Str.Parse.{IsNumeralModel, not_in_digits, numerals_by_value}
+use Rattle.capkit.specs.Range.{is_decimal, is_hyphen, range_number, range_between, sides_of}
 use Rattle.capkit.proofs.Numbers.{any_by_place, test}
-use Rattle.std.proofs.lemmas.List.Sums.{passes_at_first, split_at_first}
 use Rattle.clap.proofs.CutLemmas.{Lacks, after_first-at, before_first-at, list_any-Lacks, list_any-at}
 use Rattle.capkit.specs.inside.Range.{WritesNumbers, WritesRange, one, two}
+use Rattle.std.specs.{Str.Parse.IsNumeral, Str.Parse.digits_value, Char.is_ascii_digit, List.after_first, List.before_first}
+use Rattle.std.proofs.lemmas.{Bool.cond-true, Bool.eqb-true, Bool.ltb-true, List.Sums.passes_at_first, List.Sums.split_at_first}
 
 -- ---- numbers
 

@@ -1,8 +1,9 @@
 -- The bytes of the lines are the listing, and if a line can't be written, a prefix of it.
-use Rattle.flt_bpf.proofs.Common.{◌≡◌, ℕ, ◌+◌, ◌-◌, ◌<◌, ◌≤◌, List, [], ◌∷◌, ◌++◌, length, take, drop, length-append, append_assoc, refl, sym, ap, ◌∙◌, arith}
-use Rattle.flt_bpf.proofs.Common.{get_or, decimal, take_all, take_more, drop_more, take-append-drop, take-append-le, Insn, LINE_FEED, insn_line, insn_lines}
-use Rattle.flt_bpf.proofs.Common.{listing}
-use Rattle.std.proofs.{Math.Seq.take-append-add, lemmas.List.length-drop}
+use Rattle.std.proofs.Common.{◌≡◌, ℕ, ◌+◌, ◌-◌, ◌<◌, ◌≤◌, List, [], ◌∷◌, ◌++◌, drop, length-append, refl, sym, ap, ◌∙◌, arith, get_or, decimal}
+use Rattle.flt_bpf.proofs.Common.{length, take, append_assoc, Insn}
+use Rattle.std.proofs.lemmas.List.{take_all, take_more, drop_more, take-append-drop, take-append-le, length-drop}
+use Rattle.flt_bpf.specs.Listing.{LINE_FEED, insn_line, insn_lines, listing}
+use Rattle.std.proofs.Math.Seq.{take-append-add}
 
 -- the bytes of a line from where it starts
 pub line_bytes : (line : List ℕ) (start : ℕ) → length line ≡ 25 → take (25 - start) (drop start line) ≡ drop start line

@@ -1,9 +1,10 @@
 -- The reader of numbers accepts exactly the written numbers.
-use Rattle.flt_bpf.proofs.Common.{◌≡◌, ℕ, ◌^◌, ◌<◌, ◌≤◌, List, [], ◌∷◌, length, true, false, Some, arith, ◌==◌, All, decimal, nat_tests}
-use Rattle.flt_bpf.proofs.Common.{decimal_is_IsNumeral, length-decimal-le, All-nil, IsWrittenNumber, digits_from_test, digits_pass, numeral}
+use Rattle.std.proofs.Common.{◌≡◌, ℕ, ◌^◌, ◌<◌, ◌≤◌, List, [], ◌∷◌, true, false, Some, arith, ◌==◌, All, decimal}
+use Rattle.flt_bpf.proofs.Common.{length, nat_tests, length-decimal-le}
 use Rattle.std.specs.Str.Parse.{AllDigits, digits_value}
-use Rattle.std.proofs.lemmas.Str.Parse.{digit_from_value}
-use Rattle.cap_octet.specs.Digits.{are_digits}
+use Rattle.std.proofs.lemmas.{Str.Parse.digit_from_value, Fmt.decimal_is_IsNumeral, List.Elements.All-nil}
+use Rattle.flt_bpf.specs.{Listing.IsWrittenNumber, inside.Reading.numeral}
+use Rattle.cap_octet.{proofs.Numerals.digits_from_test, proofs.Numerals.digits_pass, specs.Digits.are_digits}
 
 -- what is read as a number is one
 numeral_parts : (ds : List ℕ) (n : ℕ) → numeral ds ≡ Some n → (length ds ≤ 10) × (0 < length ds) × (are_digits 10 ds ≡ true) × (digits_value 10 ds ≡ n)

@@ -1,5 +1,6 @@
 -- The jumps of code stay needed if an instruction is put before it.
-use Rattle.flt_bpf.proofs.Common.{◌≡◌, ℕ, zero, suc, ◌+◌, List, ◌∷◌, Some, arith, ap, ◌∙◌, inl, inr, ◌≢◌, ◌⊎◌, slice_get, Insn}
+use Rattle.std.proofs.Common.{◌≡◌, ℕ, zero, suc, ◌+◌, List, ◌∷◌, Some, arith, ap, ◌∙◌, inl, inr, ◌≢◌, ◌⊎◌, slice_get}
+use Rattle.flt_bpf.proofs.Common.{Insn}
 use Rattle.flt_bpf.specs.Layout.{JUMP, IsNeeded, JumpsAreNeeded}
 
 -- a jump that is needed stays so

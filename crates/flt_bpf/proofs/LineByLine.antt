@@ -1,9 +1,11 @@
 -- Reading a listing line by line reads the whole listing.
-use Rattle.flt_bpf.proofs.Common.{◌≡◌, ℕ, zero, suc, ◌+◌, ◌-◌, ◌<◌, ◌≤◌, List, [], ◌∷◌, ◌++◌, length, length-append, Some, None, refl, sym, ap, ◌∙◌, subst}
-use Rattle.flt_bpf.proofs.Common.{arith, ◌==◌, ◌⊎◌, Bool, cond, inl, inr, onto_first, slice_get, slice_split, length-slice_split, AllZip, Insn, LINE_FEED}
-use Rattle.flt_bpf.proofs.Common.{lines_from, lines_of, IsInsnLine, line_numbers, insn_of, AreInsns, HasInsn, WrongAfter}
+use Rattle.std.proofs.Common.{◌≡◌, ℕ, zero, suc, ◌+◌, ◌-◌, ◌<◌, ◌≤◌, List, [], ◌∷◌, ◌++◌, length-append, Some, None, refl, sym, ap, ◌∙◌, subst, arith, ◌==◌}
+use Rattle.std.proofs.Common.{◌⊎◌, Bool, cond, inl, inr, slice_get}
+use Rattle.flt_bpf.proofs.Common.{length, onto_first, slice_split, AllZip, Insn}
+use Rattle.flt_bpf.specs.Listing.{LINE_FEED, lines_from, lines_of, IsInsnLine}
+use Rattle.flt_bpf.specs.inside.Reading.{line_numbers, insn_of, AreInsns, HasInsn, WrongAfter}
 use Rattle.flt_bpf.proofs.Readings.{insn_is, insn_read}
-use Rattle.std.proofs.{Math.Seq.append_snoc, lemmas.List.append-nil}
+use Rattle.std.proofs.{Math.Seq.append_snoc, lemmas.List.Splits.length-slice_split, lemmas.List.append-nil}
 
 -- a line with others after it
 pub line_more : (text piece rest : List ℕ) → slice_split (λ b. b == LINE_FEED) text ≡ piece ∷ slice_split (λ b. b == LINE_FEED) rest

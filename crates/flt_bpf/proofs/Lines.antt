@@ -1,7 +1,9 @@
 -- A text is cut at the first occurrence of a byte, and the numbers of a line are read one by one.
-use Rattle.flt_bpf.proofs.Common.{◌≡◌, ℕ, ◌<◌, List, [], ◌∷◌, length, Option, Some, None, refl, ap, ◌∙◌, arith, ◌==◌, slice_split, length-slice_split}
-use Rattle.flt_bpf.proofs.Common.{Insn, BLANK, numeral, after, later_numbers, numbers_of, line_numbers, insn_from, insn_of, only_of, zero, suc, ◌+◌, ◌-◌}
-use Rattle.flt_bpf.proofs.Common.{get_or, take, drop, length-drop, false, nat_tests, slice_split-cons_yes, slice_split-cons_no, onto_first, take_all}
+use Rattle.std.proofs.Common.{◌≡◌, ℕ, ◌<◌, List, [], ◌∷◌, Option, Some, None, refl, ap, ◌∙◌, arith, ◌==◌, zero, suc, ◌+◌, ◌-◌, get_or, drop, length-drop, false}
+use Rattle.flt_bpf.proofs.Common.{length, slice_split, Insn, take, nat_tests, onto_first}
+use Rattle.flt_bpf.specs.Listing.{BLANK}
+use Rattle.flt_bpf.specs.inside.Reading.{numeral, after, later_numbers, numbers_of, line_numbers, insn_from, insn_of, only_of}
+use Rattle.std.proofs.lemmas.List.{Splits.length-slice_split, Splits.slice_split-cons_yes, Splits.slice_split-cons_no, take_all}
 
 -- no byte below a place is the one
 pub cut_here : (c : ℕ) (bs : List ℕ) (at : ℕ) → ((k : ℕ) → k < at → get_or bs k 0 ≡ c → ⊥) → at < length bs → get_or bs at 0 ≡ c

@@ -1,7 +1,9 @@
 -- The numbers that the reader finds on a line are those that the line writes.
-use Rattle.flt_bpf.proofs.Common.{◌≡◌, ℕ, zero, suc, ◌<◌, List, [], ◌∷◌, ◌++◌, length, append_assoc, Bool, Option, Some, refl, ap, ◌∙◌, subst, arith, ◌==◌}
-use Rattle.flt_bpf.proofs.Common.{replicate, slice_split, join_with_byte, slice_split_at, slice_split_none, length-slice_split, slice_split-cons_yes}
-use Rattle.flt_bpf.proofs.Common.{join_with_byte-slice_split, BLANK, AreNumbers, numeral, after, later_numbers, numbers_of, line_numbers}
+use Rattle.std.proofs.Common.{◌≡◌, ℕ, zero, suc, ◌<◌, List, [], ◌∷◌, ◌++◌, Bool, Option, Some, refl, ap, ◌∙◌, subst, arith, ◌==◌, replicate}
+use Rattle.flt_bpf.proofs.Common.{length, append_assoc, slice_split, join_with_byte}
+use Rattle.std.proofs.lemmas.List.Splits.{slice_split_at, slice_split_none, length-slice_split, slice_split-cons_yes, join_with_byte-slice_split}
+use Rattle.flt_bpf.specs.Listing.{BLANK, AreNumbers}
+use Rattle.flt_bpf.specs.inside.Reading.{numeral, after, later_numbers, numbers_of, line_numbers}
 use Rattle.flt_bpf.proofs.{Digits.numeral_is, Digits.numeral_read, Digits.number_lacks, Lines.numbers_more}
 
 -- blanks and then numbers

@@ -1,9 +1,10 @@
 -- The instruction that the reader finds on a line is the one that it writes, so a text has one
 -- reading.
-use Rattle.flt_bpf.proofs.Common.{◌≡◌, ℕ, ◌≤◌, List, [], ◌∷◌, length, Option, Some, refl, ap, ◌∙◌, AllZip, Insn, MOST_INSTRUCTIONS, MOST_BYTES}
-use Rattle.flt_bpf.proofs.Common.{IsWrittenNumber, IsInsnLine, lines_of, AreListingLines, IsListing, line_numbers, only_of, AreInsns, arith, nat_tests}
-use Rattle.flt_bpf.proofs.Common.{HasFieldsInRange, insn_from, insn_of}
-use Rattle.flt_bpf.proofs.Numbers.{line_numbers_are, line_numbers_read}
+use Rattle.std.proofs.Common.{◌≡◌, ℕ, ◌≤◌, List, [], ◌∷◌, Option, Some, refl, ap, ◌∙◌, arith}
+use Rattle.flt_bpf.proofs.Common.{length, AllZip, Insn, nat_tests}
+use Rattle.flt_bpf.specs.Listing.{MOST_BYTES, IsWrittenNumber, IsInsnLine, lines_of, AreListingLines, IsListing, HasFieldsInRange}
+use Rattle.flt_bpf.specs.inside.Reading.{line_numbers, only_of, AreInsns, insn_from, insn_of}
+use Rattle.flt_bpf.{specs.Valid.MOST_INSTRUCTIONS, proofs.Numbers.line_numbers_are, proofs.Numbers.line_numbers_read}
 
 -- four numbers that are an instruction are its fields, and in range
 four_numbers : (o : Option (List ℕ)) (i : Insn) → insn_of o ≡ Some i → o ≡ Some (i.code ∷ i.jt ∷ i.jf ∷ i.k ∷ [])

@@ -1,6 +1,7 @@
 -- The check of one instruction finds a fault if and only if the instruction breaks that rule.
-use Rattle.flt_bpf.proofs.Common.{◌≡◌, ℕ, ◌+◌, ◌-◌, ◌<◌, Option, Some, arith, nat_tests, Insn, CheckFault, Operation, fault_if_known, OperationBreaks}
-use Rattle.flt_bpf.specs.{Check.fault_of, Instructions.operation_of}
+use Rattle.std.proofs.Common.{◌≡◌, ℕ, ◌+◌, ◌-◌, ◌<◌, Option, Some, arith}
+use Rattle.flt_bpf.proofs.Common.{nat_tests, Insn, CheckFault, Operation, operation_of}
+use Rattle.flt_bpf.specs.{Check.fault_if_known, Check.fault_of, Valid.OperationBreaks}
 
 -- a fault that was found is a rule that is broken
 found_breaks_if : (o : Option Operation) (i : Insn) (at len : ℕ) (f : CheckFault) → at < len → fault_if_known o i (len - (at + 1)) ≡ Some f

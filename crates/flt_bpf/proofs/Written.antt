@@ -1,7 +1,8 @@
 -- The listing that is written for instructions is a listing of them.
-use Rattle.flt_bpf.proofs.Common.{◌≡◌, ℕ, suc, ◌*◌, ◌^◌, ◌<◌, ◌≤◌, List, [], ◌∷◌, ◌++◌, length, length-append, append_assoc, false, refl, sym, subst, arith}
-use Rattle.flt_bpf.proofs.Common.{common_steps, ◌==◌, All, decimal, AllZip, length-decimal-le, All-append, All-cons, slice_split_at, Insn, BLANK, LINE_FEED}
-use Rattle.flt_bpf.proofs.Common.{insn_line, insn_lines, listing, AreNumbers, HasFieldsInRange, IsInsnLine, lines_of, IsListing}
+use Rattle.std.proofs.Common.{◌≡◌, ℕ, suc, ◌*◌, ◌^◌, ◌<◌, ◌≤◌, List, [], ◌∷◌, ◌++◌, length-append, false, refl, sym, subst, arith, ◌==◌, All, decimal}
+use Rattle.flt_bpf.proofs.Common.{length, append_assoc, common_steps, AllZip, length-decimal-le, Insn}
+use Rattle.flt_bpf.specs.Listing.{BLANK, LINE_FEED, insn_line, insn_lines, listing, AreNumbers, HasFieldsInRange, IsInsnLine, lines_of, IsListing}
+use Rattle.std.proofs.lemmas.List.{Elements.All-append, Elements.All-cons, Splits.slice_split_at}
 use Rattle.flt_bpf.proofs.{Digits.decimal_number, Digits.field_lengths, Digits.number_lacks, LineByLine.line_more}
 
 -- a number, one blank, and a rest

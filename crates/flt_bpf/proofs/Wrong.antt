@@ -1,11 +1,10 @@
 -- The reader refuses a text at its first wrong line, and a listing has none.
-use Rattle.flt_bpf.proofs.Common.{◌≡◌, ℕ, zero, suc, ◌<◌, ◌≤◌, List, [], ◌∷◌, length, Some, sym, ap, ◌∙◌, arith, ◌⊎◌, inl, inr, slice_get, AllZip, Insn}
-use Rattle.flt_bpf.proofs.Common.{MOST_INSTRUCTIONS, MOST_BYTES, IsWrittenNumber, IsInsnLine, lines_of, AreListingLines, IsListing, HasCount, IsWrong}
-use Rattle.flt_bpf.proofs.Common.{FirstWrong, IsRefusedAt, HasInsn, WrongAfter, IsFaultAfter, line_numbers, only_of}
-use Rattle.flt_bpf.proofs.Numbers.{line_numbers_read}
-use Rattle.std.proofs.lemmas.Slice.Zip.{AllZip-long}
-use Rattle.flt_bpf.specs.Refusal.{IsReasonFor}
+use Rattle.std.proofs.Common.{◌≡◌, ℕ, zero, suc, ◌<◌, ◌≤◌, List, [], ◌∷◌, Some, sym, ap, ◌∙◌, arith, ◌⊎◌, inl, inr, slice_get}
+use Rattle.flt_bpf.proofs.Common.{length, AllZip, Insn, AllZip-long}
+use Rattle.flt_bpf.specs.Listing.{MOST_BYTES, IsWrittenNumber, IsInsnLine, lines_of, AreListingLines, IsListing, HasCount, IsWrong, FirstWrong, IsRefusedAt}
+use Rattle.flt_bpf.specs.inside.Reading.{HasInsn, WrongAfter, IsFaultAfter, line_numbers, only_of}
 use Rattle.flt_bpf.specs.declared.fault.ListingFault.{ListingFault, TheVariants.NotListing, TheVariants.Memory}
+use Rattle.flt_bpf.{proofs.Numbers.line_numbers_read, specs.Valid.MOST_INSTRUCTIONS, specs.Refusal.IsReasonFor}
 
 -- a line is a number in one way
 same_number : (digits : List ℕ) (m n : ℕ) → IsWrittenNumber digits m → IsWrittenNumber digits n → m ≡ n

@@ -12,7 +12,7 @@ use Rattle.flt_gen.proofs.Common.{loads, test_loads, place_loads, mask_loads, no
 use Rattle.flt_gen.proofs.Counted.{Bare, bare_within, bare_some, place_few, mask_few}
 use Rattle.flt_gen.proofs.Firsts.{exact, or_yes, by_first}
 use Rattle.flt_gen.proofs.{Exclusive.or_no, Runs.one_number}
-use Rattle.flt_gen.specs.inside.Search.{held_if, chain_of, search, MOST_HALVINGS, few_formula, many_formula, sides_at_index, at_index, index_of, never, always}
+use Rattle.flt_gen.specs.inside.Search.{held_if, chain_of, search, MOST_HALVINGS, few_formula, many_formula, are_at_index, sides_at_index, at_index, index_of, never, always}
 use Rattle.std.proofs.Math.Nat.{mod-eq_of_lt}
 
 -- ---- the code
@@ -331,4 +331,6 @@ module _ (link : Link) (at : Sides) (numbers : Numbers) (r : Ready link at numbe
   bare_sought few (Direction.One Source) = side_bare _ at.source (lean (index_of link at) numbers.mask at.source at.destination r.reached).0
   bare_sought few (Direction.One Destination) = side_bare _ at.destination (lean (index_of link at) numbers.mask at.source at.destination r.reached).1
   bare_sought few (Direction.Both And) = bare_some 1 (omega arith)
-  bare_sought few (Direction.Both Or) = grind (arith, nat_tests, many_bare, bare_within, few_bare)
+  bare_sought few (Direction.Both Or) =
+      if_case (λ (g : Formula). Bare g (sought_tests (Direction.Both Or) numbers)) (are_at_index few link at numbers) _ _
+      (λ e. bare_within _ (grind (arith, nat_tests)) many_bare) (λ e. bare_within _ (grind (arith, nat_tests)) (few_bare few))

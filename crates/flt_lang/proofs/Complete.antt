@@ -1,20 +1,20 @@
 -- The parser reads whatever the grammar reads.
-use Rattle.flt_lang.proofs.Common.{◌≡◌, ◌≢◌, ℕ, ◌+◌, ◌<◌, ◌≤◌, List, [], ◌∷◌, refl, sym, ◌∙◌, subst, ◌⊎◌, inl, inr, ⊎_elim, arith, Some, None, true}
-use Rattle.flt_lang.proofs.Common.{lit≤, Protocol, Operator, Divide, Join, TokenKind, Value, Node, Frame, Operand, NumberTree, literal, TruthTree, bare}
-use Rattle.flt_lang.proofs.Common.{Expression, no_mask, prefix, ReadsValue, number, level, is_accessor, stands_alone, has_casts, Number, of_literal, of_len}
-use Rattle.flt_lang.proofs.Common.{of_name, enclosed, of_load, of_sized_load, minus, single, chain, Truth, of_check, of_cast, of_protocol_cast, of_sized}
-use Rattle.flt_lang.proofs.Common.{of_valued, of_bare, relation, denial, enclosed_truth, term, terms, IsReadAs, no_tokens, all_tokens, precedence}
-use Rattle.flt_lang.proofs.Common.{operand_precedence, next_precedence, as_number, as_truth, as_sort, fill_frame, run, nodes_of_tokens}
-use Rattle.flt_lang.proofs.Common.{enclosed_operand, number_with_prefix, next_of, after_operand, IsLoose, number_onto, truth_onto, expr_onto}
-use Rattle.flt_lang.proofs.Reducing.{le_true, le_false, reduce_stays}
+use Rattle.std.proofs.Common.{◌≡◌, ◌≢◌, ℕ, ◌+◌, ◌<◌, ◌≤◌, List, [], ◌∷◌, refl, sym, ◌∙◌, subst, ◌⊎◌, inl, inr, ⊎_elim, arith, Some, None, true, lit≤}
+use Rattle.flt_lang.proofs.Common.{Protocol, Operator, Divide, Join, TokenKind, Value, Node, Frame, Operand, number_onto, truth_onto, expr_onto, Sort}
+use Rattle.flt_ast.specs.Tree.{NumberTree, literal, TruthTree, bare, Expression}
+use Rattle.flt_lang.specs.Values.{no_mask, prefix, ReadsValue, number}
+use Rattle.flt_lang.specs.Grammar.{level, is_accessor, stands_alone, has_casts, Number, of_literal, of_len, of_name, enclosed, of_load, of_sized_load, minus}
+use Rattle.flt_lang.specs.Grammar.{single, chain, Truth, of_check, of_cast, of_protocol_cast, of_sized, of_valued, of_bare, relation, denial, enclosed_truth}
+use Rattle.flt_lang.specs.Grammar.{term, terms, IsReadAs, no_tokens, all_tokens}
+use Rattle.flt_lang.specs.inside.Parser.{precedence, operand_precedence, next_precedence, as_number, as_truth, as_sort, fill_frame, run, nodes_of_tokens}
+use Rattle.flt_lang.specs.inside.Parser.{enclosed_operand, number_with_prefix, next_of, after_operand, IsLoose}
 use Rattle.flt_lang.proofs.Valued.{IsNoMask, no_mask_at, plain_runs, value_runs, valued_runs}
-use Rattle.flt_lang.proofs.ValuesBack.{level_small}
 use Rattle.flt_words.specs.declared.token.{Cast.Cast, Comparison.Comparison}
+use Rattle.flt_lang.proofs.{Reducing.le_true, Reducing.le_false, Reducing.reduce_stays, ValuesBack.level_small}
 use Rattle.flt_words.specs.declared.token.TokenKind.TheVariants as token
 use Rattle.flt_ast.specs.declared.node.Node.TheVariants as node
 use Rattle.flt_lang.specs.declared.frame.Frame.TheVariants as frame
 use Rattle.flt_lang.specs.declared.frame.Operand.TheVariants as operand
-use Rattle.flt_lang.specs.declared.frame.Sort.{Sort}
 
 -- a frame as tight as a division has no room for one
 tight_operand : (f : Frame) (fs : List Frame) → precedence f ≤ 1 → operand_precedence (f ∷ fs) < 1

@@ -1,10 +1,10 @@
 -- A count over the nodes is a count over the tree, and a division by 0 comes right after the 0.
-use Rattle.flt_lang.proofs.Common.{◌≡◌, ℕ, ◌+◌, ◌≤◌, List, [], ◌∷◌, refl, ap, ◌∙◌, arith, sum_by, fold, max, Node, NumberTree, load, negated}
-use Rattle.flt_lang.proofs.Common.{applied, TruthTree, compared, denied, joined, Expression, empty, truth, number_nodes, truth_nodes, expr_nodes, tree_of}
-use Rattle.flt_lang.proofs.Common.{IsTree, number_tests, truth_tests, tests_of, number_size, truth_size, nodes_of, number_words, truth_words, words_of}
-use Rattle.flt_lang.proofs.Common.{node_tests, node_size, climb, Bool, false, ◌||◌, any_primitive, some_primitive, some_zero_divisor}
-use Rattle.std.proofs.{Math.Bool.or_assoc, Math.Bool.or-false, lemmas.List.Sums.sum_by-cons}
-use Rattle.flt_ast.specs.Checks.{is_zero, has_zero_divisor, divides_by_zero}
+use Rattle.std.proofs.Common.{◌≡◌, ℕ, ◌+◌, ◌≤◌, List, [], ◌∷◌, refl, ap, ◌∙◌, arith, sum_by, fold, max, Bool, false, ◌||◌}
+use Rattle.flt_lang.proofs.Common.{Node, words_of, climb, some_zero_divisor, or_assoc, or-false, sum_by-cons}
+use Rattle.flt_ast.specs.Tree.{NumberTree, load, negated, applied, TruthTree, compared, denied, joined, Expression, empty, truth}
+use Rattle.flt_ast.specs.Nodes.{number_nodes, truth_nodes, expr_nodes, tree_of}
+use Rattle.flt_ast.specs.Counts.{number_tests, truth_tests, tests_of, number_size, truth_size, nodes_of, number_words, truth_words, node_tests, node_size}
+use Rattle.flt_ast.specs.{Checks.is_zero, Checks.has_zero_divisor, Checks.divides_by_zero, inside.Nodes.IsTree, Resolved.any_primitive, Resolved.some_primitive}
 use Rattle.flt_ast.specs.declared.node.Node.TheVariants as node
 
 sum_number_tests : (a : NumberTree) (rest : List Node) → sum_by node_tests (number_nodes a rest) ≡ number_tests a + sum_by node_tests rest

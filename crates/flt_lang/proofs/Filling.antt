@@ -1,14 +1,15 @@
 -- Completing the qualifiers of the nodes completes those of the tree, and a fault of a node is a
 -- fault of a primitive.
-use Rattle.flt_lang.proofs.Common.{◌≡◌, List, [], ◌∷◌, refl, sym, ap, ◌∙◌, Bool, true, false, not, ◌||◌, list_any, Node, NumberTree}
-use Rattle.flt_lang.proofs.Common.{load, negated, applied, TruthTree, valued, qualified, compared, denied, joined, Expression, empty}
-use Rattle.flt_lang.proofs.Common.{truth, number_nodes, truth_nodes, expr_nodes, is_size, has_wrong_size, is_misfit, is_out_of_range, has_bits_past_mask}
-use Rattle.flt_lang.proofs.Common.{any_primitive, some_primitive, tree_fault, is_misfit_node, is_out_of_range_node, has_bits_past_mask_node, nodes_fault, map}
-use Rattle.flt_lang.proofs.Common.{Qualifiers, tree_of, tree_back, IsTree, latest, with_inherited, complete, only_host, expr_inherited, fill_expression}
-use Rattle.flt_lang.proofs.Common.{completed_node, inherited_nodes, ◌&&◌, is_some, Option, Some, None, unwrap_or, Direction, Value, fit_of, is_misfit_fit}
-use Rattle.flt_lang.proofs.Common.{is_proto, is_either, type_or_host, completed_qualifiers, is_unfilled, first_fault, fill_fault, IsResolved, or_parts, or_from}
-use Rattle.flt_lang.proofs.Common.{Join}
-use Rattle.std.proofs.Math.Bool.{or_assoc, or-false}
+use Rattle.std.proofs.Common.{◌≡◌, List, [], ◌∷◌, refl, sym, ap, ◌∙◌, Bool, true, false, not, ◌||◌, map, ◌&&◌, is_some, Option, Some, None, unwrap_or}
+use Rattle.std.specs.List.{list_any}
+use Rattle.flt_lang.proofs.Common.{Node, Qualifiers, fill_expression, Direction, Value, or_parts, or_from, Join, or_assoc, or-false}
+use Rattle.flt_ast.specs.Tree.{NumberTree, load, negated, applied, TruthTree, valued, qualified, compared, denied, joined, Expression, empty, truth}
+use Rattle.flt_ast.specs.Nodes.{number_nodes, truth_nodes, expr_nodes, tree_of}
+use Rattle.flt_ast.specs.Fits.{is_size, fit_of, is_misfit_fit, is_proto, is_either}
+use Rattle.flt_ast.specs.Resolved.{has_wrong_size, is_misfit, is_out_of_range, has_bits_past_mask, any_primitive, some_primitive, tree_fault, is_misfit_node}
+use Rattle.flt_ast.specs.Resolved.{is_out_of_range_node, has_bits_past_mask_node, is_unfilled, first_fault, fill_fault, IsResolved}
+use Rattle.flt_ast.specs.Filled.{latest, with_inherited, complete, only_host, expr_inherited, completed_node, type_or_host, completed_qualifiers}
+use Rattle.flt_ast.specs.inside.{Nodes.tree_back, Nodes.IsTree, Resolved.nodes_fault, Filled.inherited_nodes}
 use Rattle.flt_ast.specs.declared.node.Node.TheVariants as node
 use Rattle.flt_ast.specs.declared.qualifiers.Direction.TheVariants as direction
 

@@ -1,7 +1,8 @@
 -- One turn of the loop in which tighter frames take the operand.
-use Rattle.flt_lang.proofs.Common.{◌≡◌, ℕ, ◌≤◌, ◌<◌, List, [], ◌∷◌, refl, Some, None, true, false, nat_le, arith, le-leb, Node, Frame, Operand, precedence}
-use Rattle.flt_lang.proofs.Common.{fill_frame, reduce, IsLoose}
-use Rattle.std.proofs.lemmas.Bool.Decides.{nat_tests}
+use Rattle.std.proofs.Common.{◌≡◌, ℕ, ◌≤◌, ◌<◌, List, [], ◌∷◌, refl, Some, None, true, false, nat_le, arith}
+use Rattle.flt_lang.proofs.Common.{Node, Frame, Operand}
+use Rattle.flt_lang.specs.inside.Parser.{precedence, fill_frame, reduce, IsLoose}
+use Rattle.std.proofs.lemmas.Bool.{le-leb, Decides.nat_tests}
 
 pub le_true : (m n : ℕ) → m ≤ n → nat_le m n ≡ true
 le_true m n h = le-leb m n h

@@ -1,20 +1,21 @@
 -- The grammar reads whatever the parser reads: if the parser returns nodes, they are those of a
 -- tree.
-use Rattle.flt_lang.proofs.Common.{◌≡◌, ℕ, suc, zero, ◌-◌, length, drop, inl, List, [], ◌∷◌, refl, sym, ap, ◌∙◌, subst, Option, Some, None, true, nat_le}
-use Rattle.flt_lang.proofs.Common.{zero-le, Protocol, Subtract, TokenKind, Value, Qualifiers, Node, Frame, Operand, len, named, TruthTree, check, cast, sized}
-use Rattle.flt_lang.proofs.Common.{bare, valued, is_written, qualifiers_of, value_of, stands_alone, has_casts, of_len, of_name, Truth, of_check}
-use Rattle.flt_lang.proofs.Common.{of_cast, of_protocol_cast, of_sized, of_valued, of_bare, truth_onto, operand_precedence, Begun, begin, valued_of, valued_or}
-use Rattle.flt_lang.proofs.Common.{check_of, primitive, bare_of, with_frames, ◌+◌, ◌≤◌, arith, Bool, false, if◌then◌else◌, lit≤, leb-true, Divide, literal}
-use Rattle.flt_lang.proofs.Common.{load, Expression, empty, truth, no_mask, prefix, number, level, Number, of_literal, enclosed, of_load, of_sized_load, single}
-use Rattle.flt_lang.proofs.Common.{chain, enclosed_truth, term, IsReadAs, no_tokens, all_tokens, ◌>>=◌, token_precedence, next_precedence, as_number, as_truth}
-use Rattle.flt_lang.proofs.Common.{reduce, after_token, whole, finish, run, nodes_of_tokens, enclosed_operand, next_of, after_operand, expr_onto, reverse}
-use Rattle.flt_lang.proofs.Common.{expr_nodes, tree_of, tree_back, IsTree, expr_turned}
+use Rattle.std.proofs.Common.{◌≡◌, ℕ, suc, zero, ◌-◌, length, drop, inl, List, [], ◌∷◌, refl, sym, ap, ◌∙◌, subst, Option, Some, None, true, nat_le, zero-le}
+use Rattle.std.proofs.Common.{◌+◌, ◌≤◌, arith, Bool, false, if◌then◌else◌, lit≤, reverse}
+use Rattle.flt_lang.proofs.Common.{Protocol, Subtract, TokenKind, Value, Qualifiers, Node, Frame, Operand, truth_onto, leb-true, Divide, expr_onto, Size}
+use Rattle.flt_ast.specs.Tree.{len, named, TruthTree, check, cast, sized, bare, valued, literal, load, Expression, empty, truth}
+use Rattle.flt_lang.specs.Values.{is_written, no_mask, prefix, number}
+use Rattle.flt_lang.specs.inside.Values.{qualifiers_of, value_of}
+use Rattle.flt_lang.specs.Grammar.{stands_alone, has_casts, of_len, of_name, Truth, of_check, of_cast, of_protocol_cast, of_sized, of_valued, of_bare, level}
+use Rattle.flt_lang.specs.Grammar.{Number, of_literal, enclosed, of_load, of_sized_load, single, chain, enclosed_truth, term, IsReadAs, no_tokens, all_tokens}
+use Rattle.flt_lang.specs.inside.Parser.{operand_precedence, Begun, begin, valued_of, valued_or, check_of, primitive, bare_of, with_frames, ◌>>=◌}
+use Rattle.flt_lang.specs.inside.Parser.{token_precedence, next_precedence, as_number, as_truth, reduce, after_token, whole, finish, run, nodes_of_tokens}
+use Rattle.flt_lang.specs.inside.Parser.{enclosed_operand, next_of, after_operand}
 use Rattle.flt_lang.proofs.Stacked.{some_first, some_then, Stacked, Following, widened, either_number, either_truth, Between, number_between, truth_between}
 use Rattle.flt_lang.proofs.Stacked.{chain_of, reduce_sound, loosened}
 use Rattle.flt_lang.proofs.Valued.{left_after, qualifiers_sound, side_written, value_left, value_sound}
-use Rattle.flt_lang.proofs.ValuesBack.{carried}
-use Rattle.flt_words.specs.declared.token.Size.{Size}
-use Rattle.flt_lang.proofs.Complete.{complete}
+use Rattle.flt_lang.proofs.{ValuesBack.carried, Complete.complete}
+use Rattle.flt_ast.{specs.inside.Nodes.tree_back, specs.inside.Nodes.IsTree, specs.Nodes.expr_nodes, specs.Nodes.tree_of, proofs.NodesBack.expr_turned}
 use Rattle.flt_words.specs.declared.token.TokenKind.TheVariants as token
 use Rattle.flt_ast.specs.declared.node.Node.TheVariants as node
 use Rattle.flt_lang.specs.declared.frame.Frame.TheVariants as frame

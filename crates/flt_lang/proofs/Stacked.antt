@@ -1,11 +1,12 @@
 -- The parser's frames and operand represent the tokens read so far.
-use Rattle.flt_lang.proofs.Common.{◌≡◌, ℕ, suc, zero, ◌+◌, ◌≤◌, ◌⊎◌, inl, inr, ⊎_elim, List, [], ◌∷◌, refl, sym, ap, ◌∙◌, subst, arith, Option, Some, None}
-use Rattle.flt_lang.proofs.Common.{Bool, true, false, nat_le, if◌then◌else◌, lit≤, zero-le, leb-true, Subtract, Divide, TokenKind, Node, Frame, Operand}
-use Rattle.flt_lang.proofs.Common.{NumberTree, literal, negated, applied, TruthTree, bare, compared, denied, joined, no_mask, number, level, is_accessor}
-use Rattle.flt_lang.proofs.Common.{Number, of_literal, minus, single, chain, Truth, of_bare, relation, denial, term, terms, ◌>>=◌, precedence}
-use Rattle.flt_lang.proofs.Common.{operand_precedence, prefix_mask, as_number, as_truth, Read, fill_frame, Reduced, reduce, number_onto, truth_onto, Value}
+use Rattle.std.proofs.Common.{◌≡◌, ℕ, suc, zero, ◌+◌, ◌≤◌, ◌⊎◌, inl, inr, ⊎_elim, List, [], ◌∷◌, refl, sym, ap, ◌∙◌, subst, arith, Option, Some, None, Bool}
+use Rattle.std.proofs.Common.{true, false, nat_le, if◌then◌else◌, lit≤, zero-le}
+use Rattle.flt_lang.proofs.Common.{leb-true, Subtract, Divide, TokenKind, Node, Frame, Operand, number_onto, truth_onto, Value, order}
+use Rattle.flt_ast.specs.Tree.{NumberTree, literal, negated, applied, TruthTree, bare, compared, denied, joined}
+use Rattle.flt_lang.specs.Values.{no_mask, number}
+use Rattle.flt_lang.specs.Grammar.{level, is_accessor, Number, of_literal, minus, single, chain, Truth, of_bare, relation, denial, term, terms}
+use Rattle.flt_lang.specs.inside.Parser.{◌>>=◌, precedence, operand_precedence, prefix_mask, as_number, as_truth, Read, fill_frame, Reduced, reduce}
 use Rattle.flt_lang.proofs.ValuesBack.{carried, level_small}
-use Rattle.std.proofs.str.Laws.{order}
 use Rattle.flt_words.specs.declared.token.TokenKind.TheVariants as token
 use Rattle.flt_ast.specs.declared.node.Node.TheVariants as node
 use Rattle.flt_lang.specs.declared.frame.Frame.TheVariants as frame

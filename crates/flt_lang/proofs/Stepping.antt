@@ -1,17 +1,15 @@
 -- What each step of the reader's loop needs to be a step of the defined parser.
-use Rattle.flt_lang.proofs.Common.{◌≡◌, ℕ, ◌+◌, ◌-◌, ◌<◌, ◌≤◌, ◌⊎◌, inl, inr, List, [], ◌∷◌, length, take, drop, get_or, ap, arith, Some, None, one-add}
-use Rattle.flt_lang.proofs.Common.{take_rest, Token, TokenKind, Value, kinds_of, value_of, sym, ◌∙◌, refl, Option, drop-map, drop-drop, Node, Frame, Operand}
-use Rattle.flt_lang.proofs.Common.{State, run, after_operand, begin_at, next_of, number_with_prefix, operand_precedence, token_precedence, reduce, Reduced}
-use Rattle.flt_lang.proofs.Common.{◌>>=◌, nodes_of_tokens, finish, as_truth, NetMask, Divide, mask_of}
-use Rattle.flt_lang.specs.declared.frame.Operand.TheVariants.{Either}
+use Rattle.std.proofs.Common.{◌≡◌, ℕ, ◌+◌, ◌-◌, ◌<◌, ◌≤◌, ◌⊎◌, inl, inr, List, [], ◌∷◌, length, take, drop, get_or, ap, arith, Some, None, one-add, sym, ◌∙◌}
+use Rattle.std.proofs.Common.{refl, Option, ◌==◌, slice_get, false, Result, Ok, Err, IfErr, IsErrAnd}
+use Rattle.flt_lang.proofs.Common.{TokenKind, Value, Node, Frame, Operand, NetMask, Divide, Either}
+use Rattle.flt_lang.specs.Grammar.{kinds_of}
+use Rattle.flt_lang.specs.inside.Values.{value_of, mask_of, Takes, prefix_of}
+use Rattle.flt_lang.specs.inside.Parser.{State, run, after_operand, begin_at, next_of, number_with_prefix, operand_precedence, token_precedence, reduce}
+use Rattle.flt_lang.specs.inside.Parser.{Reduced, ◌>>=◌, nodes_of_tokens, finish, as_truth, IsReadFault, Reads, with_prefix, after_token_at}
+use Rattle.flt_words.specs.declared.{token.Token.Token, fault.ExprFault.ExprFault}
+use Rattle.std.proofs.lemmas.{List.take_rest, List.drop-map, List.drop-drop, List.drop_all, Result.err_from_is_err_and}
+use Rattle.flt_lang.proofs.{Reducing.le_true, Reducing.le_false, Valued.run_begins, Valued.run_skip}
 use Rattle.flt_words.specs.declared.token.TokenKind.TheVariants as token
-use Rattle.flt_lang.specs.inside.Values.{Takes, prefix_of}
-use Rattle.flt_lang.specs.inside.Parser.{IsReadFault, Reads, with_prefix, after_token_at}
-use Rattle.flt_words.specs.declared.fault.ExprFault.{ExprFault}
-use Rattle.flt_lang.proofs.Reducing.{le_true, le_false}
-use Rattle.std.proofs.Common.{◌==◌, slice_get, false, Result, Ok, Err, IfErr, IsErrAnd}
-use Rattle.std.proofs.lemmas.{List.drop_all, Result.err_from_is_err_and}
-use Rattle.flt_lang.proofs.Valued.{run_begins, run_skip}
 
 -- the first token and those after it are all
 pub first_and_rest : (ts : List Token) (t : Token) → 0 < length ts → (get_or ts 0 t).kind ∷ kinds_of (take (length ts - 1) (drop 1 ts)) ≡ kinds_of ts

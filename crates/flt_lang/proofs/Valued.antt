@@ -1,12 +1,15 @@
 -- A value with its qualifiers, as tokens and as the parser reads it; a number by itself waits,
 -- since it may be arithmetic.
-use Rattle.flt_lang.proofs.Common.{◌≡◌, ℕ, suc, zero, ◌+◌, ◌-◌, ◌<◌, ◌≤◌, List, [], ◌∷◌, length, drop, refl, ap, ◌∙◌, arith, is_some, Option, Some}
-use Rattle.flt_lang.proofs.Common.{None, Bool, true, false, drop-drop, Protocol, Divide, Side, Source, Destination, ValueType, TokenKind, Direction, Qualifiers}
-use Rattle.flt_lang.proofs.Common.{NetMask, Value, Node, Frame, Operand, ReadsProtocol, no_protocol, protocol, ReadsDirection, no_direction, one_side}
-use Rattle.flt_lang.proofs.Common.{source_first, destination_first, ReadsType, no_type, of_type, ReadsQualifiers, qualifiers, is_written, ReadsMask, no_mask}
-use Rattle.flt_lang.proofs.Common.{prefix, dotted_mask, ReadsValue, number, dotted, ip6, ip6_prefix, mac, range, starts_value, protocol_of, direction_of}
-use Rattle.flt_lang.proofs.Common.{type_of, qualifiers_of, mask_of, value_of, next_precedence, State, begin, run, primitive}
-use Rattle.flt_lang.proofs.Common.{with_frames, bare_of}
+use Rattle.std.proofs.Common.{◌≡◌, ℕ, suc, zero, ◌+◌, ◌-◌, ◌<◌, ◌≤◌, List, [], ◌∷◌, length, drop, refl, ap, ◌∙◌, arith, is_some, Option, Some, None, Bool, true}
+use Rattle.std.proofs.Common.{false}
+use Rattle.std.proofs.lemmas.List.{drop-drop}
+use Rattle.flt_lang.proofs.Common.{Protocol, Divide, Side, Source, Destination, ValueType, TokenKind, Direction, Qualifiers, NetMask, Value, Node, Frame}
+use Rattle.flt_lang.proofs.Common.{Operand}
+use Rattle.flt_lang.specs.Values.{ReadsProtocol, no_protocol, protocol, ReadsDirection, no_direction, one_side, source_first, destination_first, ReadsType}
+use Rattle.flt_lang.specs.Values.{no_type, of_type, ReadsQualifiers, qualifiers, is_written, ReadsMask, no_mask, prefix, dotted_mask, ReadsValue, number}
+use Rattle.flt_lang.specs.Values.{dotted, ip6, ip6_prefix, mac, range}
+use Rattle.flt_lang.specs.inside.Values.{starts_value, protocol_of, direction_of, type_of, qualifiers_of, mask_of, value_of}
+use Rattle.flt_lang.specs.inside.Parser.{next_precedence, State, begin, run, primitive, with_frames, bare_of}
 use Rattle.flt_lang.proofs.ValuesBack.{carried, type_back, direction_back, qualifiers_back, ends_protocol, value_back}
 use Rattle.flt_words.specs.declared.token.TokenKind.TheVariants as token
 use Rattle.flt_ast.specs.declared.value.Value.TheVariants as value

@@ -1,8 +1,10 @@
 -- Qualifiers and values are read from the left, as far as they go.
-use Rattle.flt_lang.proofs.Common.{◌≡◌, ◌≤◌, List, ◌∷◌, refl, subst, arith, lit≤, Option, Some, None, Bool, true, Protocol, Operator, Side, Source, Destination}
-use Rattle.flt_lang.proofs.Common.{ValueType, TokenKind, Direction, Qualifiers, NetMask, Value, ReadsProtocol, no_protocol, protocol, ReadsDirection}
-use Rattle.flt_lang.proofs.Common.{no_direction, one_side, ReadsType, no_type, of_type, ReadsQualifiers, qualifiers, ReadsMask, no_mask, ReadsValue, number}
-use Rattle.flt_lang.proofs.Common.{dotted, ip6, starts_value, protocol_of, direction_of, type_of, qualifiers_of, mask_of, value_of, level, next_precedence}
+use Rattle.std.proofs.Common.{◌≡◌, ◌≤◌, List, ◌∷◌, refl, subst, arith, lit≤, Option, Some, None, Bool, true}
+use Rattle.flt_lang.proofs.Common.{Protocol, Operator, Side, Source, Destination, ValueType, TokenKind, Direction, Qualifiers, NetMask, Value}
+use Rattle.flt_lang.specs.Values.{ReadsProtocol, no_protocol, protocol, ReadsDirection, no_direction, one_side, ReadsType, no_type, of_type, ReadsQualifiers}
+use Rattle.flt_lang.specs.Values.{qualifiers, ReadsMask, no_mask, ReadsValue, number, dotted, ip6}
+use Rattle.flt_lang.specs.inside.Values.{starts_value, protocol_of, direction_of, type_of, qualifiers_of, mask_of, value_of}
+use Rattle.flt_lang.specs.{Grammar.level, inside.Parser.next_precedence}
 use Rattle.flt_words.specs.declared.token.Operator.TheVariants as operator
 use Rattle.flt_words.specs.declared.token.TokenKind.TheVariants as token
 use Rattle.flt_ast.specs.declared.qualifiers.Direction.TheVariants as direction

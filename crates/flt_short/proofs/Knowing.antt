@@ -1,13 +1,14 @@
 -- What is known holds of the packet and of the registers.
-use Rattle.std.proofs.{Common.◌<◌, Common.All, Common.get_or, Common.take, lemmas.List.take_more_set, lemmas.List.take_all}
-use Rattle.std.proofs.lemmas.List.Elements.{All-set, All-push}
-use Rattle.flt_bpf.specs.{Instructions.operation_of, Machine.field, declared.operation.AluOperation.AluOperation}
-use Rattle.flt_short.proofs.Common.{◌≡◌, ℕ, zero, suc, ◌+◌, ◌≤◌, List, [], ◌∷◌, length, true, false, Option, Some, sym, ◌∙◌, subst, arith, ◌⊎◌, inl, inr, ◌==◌}
-use Rattle.flt_short.proofs.Common.{if◌then◌else◌, slice_set, nat_tests, State, Operation, Insn, Next, Goes, does, goes_on_or_rejects, compute, Field, Held}
-use Rattle.flt_short.proofs.Common.{IndexValue, Known, same_index, same_load, same_field, claims_nothing, allows, Implies, same_held, common_index, holds_field}
-use Rattle.flt_short.proofs.Common.{known_after, masked_held, loaded, masked, value_of, IsThere, is_said, Says, HeldHolds, IndexHolds, Holds, LearnsEqual}
-use Rattle.flt_short.proofs.Common.{Learns, Test, JumpIf, Constant, bit_and, not, Bool, JoinsBy, JoinsFact, JoinsFacts, Arrives}
-use Rattle.flt_short.specs.declared.facts.{Claim.Claim, Fact.Fact}
+use Rattle.std.proofs.Common.{◌<◌, All, get_or, take, ◌≡◌, ℕ, zero, suc, ◌+◌, ◌≤◌, List, [], ◌∷◌, length, true, false, Option, Some, sym, ◌∙◌, subst, arith}
+use Rattle.std.proofs.Common.{◌⊎◌, inl, inr, ◌==◌, if◌then◌else◌, slice_set, bit_and, not, Bool}
+use Rattle.flt_short.proofs.Common.{All-set, operation_of, AluOperation, nat_tests, State, Operation, Insn, Held, IndexValue, Known, Test, JumpIf, Constant}
+use Rattle.flt_bpf.specs.Machine.{field, Next, Goes, does, compute}
+use Rattle.flt_bpf.specs.inside.Flow.{goes_on_or_rejects}
+use Rattle.flt_short.specs.inside.Facts.{same_index, same_load, same_field, claims_nothing, allows, Implies, same_held, common_index, holds_field, known_after}
+use Rattle.flt_short.specs.inside.Facts.{masked_held, loaded, masked, value_of, IsThere, is_said, Says, HeldHolds, IndexHolds, Holds, LearnsEqual, Learns}
+use Rattle.flt_short.specs.inside.Facts.{JoinsBy, JoinsFact, JoinsFacts, Arrives}
+use Rattle.flt_short.specs.declared.facts.{Fact.Fact, Field.Field, Claim.Claim}
+use Rattle.std.proofs.lemmas.List.{take_more_set, take_all, Elements.All-push}
 use Rattle.flt_short.specs.declared.facts.Held.TheVariants as held
 
 -- claims

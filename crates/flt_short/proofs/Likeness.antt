@@ -1,17 +1,21 @@
 -- Code that is alike has the answers of the old code, and a run of it meets no more instructions.
-use Rattle.std.proofs.{Math.Seq.drop-nil, Math.Seq.drop-cons, lemmas.List.drop-drop}
-use Rattle.flt_bpf.specs.{Instructions.operation_of, Machine.step, declared.operation.AluOperation.AluOperation, declared.operation.Test.Test}
+use Rattle.std.proofs.Math.Seq.{drop-nil, drop-cons}
+use Rattle.flt_short.proofs.Common.{operation_of, AluOperation, Test, answer_drop, nat_tests, Insn, State, Operation, Load, Compute, Jump, JumpIf, Immediate}
+use Rattle.flt_short.proofs.Common.{Length, Constant, known_step, plain_both}
+use Rattle.flt_bpf.specs.Machine.{step, Next, Goes, Ends, Lost, does, does_if_known, operand_value, test_holds, Answered, run_from, progress_after}
+use Rattle.flt_bpf.specs.Machine.{step_if_there, machine, start}
 use Rattle.flt_bpf.specs.Registers.{reads_accumulator, reads_index, sets_accumulator, sets_index}
-use Rattle.flt_bpf.proofs.{Codes.code_is, Suffix.answer_drop, Suffix.machine_answers, Suffix.valid_if_short}
-use Rattle.flt_short.proofs.Common.{◌≡◌, inl, inr, ℕ, zero, suc, ◌+◌, ◌-◌, ◌<◌, ◌≤◌, List, [], ◌∷◌, length, drop, length-drop, Bool, true, false, Option, Some}
-use Rattle.flt_short.proofs.Common.{None, refl, sym, ap, ap₂, ◌∙◌, subst, arith, ◌≢◌, All, count_by, ◌==◌, ◌&&◌, ◌||◌, not, if◌then◌else◌, slice_get, bit_and}
-use Rattle.flt_short.proofs.Common.{and_parts, or_cases, nat_tests, slice_get_within, get_or_from_slice_get, Insn, State, Operation, Load, Compute, Negate}
-use Rattle.flt_short.proofs.Common.{Jump, JumpIf, ReturnConstant, ReturnAccumulator, CopyToIndex, CopyToAccumulator, Accumulator, Index, Immediate, Length}
-use Rattle.flt_short.proofs.Common.{Constant, IndexRegister, code_of, Next, Goes, Ends, Lost, does, does_if_known, operand_value, test_holds, Answered}
-use Rattle.flt_short.proofs.Common.{run_from, progress_after, step_if_there, machine, start, IsValidUnlessLong, JUMP, is_branch, goes_on, rejects, is_sure}
-use Rattle.flt_short.proofs.Common.{goes_on_or_rejects, goes_on_alike, are_copies, lands_at_if, lands_at, code_from, stands_at, stands, are_alike, answer_of}
-use Rattle.flt_short.proofs.Common.{answer_after, get_or, parts, known_step, plain_both}
-use Rattle.flt_short.specs.{Alike.Comes, Alike.Shortens, declared.alike.Landing.Landing, inside.Alike.same_step, inside.Alike.one_test, inside.Alike.left_out}
+use Rattle.std.proofs.Common.{◌≡◌, inl, inr, ℕ, zero, suc, ◌+◌, ◌-◌, ◌<◌, ◌≤◌, List, [], ◌∷◌, length, drop, length-drop, Bool, true, false, Option, Some, None}
+use Rattle.std.proofs.Common.{refl, sym, ap, ap₂, ◌∙◌, subst, arith, ◌≢◌, All, count_by, ◌==◌, ◌&&◌, ◌||◌, not, if◌then◌else◌, slice_get, bit_and, get_or}
+use Rattle.flt_bpf.specs.declared.operation.Operation.TheVariants.{Negate, ReturnConstant, ReturnAccumulator, CopyToIndex, CopyToAccumulator}
+use Rattle.flt_bpf.specs.declared.operation.Register.TheVariants.{Accumulator, Index}
+use Rattle.flt_short.specs.inside.Alike.{goes_on, rejects, is_sure, goes_on_alike, are_copies, lands_at_if, lands_at, code_from, stands_at, stands, are_alike}
+use Rattle.flt_short.specs.inside.Alike.{same_step, one_test, left_out}
+use Rattle.flt_bpf.specs.{declared.operation.Operand.TheVariants.IndexRegister, Instructions.code_of, Check.IsValidUnlessLong, inside.Flow.goes_on_or_rejects}
+use Rattle.std.proofs.lemmas.{Option.slice_get_within, Option.get_or_from_slice_get, List.drop-drop, Bool.and_parts, Bool.or_cases}
+use Rattle.flt_short.specs.{Alike.Comes, Alike.Shortens, declared.alike.Landing.Landing}
+use Rattle.flt_bpf.proofs.{Suffix.machine_answers, Suffix.valid_if_short, Codes.code_is, Checking.parts}
+use Rattle.flt_bpf.specs.{Layout.JUMP, Layout.is_branch, Answer.answer_of, Answer.answer_after}
 
 -- how many instructions a run meets after an instruction, and from a place on
 abbrev pub steps_after : (ℕ → State → ℕ) → Next → ℕ

@@ -1,13 +1,14 @@
 -- Code that is laid out gives the answers of the wide code.
-use Rattle.std.specs.Prelude.{slice_index}
-use Rattle.flt_bpf.specs.{Instructions.operation_of, Machine.step}
-use Rattle.flt_short.proofs.Common.{◌≡◌, ℕ, ◌-◌, ◌<◌, ◌≤◌, List, [], ◌∷◌, length, true, Option, Some, refl, arith, nat_tests, All-cons, All-head, All-tail}
-use Rattle.flt_short.proofs.Common.{Insn, Operation, Jump, JumpIf, MOST_OFFSET, PlacedCode, with_offsets, with_test_by, with_insn, placed_code, laid_out, zero}
-use Rattle.flt_short.proofs.Common.{suc, Bool, false, ap, ◌∙◌, if◌then◌else◌, with_jump, with_way, way, place_at, subst, ◌==◌, ◌&&◌, nat_lt, All, All-take}
-use Rattle.flt_short.proofs.Common.{State, answer_of, emitted, with_noted_jump, jump_near, None, ReturnConstant, ReturnAccumulator, Test, Operand}
-use Rattle.flt_short.proofs.Common.{does_if_known, test_holds, operand_value, answer_after, ends_in_return, plain_both, known_step}
-use Rattle.flt_short.specs.{declared.layout.PlacedJump.PlacedJump, inside.Layout.near_place, inside.Layout.put, inside.Layout.with_test}
-use Rattle.flt_short.proofs.PlacedSizes.{emitted_grows}
+use Rattle.flt_short.proofs.Common.{operation_of, nat_tests, All-cons, All-head, All-tail, Insn, Operation, Jump, JumpIf, placed_code, All-take, State, Test}
+use Rattle.flt_short.proofs.Common.{Operand, plain_both, known_step, PlacedJump}
+use Rattle.flt_bpf.specs.Machine.{step, does_if_known, test_holds, operand_value}
+use Rattle.std.proofs.Common.{◌≡◌, ℕ, ◌-◌, ◌<◌, ◌≤◌, List, [], ◌∷◌, length, true, Option, Some, refl, arith, zero, suc, Bool, false, ap, ◌∙◌, if◌then◌else◌}
+use Rattle.std.proofs.Common.{subst, ◌==◌, ◌&&◌, nat_lt, All, None}
+use Rattle.flt_short.specs.inside.Layout.{PlacedCode, with_offsets, with_test_by, with_insn, laid_out, with_jump, with_way, way, place_at, emitted}
+use Rattle.flt_short.specs.inside.Layout.{with_noted_jump, jump_near, near_place, put, with_test}
+use Rattle.flt_bpf.specs.declared.operation.Operation.TheVariants.{ReturnConstant, ReturnAccumulator}
+use Rattle.flt_bpf.specs.{Answer.answer_of, Answer.answer_after, Layout.MOST_OFFSET, Check.ends_in_return}
+use Rattle.{std.specs.Prelude.slice_index, flt_short.proofs.PlacedSizes.emitted_grows}
 
 -- What is laid out first stays where its place says; from a jump a run goes on where
 -- the jump leads.

@@ -1,11 +1,11 @@
 -- Code without a fault is laid out as code without one.
-use Rattle.flt_bpf.{proofs.Suffix.valid_if_short, specs.Check.fault_of, specs.Instructions.operation_of, specs.declared.fault.CheckFault.TheVariants.JumpOut}
-use Rattle.flt_short.proofs.Common.{◌≡◌, ℕ, ◌<◌, ◌≤◌, List, [], ◌∷◌, length, true, Option, Some, refl, arith, nat_tests, Insn, Operation, Jump, JumpIf}
-use Rattle.flt_short.proofs.Common.{PlacedCode, with_offsets, with_test_by, with_insn, placed_code, laid_out, Bool, ap, ◌∙◌, with_jump, with_way, ◌&&◌, nat_lt}
-use Rattle.flt_short.proofs.Common.{None, Test, Operand, ends_in_return, Load, Compute, Memory, unless, fault_if_known, is_return, IsFaultless}
-use Rattle.flt_short.{proofs.Common.IsValidUnlessLong, proofs.Common.Constant, specs.inside.Layout.with_test}
+use Rattle.flt_bpf.specs.Check.{fault_of, ends_in_return, unless, fault_if_known, is_return, IsFaultless, IsValidUnlessLong}
+use Rattle.flt_short.proofs.Common.{operation_of, nat_tests, Insn, Operation, Jump, JumpIf, placed_code, Test, Operand, Load, Compute, Memory, Constant}
+use Rattle.std.proofs.Common.{◌≡◌, ℕ, ◌<◌, ◌≤◌, List, [], ◌∷◌, length, true, Option, Some, refl, arith, Bool, ap, ◌∙◌, ◌&&◌, nat_lt, None}
+use Rattle.flt_short.specs.inside.Layout.{PlacedCode, with_offsets, with_test_by, with_insn, laid_out, with_jump, with_way, with_test}
 use Rattle.flt_short.proofs.PlacedSizes.{at_least, at_most, laid_needed, short_stays}
 use Rattle.flt_short.proofs.Placed.{same_answers, Lays, emitted_more, lays, near, test_leads, way_more}
+use Rattle.flt_bpf.{proofs.Suffix.valid_if_short, specs.declared.fault.CheckFault.TheVariants.JumpOut}
 
 jump_sound : (to : ℕ) (c : List Insn) → 0 < to → to ≤ length c → IsFaultless c → IsFaultless (with_jump to c)
 unfolding fault_of operation_of

@@ -1,12 +1,12 @@
 -- How many instructions wide code becomes where it is laid out, and that a jump stands only for a target
 -- that is too far for its test.
 use Rattle.std.proofs.lemmas.List.Sums.{count_by-le-length, sum_by-cons}
-use Rattle.flt_bpf.{proofs.Jumps.jump_later, proofs.Jumps.needed_put, specs.Instructions.operation_of}
-use Rattle.flt_short.proofs.Common.{◌≡◌, ℕ, ◌+◌, ◌-◌, ◌*◌, ◌<◌, ◌≤◌, List, [], ◌∷◌, length, true, cond, Option, Some, refl, sym, arith, ◌≢◌, count_by}
-use Rattle.flt_short.proofs.Common.{nat_tests, All-cons, All-head, All-tail, Insn, Operation, Jump, JumpIf, is_branch, JUMP, MOST_OFFSET, HasNoJump, IsShort}
-use Rattle.flt_short.proofs.Common.{back_of_code, PlacedCode, with_offsets, with_test_by, with_insn, placed_code, laid_out, zero, suc, Bool, false, ap, ◌∙◌}
-use Rattle.flt_short.proofs.Common.{inl, inr, ◌⊎◌, slice_get, if◌then◌else◌, IsNeeded, JumpsAreNeeded, with_jump, is_near, with_way, way, subst, length-drop}
-use Rattle.flt_short.specs.inside.Layout.{with_test}
+use Rattle.flt_short.proofs.Common.{operation_of, nat_tests, All-cons, All-head, All-tail, Insn, Operation, Jump, JumpIf, placed_code}
+use Rattle.std.proofs.Common.{◌≡◌, ℕ, ◌+◌, ◌-◌, ◌*◌, ◌<◌, ◌≤◌, List, [], ◌∷◌, length, true, cond, Option, Some, refl, sym, arith, ◌≢◌, count_by, zero, suc}
+use Rattle.std.proofs.Common.{Bool, false, ap, ◌∙◌, inl, inr, ◌⊎◌, slice_get, if◌then◌else◌, subst, length-drop}
+use Rattle.flt_bpf.specs.Layout.{is_branch, JUMP, MOST_OFFSET, HasNoJump, IsShort, IsNeeded, JumpsAreNeeded}
+use Rattle.flt_short.specs.inside.Layout.{PlacedCode, with_offsets, with_test_by, with_insn, laid_out, with_jump, is_near, with_way, way, with_test}
+use Rattle.flt_bpf.proofs.{Jumps.jump_later, Jumps.needed_put, Codes.back_of_code}
 
 -- code with at least one and at most a given number of instructions more
 pub record Grows (c d : List Insn) (most : ℕ) : Type 0 where

@@ -1,17 +1,18 @@
 -- A run may go on where a walk ends instead of where it began; so threaded code returns the same, and keeps its
 -- length, its tests and what breaks no rule.
-use Rattle.std.proofs.{Common.◌≤◌, Common.◌++◌, Common.take, Common.append_assoc, Math.Seq.drop-cons, Math.ListN.get_or-map}
+use Rattle.std.proofs.Common.{◌≤◌, ◌++◌, take, append_assoc, ◌≡◌, ℕ, zero, suc, ◌+◌, ◌<◌, List, [], ◌∷◌, length, drop, Bool, true, false, Option, Some, None}
+use Rattle.std.proofs.Common.{refl, sym, ap, ◌∙◌, subst, arith, if◌then◌else◌, slice_get, slice_set, bit_and, map, not, count_by, get_or, cond}
+use Rattle.flt_short.proofs.Common.{answer_drop, operation_of, AluOperation, Operand, Test, nat_tests, Insn, State, Operation, LoadIndirect, Load}
+use Rattle.flt_short.proofs.Common.{LoadHeaderLength, Compute, Jump, JumpIf, Immediate, Length, Constant, Held, IndexValue, Known, held_after, known_step, Spot}
+use Rattle.flt_bpf.specs.Machine.{step, Next, Goes, does_if_known, operand_value, test_holds, start, does}
+use Rattle.flt_short.specs.inside.Facts.{same_held, same_index, masked_held, load_of, known_after, IsThere, HeldHolds, Holds, HoldsAt, Learns, Arrives}
+use Rattle.flt_short.specs.inside.Threads.{is_free_by, is_free, with_a, IsDecided, Passes, LeadsTo, Moves, Alike, IsThreaded, AreThreaded}
+use Rattle.flt_short.proofs.Knowing.{same_indexes, same_holds, After, after, masks}
 use Rattle.std.proofs.lemmas.List.{append-nil, drop_all, length-map, take_all, take_rest, take_more_set, drop-set-lt, Sums.sum_by-cons}
-use Rattle.flt_bpf.{proofs.Suffix.answer_drop, specs.Check.fault_of, specs.Instructions.operation_of, specs.Machine.step, specs.declared.operation.Width.Width}
-use Rattle.flt_bpf.specs.declared.operation.{AluOperation.AluOperation, Operand.Operand, Test.Test}
-use Rattle.flt_short.proofs.Common.{◌≡◌, ℕ, zero, suc, ◌+◌, ◌<◌, List, [], ◌∷◌, length, drop, Bool, true, false, Option, Some, None, refl, sym, ap, ◌∙◌, subst}
-use Rattle.flt_short.proofs.Common.{arith, if◌then◌else◌, slice_get, slice_set, bit_and, nat_tests, map, Insn, State, Operation, LoadAbsolute, LoadIndirect}
-use Rattle.flt_short.proofs.Common.{Load, LoadHeaderLength, Compute, Jump, JumpIf, Accumulator, Index, Immediate, Length, Constant, Next, Goes, does_if_known}
-use Rattle.flt_short.proofs.Common.{answer_of, answer_after, operand_value, test_holds, is_branch, not, Held, IndexValue, Known, same_held, same_index}
-use Rattle.flt_short.proofs.Common.{masked_held, load_of, held_after, is_free_by, is_free, known_step, count_by, get_or, cond, start, does, goes_on_or_rejects}
-use Rattle.flt_short.proofs.Common.{ends_in_return, known_after, IsThere, HeldHolds, Holds, HoldsAt, Learns, Arrives, with_a, IsDecided, Passes, LeadsTo, Moves}
-use Rattle.flt_short.proofs.{Knowing.same_indexes, Knowing.same_holds, Knowing.After, Knowing.after, Knowing.masks, Common.Alike, Common.IsThreaded}
-use Rattle.flt_short.{specs.declared.thread.Spot.Spot, proofs.Common.AreThreaded, proofs.Likeness.at_step, specs.Threads.Threads}
+use Rattle.std.proofs.Math.{Seq.drop-cons, ListN.get_or-map}
+use Rattle.flt_bpf.specs.declared.operation.{Register.TheVariants.Accumulator, Register.TheVariants.Index, Width.Width, Operation.TheVariants.LoadAbsolute}
+use Rattle.flt_short.{proofs.Likeness.at_step, specs.Threads.Threads}
+use Rattle.flt_bpf.specs.{Answer.answer_of, Answer.answer_after, Check.fault_of, Check.ends_in_return, Layout.is_branch, inside.Flow.goes_on_or_rejects}
 use Rattle.flt_short.specs.declared.facts.Held.TheVariants as held
 
 module _ (p : List ℕ) (n : ℕ) where

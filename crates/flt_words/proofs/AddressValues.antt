@@ -1,16 +1,16 @@
 -- A text is at most one list of groups of digits, and the groups determine the address.
-use Rattle.flt_words.proofs.Common.{◌≡◌, ℕ, ◌^◌, ◌<◌, ◌≤◌, List, [], ◌∷◌, ◌++◌, length, refl, sym, ap, ◌∙◌, arith, false, ◌==◌, Result, Ok, Err, lit<, lit≤}
-use Rattle.flt_words.proofs.Common.{MatchOption, pow-le-pow_right, nat_tests, digits_value-lt, AllByRecursion, join_with_byte, slice_split, AllDigits}
-use Rattle.flt_words.proofs.Common.{IsNumeral, digits_value, Group, WordFault, AreGroups, IsGroup, group_value, separator_of, base_of, WritesNumber}
-use Rattle.flt_words.proofs.Common.{is_word_sized, FindsMeaning, has, suc, zero, ◌+◌, ◌*◌, get_or, add-one, pow-add, pow-suc, add_assoc}
-use Rattle.flt_words.proofs.Common.{mul-le-mul_right, mul-lt-mul_of_pos_right, mul_assoc, pow-zero, number_push, number_from_digits, group_values, ◌-◌}
-use Rattle.flt_words.proofs.Common.{◌%◌, length-append, replicate, Some, number_after_append, number_lt, length-map, map-append, AllBelowBase}
-use Rattle.flt_words.proofs.Common.{number_from_digits_after}
-use Rattle.flt_words.proofs.Common.{AreIp6Ends, IsDotted, IsWholeAddress, ReadsGroups, or_parts, mul-mod_left}
+use Rattle.std.proofs.Common.{◌≡◌, ℕ, ◌^◌, ◌<◌, ◌≤◌, List, [], ◌∷◌, ◌++◌, length, refl, sym, ap, ◌∙◌, arith, false, ◌==◌, Result, Ok, Err, lit<, lit≤}
+use Rattle.std.proofs.Common.{MatchOption, suc, zero, ◌+◌, ◌*◌, get_or, add-one, pow-add, pow-suc, ◌-◌, ◌%◌, length-append, replicate, Some}
+use Rattle.std.proofs.Math.Nat.{pow-le-pow_right, add_assoc, mul-le-mul_right, mul-lt-mul_of_pos_right, mul_assoc, pow-zero, mul-mod_left}
+use Rattle.flt_words.proofs.Common.{nat_tests, Group, WordFault, AreGroups, IsGroup, base_of, WritesNumber, is_word_sized, FindsMeaning, has, group_values}
+use Rattle.flt_words.proofs.Common.{AreIp6Ends, IsDotted, or_parts, JoinedGroups}
+use Rattle.std.proofs.lemmas.Int.Digits.{digits_value-lt, number_push, number_after_append, number_lt}
+use Rattle.std.specs.Str.Parse.{AllDigits, IsNumeral, digits_value}
+use Rattle.std.specs.Int.Digits.{number_from_digits, AllBelowBase, number_from_digits_after}
 use Rattle.flt_words.proofs.Numbers.{digits_lack, same}
-use Rattle.std.specs.Result.{result_ok}
-use Rattle.std.proofs.lemmas.List.Splits.{join_with_byte-slice_split}
-use Rattle.flt_words.specs.declared.address.JoinedGroups.{JoinedGroups}
+use Rattle.std.proofs.lemmas.List.{length-map, map-append, Splits.join_with_byte-slice_split}
+use Rattle.std.specs.{List.AllByRecursion, List.join_with_byte, List.slice_split, Result.result_ok}
+use Rattle.flt_words.specs.{Addresses.group_value, Addresses.separator_of, Addresses.IsWholeAddress, inside.Addresses.ReadsGroups}
 use Rattle.flt_words.specs.declared.address.Group.TheVariants as group
 use Rattle.flt_words.specs.declared.number.WordFault.TheVariants as fault
 

@@ -1,6 +1,6 @@
 -- Results for a word, carried from one reading to another; and equal results.
-use Rattle.flt_words.proofs.Common.{Bool, ◌&&◌, refl, Result, Ok, Err, WordFault, FindsMeaning, both_known}
-use Rattle.std.proofs.Math.Bool.{and-false}
+use Rattle.std.proofs.Common.{Bool, ◌&&◌, refl, Result, Ok, Err}
+use Rattle.flt_words.proofs.Common.{WordFault, FindsMeaning, both_known, and-false}
 use Rattle.flt_words.specs.declared.number.WordFault.TheVariants as fault
 
 pub answers_along : {A : Type 0} (V W : A → Type 0) (test : A → Bool) → ((a : A) → V a → W a) → ((a : A) → W a → V a) → (r : Result A WordFault)

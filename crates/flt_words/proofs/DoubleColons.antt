@@ -1,8 +1,10 @@
 -- Where two colons are in an IPv6 address.
-use Rattle.flt_words.proofs.Common.{◌≡◌, ◌≢◌, ℕ, suc, zero, ◌+◌, ◌<◌, List, [], ◌∷◌, ◌++◌, length, get_or, take, drop, refl, sym, ◌∙◌, subst, arith, false}
-use Rattle.flt_words.proofs.Common.{◌==◌, Option, Some, None, MatchOption, add-one, length-append, drop-cons, drop-append-add, get_or-append_seam}
-use Rattle.flt_words.proofs.Common.{take-append_seam, nat_tests, get_or-append-add, get_or_append_left, take-append-drop, AllByRecursion, join_with_byte}
-use Rattle.flt_words.proofs.Common.{AreGroups, AreIp6Ends, IsGroup, IsIp6, IsWholeIp6, IsDoubleColon, shortened, whole, has, or_parts, Group}
+use Rattle.std.proofs.Common.{◌≡◌, ◌≢◌, ℕ, suc, zero, ◌+◌, ◌<◌, List, [], ◌∷◌, ◌++◌, length, get_or, take, drop, refl, sym, ◌∙◌, subst, arith, false, ◌==◌}
+use Rattle.std.proofs.Common.{Option, Some, None, MatchOption, add-one, length-append, drop-cons}
+use Rattle.std.proofs.Math.Seq.{drop-append-add, get_or-append_seam, take-append_seam}
+use Rattle.flt_words.proofs.Common.{nat_tests, AreGroups, AreIp6Ends, IsGroup, IsIp6, IsWholeIp6, IsDoubleColon, shortened, whole, has, or_parts, Group}
+use Rattle.std.proofs.lemmas.List.{get_or-append-add, get_or_append_left, take-append-drop}
+use Rattle.std.specs.List.{AllByRecursion, join_with_byte}
 use Rattle.flt_words.proofs.AddressValues.{group_lacks, group_some}
 
 -- each colon precedes another byte

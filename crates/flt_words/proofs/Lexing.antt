@@ -1,8 +1,9 @@
 -- The steps of cutting a text into tokens.
-use Rattle.flt_words.proofs.Common.{◌≡◌, ℕ, ◌+◌, ◌<◌, ◌≤◌, List, [], ◌∷◌, ◌++◌, length, get_or, take, drop, refl, sym, ap, arith, Bool, true, false}
-use Rattle.flt_words.proofs.Common.{◌==◌, ◌-◌, count_by, nat_lt, Result, Ok, Err, take-add, nat_tests, length-take, take_rest, count_by-le-length}
-use Rattle.flt_words.proofs.Common.{count_by_more_no, sum_by-append, ExprFault, Token, TokenKind, is_blank, is_inside, IsRefused, IsToken, TokensFrom, before}
-use Rattle.flt_words.proofs.Common.{at_end, blank, refused, token, subst}
+use Rattle.std.proofs.Common.{◌≡◌, ℕ, ◌+◌, ◌<◌, ◌≤◌, List, [], ◌∷◌, ◌++◌, length, get_or, take, drop, refl, sym, ap, arith, Bool, true, false, ◌==◌, ◌-◌}
+use Rattle.std.proofs.Common.{count_by, nat_lt, Result, Ok, Err, subst}
+use Rattle.flt_words.proofs.Common.{take-add, nat_tests, take_rest, ExprFault, Token, TokenKind, is_blank, is_inside, at_end, blank, refused, token}
+use Rattle.flt_words.specs.Tokens.{IsRefused, IsToken, TokensFrom, before}
+use Rattle.std.proofs.lemmas.List.{length-take, Sums.count_by-le-length, Sums.count_by_more_no, Sums.sum_by-append}
 
 -- a result after tokens
 abbrev pub after : List Token → Result (List Token) ExprFault → Result (List Token) ExprFault

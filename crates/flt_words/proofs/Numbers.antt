@@ -1,10 +1,12 @@
 -- Numbers and ranges in words, and where a byte cuts a word.
-use Rattle.flt_words.proofs.Common.{◌≡◌, ◌≢◌, ℕ, ◌+◌, ◌<◌, ◌≤◌, List, [], ◌∷◌, ◌++◌, length, get_or, take, drop, refl, arith, Bool, true, false, ◌==◌, cond}
-use Rattle.flt_words.proofs.Common.{nat_lt, Option, Some, None, subst, nat_tests, passes_at_first, split_at_first, digit_value, position, position_or_len}
-use Rattle.flt_words.proofs.Common.{AllDigits, has, ◌^◌, digits_value, are_digits, WritesNumber, is_word_sized, ◌⊎◌, ◌||◌, sym, lit≤, IsNumber}
-use Rattle.flt_words.proofs.Common.{WritesDecimal, decimal, octal, hexadecimal, capital_hexadecimal, take-append_seam, drop-append-add, IsRange, joined, ◌∙◌}
-use Rattle.std.proofs.lemmas.{Bool.or_parts, List.length-append}
-use Rattle.cap_octet.proofs.Numerals.{digits_from_test, digits_pass}
+use Rattle.std.proofs.Common.{◌≡◌, ◌≢◌, ℕ, ◌+◌, ◌<◌, ◌≤◌, List, [], ◌∷◌, ◌++◌, length, get_or, take, drop, refl, arith, Bool, true, false, ◌==◌, cond, nat_lt}
+use Rattle.std.proofs.Common.{Option, Some, None, subst, ◌^◌, ◌⊎◌, ◌||◌, sym, lit≤, ◌∙◌}
+use Rattle.flt_words.proofs.Common.{nat_tests, has, WritesNumber, is_word_sized, IsNumber, WritesDecimal, decimal, IsRange, joined, or_parts}
+use Rattle.flt_words.specs.Numbers.IsNumber.{octal, hexadecimal, capital_hexadecimal}
+use Rattle.std.proofs.Math.Seq.{take-append_seam, drop-append-add}
+use Rattle.std.proofs.lemmas.List.{Sums.passes_at_first, Sums.split_at_first, length-append}
+use Rattle.std.specs.{Str.Parse.AllDigits, Str.Parse.digits_value, Char.digit_value, List.position, List.position_or_len}
+use Rattle.cap_octet.{specs.Digits.are_digits, proofs.Numerals.digits_from_test, proofs.Numerals.digits_pass}
 
 pub same : (c : ℕ) → (c == c) ≡ true
 same c = grind (arith, nat_tests)

@@ -1,11 +1,10 @@
 -- A text has at most one list of tokens.
-use Rattle.flt_words.proofs.Common.{◌≡◌, ℕ, suc, zero, ◌+◌, ◌<◌, ◌≤◌, List, [], ◌∷◌, length, get_or, take, drop, refl, sym, ap, ◌∙◌, subst, arith, Bool, true}
-use Rattle.flt_words.proofs.Common.{false, Result, Ok, Err, Some, length-drop, length-take-le, get_or-drop, add-zero, false≢true, nat_tests, ExprFault, Token}
-use Rattle.flt_words.proofs.Common.{TokenKind, is_blank, is_inside, starts_word, symbol_of, IsLongest, IsPiece, IsRefused, IsToken, IsWordPiece, PieceMeans}
-use Rattle.flt_words.proofs.Common.{Tokens, TokensFrom, before, symbol, word, bad_piece, no_piece, symbol_meaning, word_meaning, at_end, blank, refused, token}
-use Rattle.flt_words.proofs.Common.{short, too_long, Spells, WordMeans, fits, known, too_large, unknown}
-use Rattle.flt_words.proofs.OneKind.{same_kind}
-use Rattle.flt_words.proofs.{Pieces.longest_some, Pieces.taken, Pieces.word_some, Tables.symbol_piece}
+use Rattle.std.proofs.Common.{◌≡◌, ℕ, suc, zero, ◌+◌, ◌<◌, ◌≤◌, List, [], ◌∷◌, length, get_or, take, drop, refl, sym, ap, ◌∙◌, subst, arith, Bool, true, false}
+use Rattle.std.proofs.Common.{Result, Ok, Err, Some, length-drop, length-take-le, get_or-drop, add-zero}
+use Rattle.flt_words.proofs.Common.{false≢true, nat_tests, ExprFault, Token, TokenKind, is_blank, is_inside, starts_word, symbol_of, symbol, word, bad_piece}
+use Rattle.flt_words.proofs.Common.{no_piece, symbol_meaning, word_meaning, at_end, blank, refused, token, Spells, WordMeans, fits, known, too_large, unknown}
+use Rattle.flt_words.specs.Tokens.{IsLongest, IsPiece, IsRefused, IsToken, IsWordPiece, PieceMeans, Tokens, TokensFrom, before, Tokens.short, Tokens.too_long}
+use Rattle.flt_words.proofs.{Pieces.longest_some, Pieces.taken, Pieces.word_some, OneKind.same_kind, Tables.symbol_piece}
 
 fits_apart : {word : List ℕ} {a b : TokenKind} → Spells word a → Spells word b → fits a ≡ true → fits b ≡ false → ⊥
 fits_apart v w fit no_fit = search (arith, false≢true, fits, same_kind)

@@ -1,13 +1,15 @@
 -- A word means at most one token: its colons, points and dashes tell its kind.
-use Rattle.flt_words.proofs.AddressValues.{same_groups}
-use Rattle.flt_words.proofs.Common.{◌≡◌, ℕ, ◌≤◌, List, [], ◌∷◌, ◌++◌, length, refl, ap, ◌∙◌, arith, Bool, true, false, ◌==◌, cond, lit<, lit≤, Some}
-use Rattle.flt_words.proofs.Common.{digit_value, AllByRecursion, AllDigits, join_with_byte, Group, TokenKind, AreGroups, IsDotted, IsGroup, IsIp6, IsMac}
-use Rattle.flt_words.proofs.Common.{separator_of, shortened, whole, has, IsNumber, IsRange, decimal, octal, hexadecimal, capital_hexadecimal, joined}
-use Rattle.flt_words.proofs.Common.{keyword_of, Spells, known, keyword, number, dotted, range, mac, ip6, ◌<◌, sym, nat_lt, get_or, ◌+◌, ◌-◌, replicate}
-use Rattle.flt_words.proofs.Common.{nat_tests, number_from_digits, AreIp6Ends, IsWholeAddress, IsWholeIp6, group_values, WritesNumber}
+use Rattle.std.proofs.Common.{◌≡◌, ℕ, ◌≤◌, List, [], ◌∷◌, ◌++◌, length, refl, ap, ◌∙◌, arith, Bool, true, false, ◌==◌, cond, lit<, lit≤, Some, ◌<◌, sym, nat_lt}
+use Rattle.std.proofs.Common.{get_or, ◌+◌, ◌-◌, replicate}
+use Rattle.flt_words.proofs.Common.{Group, TokenKind, AreGroups, IsDotted, IsGroup, IsIp6, IsMac, shortened, whole, has, IsNumber, IsRange, decimal, joined}
+use Rattle.flt_words.proofs.Common.{keyword_of, Spells, known, keyword, nat_tests, AreIp6Ends, IsWholeIp6, group_values, WritesNumber}
+use Rattle.flt_words.specs.Addresses.{separator_of, IsWholeAddress}
+use Rattle.flt_words.specs.Numbers.IsNumber.{octal, hexadecimal, capital_hexadecimal}
+use Rattle.flt_words.specs.Words.Spells.{number, dotted, range, mac, ip6}
 use Rattle.flt_words.proofs.DoubleColons.{double_between, ends_from_ip6, no_double_colon, none_before_first}
 use Rattle.flt_words.proofs.Numbers.{decimal_lacks, digits_lack, same, same_number, same_range}
-use Rattle.flt_words.proofs.Tables.{keyword_is_plain}
+use Rattle.flt_words.proofs.{AddressValues.same_groups, Tables.keyword_is_plain}
+use Rattle.std.specs.{List.AllByRecursion, List.join_with_byte, Int.Digits.number_from_digits, Char.digit_value, Str.Parse.AllDigits}
 use Rattle.std.proofs.{Math.Bool.or-true, lemmas.List.Folds.list_any-append, lemmas.Str.Parse.digit_from_value}
 use Rattle.flt_words.specs.declared.address.Group.TheVariants as group
 use Rattle.flt_words.specs.declared.token.TokenKind.TheVariants as token

@@ -1,8 +1,9 @@
 -- The longest piece at the start of a text.
-use Rattle.flt_words.proofs.Common.{◌≡◌, ℕ, ◌+◌, ◌-◌, ◌<◌, ◌≤◌, ◌≢◌, suc, zero, List, [], ◌∷◌, below_more, length, get_or, take, refl, sym, ap, ◌∙◌, arith}
-use Rattle.flt_words.proofs.Common.{Bool, true, false, length-take-le, Some, None, lit<, lit≤, ⊎_elim, cases_lt, false≢true, get_or-take, TokenKind}
-use Rattle.flt_words.proofs.Common.{starts_word, within_word, symbol_of, IsLongest, IsPiece, IsWordPiece, symbol, word}
-use Rattle.flt_words.proofs.Tables.{symbol_piece}
+use Rattle.std.proofs.Common.{◌≡◌, ℕ, ◌+◌, ◌-◌, ◌<◌, ◌≤◌, ◌≢◌, suc, zero, List, [], ◌∷◌, below_more, length, get_or, take, refl, sym, ap, ◌∙◌, arith, Bool}
+use Rattle.std.proofs.Common.{true, false, length-take-le, Some, None, lit<, lit≤, ⊎_elim}
+use Rattle.flt_words.proofs.Common.{cases_lt, false≢true, TokenKind, starts_word, within_word, symbol_of, symbol, word}
+use Rattle.flt_words.specs.Tokens.{IsLongest, IsPiece, IsWordPiece}
+use Rattle.{std.proofs.lemmas.List.get_or-take, flt_words.proofs.Tables.symbol_piece}
 
 -- what the loop over a word's bytes finds out, up to where it stops
 pub record IsScanned (inside : Bool) (rest : List ℕ) (len stop : ℕ) : Type 0 where

@@ -1,11 +1,12 @@
 -- What holds for each row of a table holds for what is found in it, and only brackets are spelled
 -- with brackets.
-use Rattle.flt_words.proofs.Common.{◌≡◌, ℕ, List, [], ◌∷◌, refl, Bool, true, false, ◌&&◌, not, ◌==◌, eqb-true, cond, Option, Some, get_or, nat_lt}
-use Rattle.flt_words.proofs.Common.{bytes_eq-Decides, list_all, bytes_eq, TokenKind, has, Spellings, keyword_of, look_up, fits, ◌<◌, ◌≤◌, count_by, length}
-use Rattle.flt_words.proofs.Common.{codes, arith, lit≤, is_blank, starts_word, symbol_of, suc, take, sym, ◌∙◌, Ok, false≢true}
-use Rattle.flt_words.proofs.Common.{within_word, IsToken, IsWordPiece, PieceMeans, symbol_meaning, word_meaning, Spells, keyword, known, and_parts, not-true}
-use Rattle.flt_words.proofs.Common.{or_parts, ltb-true}
-use Rattle.flt_words.specs.Spellings.{keywords, symbols}
+use Rattle.std.proofs.Common.{◌≡◌, ℕ, List, [], ◌∷◌, refl, Bool, true, false, ◌&&◌, not, ◌==◌, cond, Option, Some, get_or, nat_lt, ◌<◌, ◌≤◌, count_by, length}
+use Rattle.std.proofs.Common.{codes, arith, lit≤, suc, take, sym, ◌∙◌, Ok}
+use Rattle.flt_words.proofs.Common.{eqb-true, TokenKind, has, keyword_of, fits, is_blank, starts_word, symbol_of, false≢true, within_word, symbol_meaning}
+use Rattle.flt_words.proofs.Common.{word_meaning, Spells, keyword, known, and_parts, not-true, or_parts, ltb-true}
+use Rattle.flt_words.specs.Spellings.{Spellings, look_up, keywords, symbols}
+use Rattle.flt_words.specs.Tokens.{IsToken, IsWordPiece, PieceMeans}
+use Rattle.std.{proofs.lemmas.Slice.Eq.bytes_eq-Decides, specs.List.list_all, specs.Str.bytes_eq}
 use Rattle.flt_words.specs.declared.token.TokenKind.TheVariants as token
 
 found_step : (p : List ℕ → TokenKind → Bool) (spelling : List ℕ) (found : TokenKind) (piece : List ℕ) (kind : TokenKind) (later : Option TokenKind)

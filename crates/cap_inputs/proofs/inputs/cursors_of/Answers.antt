@@ -1,7 +1,7 @@
 -- After the last input, each one has its fresh cursor.
-use Rattle.std.proofs.{Common.arith, lemmas.Grind.common_steps}
-use Rattle.std.specs.Vec.Iter.{into_iter_items}
-use Rattle.cap_inputs.proofs.Common.{◌≡◌, ◌++◌, ◌∙◌, [], List, map, sym, ap, append-nil, fresh_view, fresh_input}
+use Rattle.std.proofs.Common.{arith, ◌≡◌, ◌++◌, ◌∙◌, [], List, map, sym, ap}
+use Rattle.cap_inputs.proofs.Common.{into_iter_items, fresh_view, fresh_input}
+use Rattle.std.proofs.lemmas.{Grind.common_steps, List.append-nil}
 use Rattle.cap_inputs.proofs.inputs.cursors_of.Goals as goal
 
 pub loop-input-preserved : goal.loop-input-preserved

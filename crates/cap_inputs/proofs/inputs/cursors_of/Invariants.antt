@@ -1,6 +1,6 @@
 -- Each input so far has its fresh cursor.
-use Rattle.cap_inputs.proofs.Common.{◌≡◌, ◌++◌, map, fresh_view, fresh_input}
-use Rattle.std.specs.Vec.Iter.{into_iter_items}
+use Rattle.std.proofs.Common.{◌≡◌, ◌++◌, map}
+use Rattle.cap_inputs.proofs.Common.{fresh_view, fresh_input, into_iter_items}
 use Rattle.cap_inputs.proofs.inputs.cursors_of.Given as goal
 
 abbrev pub invariant-loop-input : goal.invariant-loop-input

@@ -1,8 +1,8 @@
 -- If every input was read, the earliest waiting packet is next, or the end.
 use Rattle.std.proofs.Common.{inl, inr}
 use Rattle.cap_inputs.proofs.Leasts.{first-least, empty-none}
-use Rattle.cap_inputs.proofs.inputs.next_by_time.Goals as goal
 use Rattle.cap_inputs.proofs.inputs.next_by_time.Goals.{else-next-last-via-then-next-last+else-next-cursors, else-next-last-via-else-next-last}
+use Rattle.cap_inputs.proofs.inputs.next_by_time.Goals as goal
 
 pub returns-in-Some : goal.returns-in-Some
 returns-in-Some g c = (

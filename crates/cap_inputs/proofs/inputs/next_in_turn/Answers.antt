@@ -1,7 +1,6 @@
 -- The current input is decided if a packet waits, else read.
-use Rattle.std.proofs.{Common.refl, Common.sym, Common.ap, Common.◌∙◌, lemmas.Option.slice_get_read}
-use Rattle.std.specs.Option.{option_map}
-use Rattle.cap_inputs.proofs.Common.{InputView, length, Some}
+use Rattle.std.proofs.Common.{refl, sym, ap, ◌∙◌, length, Some}
+use Rattle.{cap_inputs.proofs.Common.InputView, std.proofs.lemmas.Option.slice_get_read, std.specs.Option.option_map}
 use Rattle.cap_inputs.proofs.inputs.next_in_turn.Goals as goal
 
 pub returns-then-cursor : goal.returns-then-cursor

@@ -1,10 +1,9 @@
 -- The first 12 bytes, and then the whole block, determine what the bytes begin with.
-use Rattle.cap_io.proofs.Common.{sym, ap, ◌∙◌, ◌≡◌, Ok, section_before, section_of, subst, ℕ, List, Option, Order, checked, frame_fault, frame_in}
-use Rattle.cap_io.proofs.Common.{first_link_after}
-use Rattle.cap_io.proofs.CapturesCame.{order-held}
+use Rattle.std.proofs.Common.{sym, ap, ◌∙◌, ◌≡◌, Ok, subst, ℕ, List, Option}
 use Rattle.cap_io.proofs.FirstUnits.{block-begins, block-none, block-refused, block_cut, frame_fails, framed}
-use Rattle.cap_io.proofs.BlocksCame.{FrontSays}
-use Rattle.cap_pcapng.specs.Effect.{interfaces_after}
+use Rattle.cap_io.specs.{inside.Reading.section_before, Capture.first_link_after}
+use Rattle.cap_io.proofs.{Common.Order, Common.checked, CapturesCame.order-held, BlocksCame.FrontSays}
+use Rattle.cap_pcapng.specs.{Effect.section_of, Effect.interfaces_after, Frame.frame_fault, Frame.frame_in}
 use Rattle.cap_io.proofs.first_unit.block_in.Goals as goal
 
 pub returns-in-Err-clause-err : goal.returns-in-Err-clause-err

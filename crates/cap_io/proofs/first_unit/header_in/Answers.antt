@@ -1,6 +1,5 @@
 -- The first 24 bytes determine the file header.
-use Rattle.std.proofs.Common.{arith}
-use Rattle.cap_io.proofs.{Common.checked, FirstUnits.head_taken}
+use Rattle.cap_io.proofs.{Common.arith, Common.checked, FirstUnits.head_taken}
 use Rattle.cap_io.proofs.first_unit.header_in.Goals as goal
 
 pub returns : goal.returns

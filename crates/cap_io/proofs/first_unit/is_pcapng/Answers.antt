@@ -1,6 +1,5 @@
 -- The first four bytes decide whether a file is pcapng.
-use Rattle.std.proofs.Common.{arith}
-use Rattle.cap_io.proofs.{FirstUnits.pcapng_by}
+use Rattle.cap_io.proofs.{Common.arith, FirstUnits.pcapng_by}
 use Rattle.cap_io.proofs.first_unit.is_pcapng.Goals as goal
 
 pub returns-in-Some : goal.returns-in-Some

@@ -1,7 +1,5 @@
 -- The law is a lemma on reading back what is written.
-use Rattle.cap_octet.specs.declared.format.Format.TheVariants.{Pcap, NsecPcap, Pcapng}
-use Rattle.cap_io.specs.RoundTrip.{ItemsBack}
-use Rattle.cap_io.proofs.{PcapBack.pcap-back, PcapBack.nanoseconds-back, PcapngBack.pcapng-back}
+use Rattle.cap_io.proofs.{Common.Pcap, Common.NsecPcap, Common.Pcapng, Common.ItemsBack, PcapBack.pcap-back, PcapBack.nanoseconds-back, PcapngBack.pcapng-back}
 use Rattle.cap_io.proofs.laws.items_back.Goals as goal
 
 items-back : ItemsBack

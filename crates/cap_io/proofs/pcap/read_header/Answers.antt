@@ -1,6 +1,6 @@
 -- The header that is read is that of the file, or the first check that fails is reported.
-use Rattle.std.proofs.Common.{arith, rules, refl, not}
-use Rattle.std.proofs.lemmas.Result.{err_from_is_err_and}
+use Rattle.cap_io.proofs.Common.{arith, err_from_is_err_and}
+use Rattle.std.proofs.Common.{rules, refl, not}
 use Rattle.cap_io.proofs.Came.{first_of, no_magic, none_if_not, rest_of_header, joined_front, header-has_memory, header_came, header_refused, section_of_bytes}
 use Rattle.cap_io.proofs.pcap.read_header.Goals as goal
 

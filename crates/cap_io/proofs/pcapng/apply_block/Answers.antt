@@ -1,6 +1,5 @@
 -- A block changes the section as its type says, or is refused.
-use Rattle.cap_io.proofs.Common.{arith, err_from_is_err_and}
-use Rattle.cap_io.proofs.OwnFaults.{adds-one}
+use Rattle.cap_io.proofs.{Common.arith, Common.err_from_is_err_and, OwnFaults.adds-one}
 use Rattle.cap_io.proofs.pcapng.apply_block.Goals as goal
 
 pub returns-in_err-block_effect : goal.returns-in_err-block_effect

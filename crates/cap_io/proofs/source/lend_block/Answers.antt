@@ -1,9 +1,6 @@
 -- A block at hand that fails no check is lent, if it has a packet.
-use Rattle.cap_io.proofs.Common.{arith, subst}
-use Rattle.cap_io.proofs.FirstUnits.{packet-first}
-use Rattle.cap_io.proofs.Hands.{unit-lent}
-use Rattle.cap_io.specs.FirstUnit.{BeginsWithUnit}
-use Rattle.cap_pcapng.specs.declared.effect.BlockEffect.{BlockEffect}
+use Rattle.cap_io.proofs.{Common.arith, Common.BlockEffect, FirstUnits.packet-first, Hands.unit-lent}
+use Rattle.{std.proofs.Common.subst, cap_io.specs.FirstUnit.BeginsWithUnit}
 use Rattle.cap_io.proofs.source.lend_block.Goals as goal
 
 pub returns-in-Packet-clause-lent : goal.returns-in-Packet-clause-lent

@@ -1,7 +1,5 @@
 -- A record at hand that fails no check is lent.
-use Rattle.std.proofs.Common.{arith}
-use Rattle.cap_io.proofs.FirstUnits.{packet-first}
-use Rattle.cap_io.proofs.Hands.{unit-lent}
+use Rattle.cap_io.proofs.{Hands.unit-lent, Common.arith, FirstUnits.packet-first}
 use Rattle.cap_io.proofs.source.lend_unit.Goals as goal
 
 pub lend_unit-requires-clause-there : goal.lend_unit-requires-clause-there

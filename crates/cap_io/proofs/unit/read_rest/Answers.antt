@@ -1,8 +1,7 @@
 -- The bytes that are read follow those at hand, which don't change.
-use Rattle.std.proofs.Common.{rules, ◌≡◌, ◌-◌, ◌≤◌, ℕ, List, ◌++◌, length, take, drop, arith, length-append, length-drop, take-append-drop}
-use Rattle.std.proofs.lemmas.List.{append-nil, drop_all, drop_at, length-take-le, take-append-le}
-use Rattle.std.proofs.lemmas.Slice.{overwrites, take-put_mid}
-use Rattle.cap_octet.specs.Device.{Takes}
+use Rattle.std.proofs.Common.{rules, ◌≡◌, ◌-◌, ◌≤◌, ℕ, List, ◌++◌, length, take, drop, length-append, length-drop, take-append-drop}
+use Rattle.cap_io.proofs.Common.{arith, append-nil, drop_at, length-take-le, Takes}
+use Rattle.std.proofs.lemmas.{List.drop_all, List.take-append-le, Slice.overwrites, Slice.take-put_mid}
 use Rattle.cap_io.proofs.unit.read_rest.Goals as goal
 
 -- a part of the buffer that is filled has the first bytes that weren't read

@@ -1,5 +1,5 @@
 -- A packet is refused for the first check that it fails.
-use Rattle.std.proofs.{Common.arith, lemmas.Grind.common_steps}
+use Rattle.cap_io.proofs.Common.{arith, common_steps}
 use Rattle.cap_io.proofs.writing.check_packet.Goals as goal
 
 pub returns-then-link-packet : goal.returns-then-link-packet

@@ -1,5 +1,6 @@
 -- File start, interface and packet are written in this order, or a prefix of them.
-use Rattle.cap_io.proofs.Common.{arith, Ok, Err, err_from_is_err_and, captured, Appends, description_text}
+use Rattle.cap_io.proofs.Common.{arith, err_from_is_err_and, captured, Appends, description_text}
+use Rattle.std.proofs.Common.{Ok, Err}
 use Rattle.cap_io.proofs.Parts.{appends-exactly, appends-nothing, appends-stopped, appends-then}
 use Rattle.cap_io.proofs.writing.write_block.Goals as goal
 

@@ -1,7 +1,8 @@
 -- File start and record are written in this order, or a prefix of them.
-use Rattle.cap_io.proofs.Common.{arith, ◌≡◌, ℕ, List, [], ◌++◌, ap, ◌∙◌, append-nil, err_from_is_err_and, captured, record_text}
+use Rattle.cap_io.proofs.Common.{arith, append-nil, err_from_is_err_and, captured}
+use Rattle.std.proofs.Common.{◌≡◌, ℕ, List, [], ◌++◌, ap, ◌∙◌}
 use Rattle.cap_io.proofs.Parts.{appends-as, appends-stopped, appends-then}
-use Rattle.cap_pcap.specs.Encoding.{resolution_of}
+use Rattle.{cap_io.specs.Text.record_text, cap_pcap.specs.Encoding.resolution_of}
 use Rattle.cap_io.proofs.writing.write_record.Goals as goal
 
 pub returns-in_err-write_file_start : goal.returns-in_err-write_file_start

@@ -1,6 +1,6 @@
 -- jiff's date for a day number is the date that counting the days gives.
-use Rattle.cap_octet.proofs.Common.{arith, rules, refl, ◌≡◌, ◌∙◌, pos, FitsSigned, w16, w64, of_z, to_z, to_z-of_z, epoch_day, signed_arith}
-use Rattle.cap_octet.proofs.Days.{counted_date}
+use Rattle.std.proofs.Common.{arith, rules, refl, ◌≡◌, ◌∙◌, pos, FitsSigned, w16, w64, of_z, to_z}
+use Rattle.{jiff_core.specs.Date.epoch_day, jiff_core.proofs.SignedLemmas.signed_arith, std.proofs.lemmas.Int.to_z-of_z, cap_octet.proofs.Days.counted_date}
 use Rattle.cap_octet.proofs.calendar.calendar_day.Goals as goal
 
 pub overflow_cast-result : goal.overflow_cast-result

@@ -1,7 +1,5 @@
 -- The copied parts, in their order, are the date's text.
-use Rattle.std.proofs.Common.{refl}
-use Rattle.cap_octet.specs.Date.{second_text}
-use Rattle.cap_octet.proofs.Dates.{date_text_split}
+use Rattle.{std.proofs.Common.refl, cap_octet.specs.Date.second_text, cap_octet.proofs.Dates.date_text_split}
 use Rattle.cap_octet.proofs.date.date_bytes.Goals as goal
 
 pub returns : goal.returns

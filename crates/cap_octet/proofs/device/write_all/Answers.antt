@@ -1,6 +1,6 @@
 -- If a repeated write stops, what is written so far is a prefix of the bytes.
-use Rattle.std.proofs.{Common.arith, Common.ℕ, lemmas.List.length-take}
-use Rattle.cap_octet.proofs.Reading.{written-again}
+use Rattle.std.proofs.Common.{arith, ℕ}
+use Rattle.cap_octet.proofs.{Common.length-take, Reading.written-again}
 use Rattle.cap_octet.proofs.device.write_all.Goals as goal
 
 pub returns-in-Err-clause-exact : goal.returns-in-Err-clause-exact

@@ -1,8 +1,7 @@
 -- If a part fails, all parts before it and a prefix of it are written, and the count says how many
 -- bytes.
-use Rattle.std.proofs.{Common.[], Common.ℕ, Common.List, Common.arith, lemmas.List.Folds.length-flat_map-take}
-use Rattle.std.specs.Borrow.{Bor}
-use Rattle.cap_octet.proofs.Writing.{parts-stop-at}
+use Rattle.std.proofs.Common.{[], ℕ, List, arith}
+use Rattle.{cap_octet.proofs.Writing.parts-stop-at, std.proofs.lemmas.List.Folds.length-flat_map-take, std.specs.Borrow.Bor}
 use Rattle.cap_octet.proofs.device.write_all_parts.Goals as goal
 
 abbrev none : Bor (List ℕ)

@@ -1,7 +1,6 @@
 -- If a part fails, all parts before it and a prefix of it are written.
 use Rattle.std.proofs.Common.{[], ℕ, List}
-use Rattle.std.specs.Borrow.{Bor}
-use Rattle.cap_octet.proofs.Writing.{parts-stop}
+use Rattle.{std.specs.Borrow.Bor, cap_octet.proofs.Writing.parts-stop}
 use Rattle.cap_octet.proofs.device.write_parts.Goals as goal
 
 abbrev none : Bor (List ℕ)

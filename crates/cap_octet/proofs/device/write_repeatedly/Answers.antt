@@ -1,6 +1,6 @@
 -- The bytes so far and those of one more write are a prefix of all bytes.
-use Rattle.std.proofs.{Common.rules, Common.ℕ, Common.◌∙◌, Common.arith, lemmas.List.length-take}
-use Rattle.cap_octet.proofs.Reading.{written-again}
+use Rattle.std.proofs.Common.{rules, ℕ, ◌∙◌, arith}
+use Rattle.cap_octet.proofs.{Common.length-take, Reading.written-again}
 use Rattle.cap_octet.proofs.device.write_repeatedly.Goals as goal
 
 pub loop-written-preserved : goal.loop-written-preserved

@@ -1,7 +1,6 @@
 -- Up to nine digits of a fraction, filled with zeros, are its nanoseconds.
 use Rattle.std.proofs.Common.{◌≡◌, ◌∙◌, sym, arith, Some, None}
-use Rattle.cap_octet.specs.Digits.{decimal_value}
-use Rattle.cap_octet.proofs.{Numerals.few_in_u64, Spans.part_below, Spans.part_none}
+use Rattle.cap_octet.{specs.Digits.decimal_value, proofs.Numerals.few_in_u64, proofs.Spans.part_below, proofs.Spans.part_none}
 use Rattle.cap_octet.proofs.seconds.fraction_nanoseconds.Goals as goal
 
 pub returns-in_err-number : goal.returns-in_err-number

@@ -1,7 +1,7 @@
 -- The parts before and after the point make up the duration, and without a point the fraction is 0.
-use Rattle.cap_octet.proofs.Common.{◌≡◌, ◌∙◌, sym, Some, None, ◌==◌, ◌+◌, take, drop, position, take_rest, decimal_value, fraction_nanoseconds}
-use Rattle.cap_octet.proofs.Spans.{duration_of_parts_in_u64}
-use Rattle.cap_octet.specs.Seconds.{duration_value}
+use Rattle.std.proofs.Common.{◌≡◌, ◌∙◌, sym, Some, None, ◌==◌, ◌+◌, take, drop, position}
+use Rattle.std.proofs.lemmas.List.{take_rest}
+use Rattle.cap_octet.{specs.Seconds.fraction_nanoseconds, specs.Seconds.duration_value, specs.Digits.decimal_value, proofs.Spans.duration_of_parts_in_u64}
 use Rattle.cap_octet.proofs.seconds.span_of.Goals as goal
 
 pub returns-in-None : goal.returns-in-None

@@ -1,5 +1,5 @@
 -- A date from 1970 on has a day number, by the lemma on jiff's numbers.
-use Rattle.cap_octet.proofs.Common.{sym, arith}
+use Rattle.std.proofs.Common.{sym, arith}
 use Rattle.cap_octet.proofs.Days.{days_since}
 use Rattle.cap_octet.proofs.timestamp.day_number.Goals as goal
 

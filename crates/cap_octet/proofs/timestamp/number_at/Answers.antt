@@ -1,6 +1,5 @@
 -- The digits at a place are the number there.
-use Rattle.std.proofs.Common.{◌∙◌}
-use Rattle.cap_octet.proofs.Spans.{number_there}
+use Rattle.{std.proofs.Common.◌∙◌, cap_octet.proofs.Spans.number_there}
 use Rattle.cap_octet.proofs.timestamp.number_at.Goals as goal
 
 pub returns : goal.returns

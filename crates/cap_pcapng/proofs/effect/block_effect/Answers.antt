@@ -1,6 +1,7 @@
 -- A block has the effect of its type, or fails the first of its checks.
-use Rattle.cap_pcapng.proofs.Common.{◌∙◌, sym, ap, subst, Fault, Parts, parts_of, IsBlockFault, LieAsSaid}
-use Rattle.cap_pcapng.proofs.Entered.{enhanced_enters, enhanced_room, refused_by_itself, simple_enters}
+use Rattle.std.proofs.Common.{◌∙◌, sym, ap, subst}
+use Rattle.cap_pcapng.specs.{Block.Parts, Block.parts_of, Effect.IsBlockFault, Effect.LieAsSaid}
+use Rattle.cap_pcapng.proofs.{Common.Fault, Entered.enhanced_enters, Entered.enhanced_room, Entered.refused_by_itself, Entered.simple_enters}
 use Rattle.cap_pcapng.proofs.effect.block_effect.Goals as goal
 
 pub enhanced_packet_spans-requires : goal.enhanced_packet_spans-requires

@@ -1,7 +1,6 @@
 -- The packet lies within its block, and is that of the definitions.
 use Rattle.std.proofs.Common.{◌∙◌, ℕ, length, refl, sym, ap, arith, length-drop}
-use Rattle.cap_pcapng.specs.Interface.{description_of}
-use Rattle.cap_pcapng.proofs.Entered.{enhanced_found, known_interface}
+use Rattle.cap_pcapng.proofs.{Common.description_of, Entered.enhanced_found, Entered.known_interface}
 use Rattle.cap_pcapng.proofs.effect.enhanced_packet_spans.Goals as goal
 
 pub returns : goal.returns

@@ -1,6 +1,5 @@
 -- The packet lies within its block, and is that of the definitions.
-use Rattle.cap_pcapng.specs.Interface.{description_of}
-use Rattle.cap_pcapng.proofs.Entered.{known_interface, simple_found}
+use Rattle.cap_pcapng.proofs.{Common.description_of, Entered.known_interface, Entered.simple_found}
 use Rattle.cap_pcapng.proofs.effect.simple_packet_spans.Goals as goal
 
 pub returns : goal.returns

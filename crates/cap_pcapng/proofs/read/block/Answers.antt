@@ -1,7 +1,6 @@
 -- A block is accepted, or fails the first of its body's checks.
-use Rattle.cap_pcapng.proofs.Common.{◌≡◌, ◌-◌, arith, take, drop, IfErr, IfOk, Option, None, Some, subst, Fault}
-use Rattle.cap_pcapng.proofs.{Judged.judged-fault, Judged.judged-passes, WholeBlocks.block_fault-body, WholeBlocks.own_checks}
-use Rattle.cap_pcapng.specs.declared.blocks.Block.{Block}
+use Rattle.std.proofs.Common.{◌≡◌, ◌-◌, arith, take, drop, IfErr, IfOk, Option, None, Some, subst}
+use Rattle.cap_pcapng.proofs.{WholeBlocks.block_fault-body, WholeBlocks.own_checks, Common.Fault, Common.Block, Judged.judged-fault, Judged.judged-passes}
 use Rattle.cap_pcapng.proofs.read.block.Goals as goal
 
 pub returns-clause-refused : goal.returns-clause-refused

@@ -1,5 +1,6 @@
 -- The parts, joined, are the interface block.
-use Rattle.cap_pcapng.proofs.Common.{◌≡◌, ◌++◌, ◌-◌, List, ℕ, take, drop, replicate, refl, sym, ◌∙◌, name_text}
+use Rattle.std.proofs.Common.{◌≡◌, ◌++◌, ◌-◌, List, ℕ, take, drop, replicate, refl, sym, ◌∙◌}
+use Rattle.cap_pcapng.specs.Encoding.{name_text}
 use Rattle.cap_pcapng.proofs.WrittenBlocks.{interface_joined, named, unnamed}
 use Rattle.cap_pcapng.proofs.write.put_interface_parts.Goals.{then-is_empty, else-is_empty}
 use Rattle.cap_pcapng.proofs.write.put_interface_parts.Goals as goal

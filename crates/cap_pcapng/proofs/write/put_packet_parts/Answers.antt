@@ -1,5 +1,6 @@
 -- The parts, joined, are the packet's block, with a comment or without.
-use Rattle.cap_pcapng.proofs.Common.{◌+◌, sym, ◌∙◌, arith, refl, Captured, captured}
+use Rattle.std.proofs.Common.{◌+◌, sym, ◌∙◌, arith, refl}
+use Rattle.cap_octet.specs.Packet.{Captured, captured}
 use Rattle.cap_pcapng.proofs.WrittenBlocks.{packet_joined, plain_joined, comment_after}
 use Rattle.cap_pcapng.proofs.write.put_packet_parts.Goals as goal
 

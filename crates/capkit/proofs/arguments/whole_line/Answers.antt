@@ -1,6 +1,5 @@
 -- The line is made of the names of all formats and link types.
-use Rattle.capkit.proofs.Common.{◌∙◌, ap, map, with_shapes, line_without_commands, IfOk-weaker}
-use Rattle.clap.specs.declared.builder.value_parser.ValueParser.TheVariants.{Names}
+use Rattle.capkit.proofs.Common.{◌∙◌, ap, map, with_shapes, line_without_commands, IfOk-weaker, Names}
 use Rattle.cap_octet.specs.{Format.all_formats, Link.all_links}
 use Rattle.capkit.proofs.arguments.whole_line.Goals as goal
 

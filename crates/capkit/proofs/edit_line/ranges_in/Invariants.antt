@@ -1,6 +1,5 @@
 -- The words so far are ranges, which are read.
-use Rattle.std.proofs.Common.{◌≡◌, Some, map, take}
-use Rattle.capkit.specs.Range.{range_of}
+use Rattle.capkit.proofs.Common.{◌≡◌, Some, map, take, range_of}
 use Rattle.capkit.proofs.edit_line.ranges_in.Given as goal
 
 abbrev pub invariant-loop-word : goal.invariant-loop-word

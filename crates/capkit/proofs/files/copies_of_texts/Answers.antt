@@ -1,5 +1,5 @@
 -- The copies have the same texts, in the same order.
-use Rattle.std.proofs.{Common.arith, lemmas.Grind.common_steps}
+use Rattle.capkit.proofs.Common.{arith, common_steps}
 use Rattle.capkit.proofs.files.copies_of_texts.Goals as goal
 
 pub loop-name-init : goal.loop-name-init

@@ -1,5 +1,5 @@
 -- The names so far are copied.
-use Rattle.std.proofs.Common.{◌≡◌, ◌∷◌, map, string_bytes, take}
+use Rattle.capkit.proofs.Common.{◌≡◌, ◌∷◌, map, string_bytes, take}
 use Rattle.capkit.proofs.files.copies_of_texts.Given as goal
 
 abbrev pub invariant-loop-name : goal.invariant-loop-name

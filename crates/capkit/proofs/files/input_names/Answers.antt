@@ -1,6 +1,7 @@
 -- Too many inputs, or a name that is used twice, are refused; otherwise the names are those of the
 -- words.
-use Rattle.capkit.proofs.Common.{◌∙◌, ◌∷◌, ap₂, sym, inl, inr, arith, refl, common_steps, err_from_is_err_and, option_map}
+use Rattle.capkit.proofs.Common.{◌∙◌, ◌∷◌, sym, inl, inr, arith, refl, common_steps, err_from_is_err_and}
+use Rattle.std.proofs.Common.{ap₂, option_map}
 use Rattle.capkit.proofs.RangeWords.{faultless, text_of, too_many_files, used_twice}
 use Rattle.capkit.proofs.files.input_names.Goals as goal
 

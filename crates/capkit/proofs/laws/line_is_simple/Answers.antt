@@ -1,5 +1,5 @@
 -- Evaluating the rules of the line shows both, whatever the names of formats and links.
-use Rattle.std.proofs.Common.{refl}
+use Rattle.capkit.proofs.Common.{refl}
 use Rattle.capkit.proofs.laws.line_is_simple.Goals as goal
 
 pub returns-clause-simple : goal.returns-clause-simple

@@ -1,6 +1,5 @@
 -- A line of `compile` has no fault but lack of memory.
-use Rattle.clap.specs.Words.{found_of, rows_of}
-use Rattle.capkit.proofs.Saying.{compile_faultless, memory_alone}
+use Rattle.capkit.proofs.{Common.found_of, Common.rows_of, Saying.compile_faultless, Saying.memory_alone}
 use Rattle.capkit.proofs.line.line_of_matches.Goals as goal
 
 pub returns-in-Compile-clause-faultless : goal.returns-in-Compile-clause-faultless

@@ -1,5 +1,5 @@
 -- The line of a report has the names of the words, and may be run.
-use Rattle.std.proofs.{Common.refl, lemmas.Bool.and_from}
+use Rattle.capkit.proofs.Common.{refl, and_from}
 use Rattle.capkit.proofs.merge_line.infos_line.Goals as goal
 
 pub returns-clause-line : goal.returns-clause-line

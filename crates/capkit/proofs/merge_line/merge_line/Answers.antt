@@ -1,5 +1,5 @@
 -- The line of a merge has the options and names of the words, and may be run.
-use Rattle.std.proofs.{Common.◌∙◌, Common.ap, Common.refl, Common.Some, lemmas.Bool.and_from}
+use Rattle.capkit.proofs.Common.{◌∙◌, ap, refl, Some, and_from}
 use Rattle.capkit.proofs.merge_line.merge_line.Goals as goal
 
 pub returns-clause-line : goal.returns-clause-line

@@ -1,6 +1,5 @@
 -- The standard streams among the names so far are counted.
-use Rattle.std.proofs.Common.{◌≡◌, ◌≤◌, take}
-use Rattle.std.specs.Prelude.{count_by}
+use Rattle.capkit.proofs.Common.{◌≡◌, ◌≤◌, take, count_by}
 use Rattle.capkit.specs.Names.{is_standard}
 use Rattle.capkit.proofs.names.standard_stream_count.Given as goal
 

@@ -1,5 +1,5 @@
 -- The inputs so far are open.
-use Rattle.std.proofs.Common.{◌≡◌, vec_len}
+use Rattle.capkit.proofs.Common.{◌≡◌, vec_len}
 use Rattle.capkit.proofs.opening.open_inputs.Given as goal
 
 abbrev pub invariant-loop-name : goal.invariant-loop-name

@@ -1,5 +1,5 @@
 -- The line of a compilation has the expression and link type of the words.
-use Rattle.std.proofs.Common.{refl}
+use Rattle.capkit.proofs.Common.{refl}
 use Rattle.capkit.proofs.print_line.compile_line.Goals as goal
 
 pub returns-clause-line : goal.returns-clause-line

@@ -1,6 +1,5 @@
 -- The expression is the words joined by blanks.
-use Rattle.std.proofs.{Common.◌∙◌, Common.ap, Common.codes, Common.List, Common.ℕ, lemmas.Result.IfOk-weaker}
-use Rattle.std.specs.List.{join_by}
+use Rattle.capkit.proofs.Common.{◌∙◌, ap, codes, List, ℕ, IfOk-weaker, join_by}
 use Rattle.capkit.proofs.PrintReady.{joined}
 use Rattle.capkit.proofs.print_line.expression_text.Goals as goal
 

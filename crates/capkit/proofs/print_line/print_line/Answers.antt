@@ -1,5 +1,5 @@
 -- The line of a print has the options, expression and names of the words, and may be run.
-use Rattle.std.proofs.Common.{◌∙◌, ◌∷◌, [], ap, refl, string_bytes}
+use Rattle.capkit.proofs.Common.{◌∙◌, ◌∷◌, [], ap, refl, string_bytes}
 use Rattle.capkit.proofs.PrintReady.{ready}
 use Rattle.capkit.proofs.print_line.print_line.Goals as goal
 

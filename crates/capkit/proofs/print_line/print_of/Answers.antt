@@ -1,6 +1,5 @@
 -- The count of packets is at least 1.
-use Rattle.capkit.specs.Arguments.{most_64}
-use Rattle.capkit.proofs.OptionValues.{one_or_more}
+use Rattle.capkit.{specs.Arguments.most_64, proofs.OptionValues.one_or_more}
 use Rattle.capkit.proofs.print_line.print_of.Goals as goal
 
 pub returns-clause-proper : goal.returns-clause-proper

@@ -1,6 +1,5 @@
 -- A range is read if and only if the word writes one.
-use Rattle.std.proofs.Common.{◌≡◌, rules, Some, None}
-use Rattle.capkit.specs.Range.{range_of}
+use Rattle.capkit.proofs.Common.{◌≡◌, rules, Some, None, range_of}
 use Rattle.capkit.proofs.WrittenRanges.{none_in, none_written, read_is_written}
 use Rattle.capkit.proofs.range.range_in.Goals as goal
 

@@ -1,6 +1,5 @@
 -- A word is split at its first hyphen; without one, both sides are the word.
-use Rattle.std.proofs.Common.{refl}
-use Rattle.capkit.proofs.Numbers.{is_split, not_split}
+use Rattle.capkit.proofs.{Common.refl, Numbers.is_split, Numbers.not_split}
 use Rattle.capkit.proofs.range.range_sides.Goals as goal
 
 pub returns-in-None : goal.returns-in-None

@@ -1,6 +1,6 @@
 -- A number is the text that clap found, if it is within its bounds.
-use Rattle.capkit.proofs.Common.{◌∙◌, ap, option_and_then, ExplainsUnsignedError, HasUnsignedDigitsIfOk, ParsesUnsigned, found_of, one_text, one_text-rows}
-use Rattle.capkit.proofs.Common.{number_between}
+use Rattle.capkit.proofs.Common.{◌∙◌, ap, option_and_then, found_of, one_text, one_text-rows, number_between}
+use Rattle.std.specs.Str.Parse.{ExplainsUnsignedError, HasUnsignedDigitsIfOk, ParsesUnsigned}
 use Rattle.capkit.proofs.OptionValues.{number_read}
 use Rattle.capkit.proofs.values.number.Goals as goal
 

@@ -1,6 +1,5 @@
 -- The line is that of the words, and may be run.
-use Rattle.std.proofs.Common.{subst}
-use Rattle.capkit.specs.Line.{SaysLine}
+use Rattle.capkit.{proofs.Common.subst, specs.Line.SaysLine}
 use Rattle.capkit.proofs.words.line_of_words.Goals as goal
 
 pub returns-clause-ready : goal.returns-clause-ready

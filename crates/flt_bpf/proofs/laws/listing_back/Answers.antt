@@ -1,6 +1,5 @@
 -- The listing that is written for instructions reads back as these instructions.
-use Rattle.flt_bpf.specs.Listing.{listing}
-use Rattle.flt_bpf.proofs.{Written.listing_written, Wrong.listing_not_refused}
+use Rattle.flt_bpf.{specs.Listing.listing, proofs.Written.listing_written, proofs.Wrong.listing_not_refused}
 use Rattle.flt_bpf.proofs.laws.listing_back.Goals as goal
 
 pub returns-clause-back : goal.returns-clause-back

@@ -1,5 +1,6 @@
 -- All bytes so far are blanks.
-use Rattle.flt_bpf.proofs.Common.{◌≡◌, drop, ◌==◌, slice_split, later_numbers}
+use Rattle.std.proofs.Common.{◌≡◌, drop, ◌==◌}
+use Rattle.flt_bpf.{proofs.Common.slice_split, specs.inside.Reading.later_numbers}
 use Rattle.flt_bpf.proofs.reading.after_blanks.Given as goal
 
 abbrev pub invariant-loop-at : goal.invariant-loop-at

@@ -1,6 +1,6 @@
 -- The piece before the first blank is the first number.
-use Rattle.flt_bpf.proofs.Common.{◌∙◌, ap, sym, ◌∷◌, pieces_after, BLANK}
-use Rattle.flt_bpf.proofs.Lines.{number_first}
+use Rattle.std.proofs.Common.{◌∙◌, ap, sym, ◌∷◌}
+use Rattle.flt_bpf.{proofs.Lines.number_first, specs.inside.Reading.pieces_after, specs.Listing.BLANK}
 use Rattle.flt_bpf.proofs.reading.first_number.Goals as goal
 
 pub returns-clause-first : goal.returns-clause-first

@@ -1,5 +1,5 @@
 -- The instructions so far, followed by those of the other lines, are all instructions.
-use Rattle.flt_bpf.proofs.Common.{◌∙◌, sym, arith, rules}
+use Rattle.std.proofs.Common.{◌∙◌, sym, arith, rules}
 use Rattle.flt_bpf.proofs.LineByLine.{read_all, read_beyond, read_missing, read_more, read_none, read_wrong}
 use Rattle.flt_bpf.proofs.reading.insns_on_lines.Goals as goal
 

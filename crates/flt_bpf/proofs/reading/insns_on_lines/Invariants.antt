@@ -1,5 +1,5 @@
 -- The lines so far are read.
-use Rattle.flt_bpf.proofs.{Common.lines_of, LineByLine.ReadTo}
+use Rattle.flt_bpf.{specs.Listing.lines_of, proofs.LineByLine.ReadTo}
 use Rattle.flt_bpf.proofs.reading.insns_on_lines.Given as goal
 
 abbrev pub invariant-loop-at : goal.invariant-loop-at

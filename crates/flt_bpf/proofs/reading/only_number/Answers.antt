@@ -1,6 +1,6 @@
 -- A line with a blank isn't a single number.
-use Rattle.flt_bpf.proofs.Common.{◌∙◌, ap, sym, ◌∷◌, pieces_after, BLANK}
-use Rattle.flt_bpf.proofs.Lines.{blank_not_only}
+use Rattle.std.proofs.Common.{◌∙◌, ap, sym, ◌∷◌}
+use Rattle.flt_bpf.{proofs.Lines.blank_not_only, specs.inside.Reading.pieces_after, specs.Listing.BLANK}
 use Rattle.flt_bpf.proofs.reading.only_number.Goals as goal
 
 pub returns-in-Some : goal.returns-in-Some

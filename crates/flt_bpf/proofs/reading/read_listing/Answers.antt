@@ -1,7 +1,7 @@
 -- The instructions that are read are those that the lines write.
-use Rattle.flt_bpf.proofs.Common.{arith}
-use Rattle.flt_bpf.proofs.{Readings.insns_listing, Readings.only_number_is, Wrong.fault_reason, Wrong.no_count}
+use Rattle.std.proofs.Common.{arith}
 use Rattle.flt_bpf.proofs.reading.read_listing.Goals.{in_default-via-in-Some+else-count, in_default-via-in_default}
+use Rattle.flt_bpf.proofs.{Readings.insns_listing, Readings.only_number_is, Wrong.fault_reason, Wrong.no_count}
 use Rattle.flt_bpf.proofs.reading.read_listing.Goals as goal
 
 pub returns-in-Some-clause-listing : goal.returns-in-Some-clause-listing

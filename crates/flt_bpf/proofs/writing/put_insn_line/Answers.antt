@@ -1,5 +1,5 @@
 -- The four numbers fit the line, one after the other.
-use Rattle.flt_bpf.proofs.Common.{arith, append_assoc, drop_all}
+use Rattle.{flt_bpf.proofs.Common.append_assoc, std.proofs.Common.arith, std.proofs.lemmas.List.drop_all}
 use Rattle.flt_bpf.proofs.writing.put_insn_line.Goals as goal
 
 pub returns-clause-written : goal.returns-clause-written

@@ -1,7 +1,7 @@
 -- The lines so far are written, and if the output fails, a prefix of the listing.
 use Rattle.flt_bpf.proofs.Assembling.{line_bytes, stopped_front, stopped_told, more_told, more_size}
-use Rattle.flt_bpf.proofs.Checking.{parts}
-use Rattle.flt_bpf.proofs.Common.{◌∙◌, arith, rules, length-decimal-le, common_steps}
+use Rattle.std.proofs.Common.{◌∙◌, arith, rules}
+use Rattle.flt_bpf.proofs.{Checking.parts, Common.length-decimal-le, Common.common_steps}
 use Rattle.flt_bpf.proofs.writing.write_listing.Goals as goal
 
 pub put_number-start-requires-clause-room : goal.put_number-start-requires-clause-room

@@ -1,6 +1,6 @@
 -- Before each instruction, the listing of those before it is written.
-use Rattle.std.proofs.Common.{◌≡◌, ◌+◌, ◌*◌, ◌≤◌, ◌++◌, length, IsTrue}
-use Rattle.flt_bpf.proofs.Assembling.{front_of}
+use Rattle.std.proofs.Common.{◌≡◌, ◌+◌, ◌*◌, ◌≤◌, ◌++◌, IsTrue}
+use Rattle.flt_bpf.proofs.{Common.length, Assembling.front_of}
 use Rattle.flt_bpf.proofs.writing.write_listing.Given as goal
 
 abbrev pub invariant-loop-insn : goal.invariant-loop-insn

@@ -1,5 +1,6 @@
 -- The remaining nodes decide.
-use Rattle.flt_lang.proofs.Common.{◌≡◌, drop, false, some_zero_divisor}
+use Rattle.std.proofs.Common.{◌≡◌, drop, false}
+use Rattle.flt_lang.proofs.Common.{some_zero_divisor}
 use Rattle.flt_lang.proofs.counts.has_zero_divisor.Given as goal
 
 abbrev pub invariant-loop-next : goal.invariant-loop-next

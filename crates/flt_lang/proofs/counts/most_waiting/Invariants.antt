@@ -1,5 +1,6 @@
 -- The height and the greatest height so far.
-use Rattle.flt_lang.proofs.Common.{◌≡◌, ◌≤◌, fold, take, climb}
+use Rattle.std.proofs.Common.{◌≡◌, ◌≤◌, fold, take}
+use Rattle.flt_lang.proofs.Common.{climb}
 use Rattle.flt_lang.proofs.counts.most_waiting.Given as goal
 
 abbrev pub invariant-loop-node : goal.invariant-loop-node

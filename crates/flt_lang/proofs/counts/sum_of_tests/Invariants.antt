@@ -1,5 +1,6 @@
 -- The sum so far, and that it fits.
-use Rattle.flt_lang.proofs.Common.{◌≡◌, ◌*◌, ◌≤◌, sum_by, take, node_tests}
+use Rattle.std.proofs.Common.{◌≡◌, ◌*◌, ◌≤◌, sum_by, take}
+use Rattle.flt_ast.specs.Counts.{node_tests}
 use Rattle.flt_lang.proofs.counts.sum_of_tests.Given as goal
 
 abbrev pub invariant-loop-node : goal.invariant-loop-node

@@ -1,6 +1,6 @@
 -- The greatest height is one more than the words of memory.
-use Rattle.flt_lang.proofs.Common.{◌≡◌, ◌+◌, ap, ◌∙◌, arith, fold, words_of, climb}
-use Rattle.flt_lang.proofs.{Counting.climb_whole, counts.words_in.Goals.After-most_waiting}
+use Rattle.std.proofs.Common.{◌≡◌, ◌+◌, ap, ◌∙◌, arith, fold}
+use Rattle.flt_lang.proofs.{Common.words_of, Common.climb, Counting.climb_whole, counts.words_in.Goals.After-most_waiting}
 use Rattle.flt_lang.proofs.counts.words_in.Given as given
 use Rattle.flt_lang.proofs.counts.words_in.Goals as goal
 

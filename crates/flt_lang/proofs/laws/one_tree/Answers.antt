@@ -1,6 +1,6 @@
 -- The parser returns one list of nodes, so tokens have one tree.
-use Rattle.flt_lang.proofs.Common.{sym, ◌∙◌, same_nodes}
-use Rattle.flt_lang.proofs.Complete.{complete}
+use Rattle.std.proofs.Common.{sym, ◌∙◌}
+use Rattle.{flt_ast.proofs.NodesBack.same_nodes, flt_lang.proofs.Complete.complete}
 use Rattle.flt_lang.proofs.laws.one_tree.Goals as goal
 
 pub returns : goal.returns

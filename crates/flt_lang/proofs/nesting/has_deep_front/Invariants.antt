@@ -1,5 +1,6 @@
 -- The parentheses and brackets so far are counted, and no prefix so far nests too deep.
-use Rattle.flt_lang.proofs.Common.{◌≡◌, ℕ, ◌+◌, ◌≤◌, take, count_by, is_opening, is_closing}
+use Rattle.std.proofs.Common.{◌≡◌, ℕ, ◌+◌, ◌≤◌, take, count_by}
+use Rattle.flt_lang.specs.Nesting.{is_opening, is_closing}
 use Rattle.flt_lang.proofs.nesting.has_deep_front.Given as goal
 
 abbrev pub invariant-loop-token : goal.invariant-loop-token

@@ -1,5 +1,7 @@
 -- Too many prefix operators in a row begin at some token, or at none.
-use Rattle.flt_lang.proofs.Common.{arith, refl, below_more, drop, sym, ◌∙◌, false≢true, length-drop, take_rest, BeginsWithLongPrefix}
+use Rattle.std.proofs.Common.{arith, refl, below_more, drop, sym, ◌∙◌}
+use Rattle.std.proofs.lemmas.List.{length-drop, take_rest}
+use Rattle.flt_lang.{proofs.Common.false≢true, specs.Nesting.BeginsWithLongPrefix}
 use Rattle.flt_lang.proofs.nesting.has_long_prefix.Goals as goal
 
 pub returns-then-begins_with_long_prefix : goal.returns-then-begins_with_long_prefix

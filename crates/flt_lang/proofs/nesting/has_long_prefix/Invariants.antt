@@ -1,5 +1,6 @@
 -- Too many prefix operators in a row begin at no token so far.
-use Rattle.flt_lang.proofs.Common.{◌<◌, ℕ, drop, BeginsWithLongPrefix}
+use Rattle.std.proofs.Common.{◌<◌, ℕ, drop}
+use Rattle.flt_lang.specs.Nesting.{BeginsWithLongPrefix}
 use Rattle.flt_lang.proofs.nesting.has_long_prefix.Given as goal
 
 abbrev pub invariant-loop-i : goal.invariant-loop-i

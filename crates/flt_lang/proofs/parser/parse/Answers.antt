@@ -1,6 +1,6 @@
 -- Deep nesting is refused first, and then come the parser's other faults.
-use Rattle.flt_lang.proofs.Common.{refl, sym, ◌∙◌, inl, false≢true}
-use Rattle.flt_lang.proofs.Stepping.{parse_fault, not_too_deep}
+use Rattle.std.proofs.Common.{refl, sym, ◌∙◌, inl}
+use Rattle.flt_lang.proofs.{Common.false≢true, Stepping.parse_fault, Stepping.not_too_deep}
 use Rattle.flt_lang.proofs.parser.parse.Goals as goal
 
 pub returns-then-is_nested_too_deep : goal.returns-then-is_nested_too_deep

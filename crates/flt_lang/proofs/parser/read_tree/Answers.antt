@@ -1,7 +1,7 @@
 -- The parser's nodes are those of the tree.
-use Rattle.std.proofs.{Common.arith, Common.sym, Common.subst, lemmas.Grind.common_steps}
 use Rattle.flt_lang.specs.Grammar.{IsReadAs, kinds_of}
 use Rattle.flt_lang.proofs.Sound.{found_is_tree, found_reads, no_tree}
+use Rattle.std.proofs.{Common.arith, Common.sym, Common.subst, lemmas.Grind.common_steps}
 use Rattle.flt_lang.proofs.parser.read_tree.Goals as goal
 
 pub into_expr-requires : goal.into_expr-requires

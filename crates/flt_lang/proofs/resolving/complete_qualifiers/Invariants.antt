@@ -1,5 +1,6 @@
 -- The nodes so far have complete qualifiers.
-use Rattle.flt_lang.proofs.Common.{◌≡◌, ◌++◌, length, take, drop, map, completed_node}
+use Rattle.std.proofs.Common.{◌≡◌, ◌++◌, length, take, drop, map}
+use Rattle.flt_ast.specs.Filled.{completed_node}
 use Rattle.flt_lang.proofs.resolving.complete_qualifiers.Given as goal
 
 abbrev pub invariant-loop-node : goal.invariant-loop-node

@@ -1,5 +1,6 @@
 -- The nodes so far have their qualifiers, and the others inherit from the latest.
-use Rattle.flt_lang.proofs.Common.{◌≡◌, ◌++◌, length, take, drop, only_host, inherited_nodes}
+use Rattle.std.proofs.Common.{◌≡◌, ◌++◌, length, take, drop}
+use Rattle.flt_ast.specs.{Filled.only_host, inside.Filled.inherited_nodes}
 use Rattle.flt_lang.proofs.resolving.inherit_qualifiers.Given as goal
 
 abbrev pub invariant-loop-i : goal.invariant-loop-i

@@ -1,5 +1,7 @@
 -- No node so far has qualifiers that don't fit, and its other faults are noted.
-use Rattle.flt_lang.proofs.Common.{◌≡◌, false, list_any, take, is_misfit_node, is_out_of_range_node, has_bits_past_mask_node}
+use Rattle.std.proofs.Common.{◌≡◌, false, take}
+use Rattle.std.specs.List.{list_any}
+use Rattle.flt_ast.specs.Resolved.{is_misfit_node, is_out_of_range_node, has_bits_past_mask_node}
 use Rattle.flt_lang.proofs.resolving.nodes_fault.Given as goal
 
 abbrev pub invariant-loop-node : goal.invariant-loop-node

@@ -1,7 +1,8 @@
 -- The completed nodes are those of the completed tree.
-use Rattle.flt_lang.proofs.Common.{◌≡◌, ◌∙◌, sym, ap, subst, None, tree_of, fill_expression, fill_fault, IsResolved, nodes_fault}
+use Rattle.std.proofs.Common.{◌≡◌, ◌∙◌, sym, ap, subst, None}
 use Rattle.flt_lang.proofs.Filling.{filled_resolved, filled_whole, found_fault, nodes_are_tree, tree_is}
-use Rattle.flt_lang.proofs.resolving.resolve.Goals.{After-complete_qualifiers}
+use Rattle.flt_lang.proofs.{Common.fill_expression, resolving.resolve.Goals.After-complete_qualifiers}
+use Rattle.flt_ast.specs.{Resolved.fill_fault, Resolved.IsResolved, Nodes.tree_of, inside.Resolved.nodes_fault}
 use Rattle.flt_lang.proofs.resolving.resolve.Given as given
 use Rattle.flt_lang.proofs.resolving.resolve.Goals as goal
 

@@ -1,6 +1,5 @@
 -- The new fact is true, and the others are.
-use Rattle.std.proofs.lemmas.List.Elements.{All-set}
-use Rattle.flt_short.specs.inside.Facts.{Says}
+use Rattle.flt_short.{proofs.Common.All-set, specs.inside.Facts.Says}
 use Rattle.flt_short.proofs.facts.add_fact.Goals as goal
 
 pub returns : goal.returns

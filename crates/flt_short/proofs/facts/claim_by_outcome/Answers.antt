@@ -1,5 +1,5 @@
 -- A number that isn't the one of two is the other one.
-use Rattle.flt_short.proofs.Common.{arith, nat_tests}
+use Rattle.{std.proofs.Common.arith, flt_short.proofs.Common.nat_tests}
 use Rattle.flt_short.proofs.facts.claim_by_outcome.Goals as goal
 
 pub returns-in-IsOneOf : goal.returns-in-IsOneOf

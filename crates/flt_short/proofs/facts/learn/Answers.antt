@@ -1,7 +1,7 @@
 -- A test for equality, or of bits, shows a number.
-use Rattle.std.proofs.{Common.rules, Common.arith, lemmas.Grind.common_steps}
-use Rattle.flt_bpf.specs.Instructions.{operation_of}
-use Rattle.flt_short.proofs.Common.{◌≡◌, Some, sym, ap, ◌∙◌, subst, Insn, JumpIf, Constant, Test, LearnsEqual, masked_held}
+use Rattle.std.proofs.Common.{rules, arith, ◌≡◌, Some, sym, ap, ◌∙◌, subst}
+use Rattle.flt_short.proofs.Common.{common_steps, operation_of, Insn, JumpIf, Constant, Test}
+use Rattle.flt_short.specs.inside.Facts.{LearnsEqual, masked_held}
 use Rattle.flt_short.proofs.Knowing.{learns_equal, learns_bits}
 use Rattle.flt_short.specs.declared.facts.Held.TheVariants as held
 use Rattle.flt_short.proofs.facts.learn.Goals as goal

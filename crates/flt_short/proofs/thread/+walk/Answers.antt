@@ -1,6 +1,6 @@
 -- A walk goes on.
-use Rattle.flt_bpf.specs.Instructions.{operation_of}
-use Rattle.flt_short.proofs.Common.{refl, slice_get_read, sym, ap, ◌∙◌, Insn, held_after}
+use Rattle.flt_short.proofs.Common.{operation_of, slice_get_read, Insn, held_after}
+use Rattle.std.proofs.Common.{refl, sym, ap, ◌∙◌}
 use Rattle.flt_short.proofs.Threading.{walks_on, forks_on}
 use Rattle.flt_short.proofs.thread.+walk.Goals as goal
 

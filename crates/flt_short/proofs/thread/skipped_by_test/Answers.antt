@@ -1,5 +1,6 @@
 -- The facts decide the test.
-use Rattle.flt_short.proofs.{Common.true, Common.false, Common.refl, Threading.passes_test}
+use Rattle.std.proofs.Common.{true, false, refl}
+use Rattle.flt_short.proofs.Threading.{passes_test}
 use Rattle.flt_short.proofs.thread.skipped_by_test.Goals as goal
 
 pub returns-in-Some-true : goal.returns-in-Some-true

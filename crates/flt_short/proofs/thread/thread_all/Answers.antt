@@ -1,6 +1,6 @@
 -- One more is threaded, or all are.
-use Rattle.std.proofs.{Common.length-set, lemmas.List.take_rest}
-use Rattle.flt_short.proofs.{Common.◌+◌, Common.arith, Threading.threaded_more, Threading.threaded_all, Threading.threads}
+use Rattle.flt_short.proofs.Threading.{threaded_more, threaded_all, threads}
+use Rattle.std.proofs.{Common.length-set, Common.◌+◌, Common.arith, lemmas.List.take_rest}
 use Rattle.flt_short.proofs.thread.thread_all.Goals as goal
 
 pub loop-at-preserved : goal.loop-at-preserved

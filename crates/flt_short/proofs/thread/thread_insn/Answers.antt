@@ -1,6 +1,7 @@
 -- An instruction is threaded by its operation.
-use Rattle.flt_bpf.specs.Instructions.{operation_of}
-use Rattle.flt_short.proofs.Common.{◌≡◌, Some, sym, ap, ◌∙◌, subst, Insn, JumpIf, Moves, IsThreaded}
+use Rattle.flt_short.proofs.Common.{operation_of, Insn, JumpIf}
+use Rattle.std.proofs.Common.{◌≡◌, Some, sym, ap, ◌∙◌, subst}
+use Rattle.flt_short.specs.inside.Threads.{Moves, IsThreaded}
 use Rattle.flt_short.proofs.Threading.{unknown_threaded, plain_threaded, test_threaded, jump_threaded, return_threaded}
 use Rattle.flt_short.proofs.thread.thread_insn.Goals as goal
 

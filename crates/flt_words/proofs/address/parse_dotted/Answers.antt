@@ -1,5 +1,6 @@
 -- Four parts are 32 bits.
-use Rattle.flt_words.proofs.Common.{arith, length, ap, Group}
+use Rattle.std.proofs.Common.{arith, length, ap}
+use Rattle.flt_words.proofs.Common.{Group}
 use Rattle.flt_words.proofs.AddressValues.{dotted_below, read_dotted, reads_below, same_groups}
 use Rattle.flt_words.proofs.address.parse_dotted.Goals as goal
 

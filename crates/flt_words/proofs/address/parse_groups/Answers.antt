@@ -1,11 +1,10 @@
 -- Each turn reads the next part.
 use Rattle.flt_words.proofs.AddressValues.{all_read, bad_part, each_pushed, parts_of, step_fits, step_small, step_value, too_many}
-use Rattle.flt_words.proofs.Common.{◌≡◌, ◌<◌, ◌==◌, length, get_or, List, ℕ, length-append, map, arith, sym, ap, ◌∙◌, rules, of_calls, length-map, map-append}
-use Rattle.flt_words.proofs.Common.{Bor, IsGroup}
-use Rattle.flt_words.proofs.{Numbers.some_unless_test, address.parse_groups.Goals.In-Some}
-use Rattle.std.proofs.lemmas.Iterator.Consumers.{YieldsList-end, YieldsList-turn}
-use Rattle.std.proofs.lemmas.Iterator.Splits.{YieldsList-from_slice_split}
-use Rattle.std.specs.Slice.Iter.{split_callee}
+use Rattle.std.proofs.Common.{◌≡◌, ◌<◌, ◌==◌, length, get_or, List, ℕ, length-append, map, arith, sym, ap, ◌∙◌, rules, of_calls}
+use Rattle.std.proofs.lemmas.List.{length-map, map-append}
+use Rattle.std.proofs.lemmas.Iterator.{Consumers.YieldsList-end, Consumers.YieldsList-turn, Splits.YieldsList-from_slice_split}
+use Rattle.flt_words.proofs.{address.parse_groups.Goals.In-Some, Common.IsGroup, Numbers.some_unless_test}
+use Rattle.std.specs.{Borrow.Bor, Slice.Iter.split_callee}
 use Rattle.flt_words.proofs.address.parse_groups.Goals as goal
 
 some_text : (c : In-Some) → 0 < length c.args.text.now

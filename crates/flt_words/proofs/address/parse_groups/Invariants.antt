@@ -1,5 +1,7 @@
 -- The parts so far are groups, and the number is theirs.
-use Rattle.flt_words.proofs.Common.{◌≡◌, ◌≤◌, ◌<◌, ◌^◌, length, map, number_from_digits, AllByRecursion, IsGroup, group_values, base_of}
+use Rattle.std.proofs.Common.{◌≡◌, ◌≤◌, ◌<◌, ◌^◌, length, map}
+use Rattle.flt_words.proofs.Common.{IsGroup, group_values, base_of}
+use Rattle.std.specs.{Int.Digits.number_from_digits, List.AllByRecursion}
 use Rattle.flt_words.proofs.address.parse_groups.Given as goal
 
 abbrev pub invariant-loop-digits : goal.invariant-loop-digits

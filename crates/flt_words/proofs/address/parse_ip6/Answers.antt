@@ -1,5 +1,6 @@
 -- The address is cut at its first two colons.
-use Rattle.flt_words.proofs.Common.{arith, ◌+◌, drop, take, take_rest, AreIp6Ends, IsIp6, whole}
+use Rattle.std.proofs.Common.{arith, ◌+◌, drop, take}
+use Rattle.flt_words.proofs.Common.{take_rest, AreIp6Ends, IsIp6, whole}
 use Rattle.flt_words.proofs.DoubleColons.{ends_from_ip6, ip6_from_ends, match_along, whole_from_ip6}
 use Rattle.flt_words.proofs.address.parse_ip6.Goals as goal
 

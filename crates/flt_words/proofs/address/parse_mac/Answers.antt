@@ -1,6 +1,5 @@
 -- Six groups are 48 bits.
-use Rattle.std.proofs.Common.{arith}
-use Rattle.flt_words.proofs.AddressValues.{whole_below}
+use Rattle.{std.proofs.Common.arith, flt_words.proofs.AddressValues.whole_below}
 use Rattle.flt_words.proofs.address.parse_mac.Goals as goal
 
 pub overflow_cast-result : goal.overflow_cast-result

@@ -1,5 +1,6 @@
 -- The omitted groups are zeros after the first ones.
-use Rattle.flt_words.proofs.Common.{arith, length, ap, Group}
+use Rattle.std.proofs.Common.{arith, length, ap}
+use Rattle.flt_words.proofs.Common.{Group}
 use Rattle.flt_words.proofs.AddressValues.{ends_fit, ends_value, reads_below, same_groups}
 use Rattle.flt_words.proofs.address.parse_shortened_ip6.Goals as goal
 

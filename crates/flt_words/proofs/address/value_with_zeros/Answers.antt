@@ -1,5 +1,5 @@
 -- Eight groups fit 128 bits.
-use Rattle.flt_words.proofs.Common.{arith}
+use Rattle.std.proofs.Common.{arith}
 use Rattle.flt_words.proofs.AddressValues.{zero_fits, zero_value}
 use Rattle.flt_words.proofs.address.value_with_zeros.Goals as goal
 

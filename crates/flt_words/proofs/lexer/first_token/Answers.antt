@@ -1,6 +1,6 @@
 -- The first token is a word if one begins here, otherwise a symbol.
-use Rattle.flt_words.proofs.Common.{arith, sym, ◌∙◌, err_from_is_err_and, bad_piece, no_piece, symbol_meaning, word_meaning}
-use Rattle.flt_words.proofs.Pieces.{longest_is_word}
+use Rattle.std.proofs.Common.{arith, sym, ◌∙◌}
+use Rattle.flt_words.proofs.{Common.err_from_is_err_and, Common.bad_piece, Common.no_piece, Common.symbol_meaning, Common.word_meaning, Pieces.longest_is_word}
 use Rattle.flt_words.proofs.lexer.first_token.Goals as goal
 
 pub returns-then-starts_word : goal.returns-then-starts_word

@@ -1,10 +1,10 @@
 -- Each turn cuts off a blank or a token, or finds why none begins here.
-use Rattle.flt_words.proofs.Common.{◌≡◌, ◌+◌, ◌==◌, arith, refl, sym, ◌∙◌, subst, length-drop, Err, err_from_is_err_and, IsRefused, IsToken, Tokens, short}
-use Rattle.flt_words.proofs.Common.{too_long}
+use Rattle.std.proofs.Common.{◌≡◌, ◌+◌, ◌==◌, arith, refl, sym, ◌∙◌, subst, length-drop, Err}
 use Rattle.flt_words.proofs.Lexing.{blank_keeps, counted_few, counted_step, cut_blank, cut_end, cut_refused, cut_token, inside_at}
-use Rattle.flt_words.proofs.Pieces.{longest_some}
 use Rattle.flt_words.proofs.Tables.{closes_none, closings, openings, opens_none, token_has}
 use Rattle.flt_words.proofs.lexer.lex.Goals.{in-OpenBracket, in-CloseBracket, in_default-kind}
+use Rattle.flt_words.proofs.{Common.err_from_is_err_and, Pieces.longest_some}
+use Rattle.flt_words.specs.Tokens.{IsRefused, IsToken, Tokens, Tokens.short, Tokens.too_long}
 use Rattle.flt_words.proofs.lexer.lex.Goals as goal
 
 pub returns-then-bytes-gt-LONGEST-clause-err : goal.returns-then-bytes-gt-LONGEST-clause-err

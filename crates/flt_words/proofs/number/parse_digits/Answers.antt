@@ -1,5 +1,5 @@
 -- The tests on the digits find their number, or that it doesn't fit.
-use Rattle.flt_words.proofs.Common.{arith}
+use Rattle.std.proofs.Common.{arith}
 use Rattle.flt_words.proofs.Numbers.{does_not_fit, fits, some_from_test, writes_from_tests, writes_pass}
 use Rattle.flt_words.proofs.number.parse_digits.Goals as goal
 

@@ -1,8 +1,8 @@
 -- The first bytes of a word decide its base.
-use Rattle.flt_words.proofs.Answering.{answers_along}
-use Rattle.flt_words.proofs.Common.{◌≡◌, ◌≢◌, ◌⊎◌, ◌≤◌, inl, inr, length, get_or, arith, nat_tests, take_rest, is_word_sized, decimal}
-use Rattle.flt_words.proofs.Numbers.{hexadecimal_by_front, octal_by_front, only_decimal}
+use Rattle.std.proofs.Common.{◌≡◌, ◌≢◌, ◌⊎◌, ◌≤◌, inl, inr, length, get_or, arith}
+use Rattle.flt_words.proofs.Common.{nat_tests, take_rest, is_word_sized, decimal}
 use Rattle.flt_words.proofs.number.parse_number.Goals.{then-word-eq120, else-word-eq120}
+use Rattle.flt_words.proofs.{Answering.answers_along, Numbers.hexadecimal_by_front, Numbers.octal_by_front, Numbers.only_decimal}
 use Rattle.flt_words.proofs.number.parse_number.Goals as goal
 
 pub returns-then-word-ne48 : goal.returns-then-word-ne48

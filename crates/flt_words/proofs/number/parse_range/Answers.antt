@@ -1,7 +1,7 @@
 -- The word is cut at its first dash.
-use Rattle.flt_words.proofs.Answering.{answers_along, answers_both}
-use Rattle.flt_words.proofs.Common.{arith, take_rest}
+use Rattle.std.proofs.Common.{arith}
 use Rattle.flt_words.proofs.Numbers.{range_from_parts, range_lacks_none, range_parts}
+use Rattle.flt_words.proofs.{Answering.answers_along, Answering.answers_both, Common.take_rest}
 use Rattle.flt_words.proofs.number.parse_range.Goals as goal
 
 pub returns-in-Some : goal.returns-in-Some

@@ -1,5 +1,6 @@
 -- Looking the piece up in the remaining rows gives the same as in the whole table.
-use Rattle.flt_words.proofs.Common.{◌≡◌, drop, map, look_up}
+use Rattle.std.proofs.Common.{◌≡◌, drop, map}
+use Rattle.flt_words.specs.Spellings.{look_up}
 use Rattle.flt_words.proofs.spelling.look_up.Given as goal
 
 abbrev pub invariant-loop-spelling : goal.invariant-loop-spelling

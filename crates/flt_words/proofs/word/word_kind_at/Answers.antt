@@ -1,6 +1,7 @@
 -- A word that no reader accepts means nothing.
-use Rattle.flt_words.proofs.Common.{arith, ◌≡◌, ℕ, List, None, TokenKind, IsDotted, IsIp6, IsMac, IsNumber, IsRange, Spells, keyword, number, dotted, range}
-use Rattle.flt_words.proofs.Common.{mac, ip6, keyword_of, known, too_large, unknown}
+use Rattle.std.proofs.Common.{arith, ◌≡◌, ℕ, List, None}
+use Rattle.flt_words.proofs.Common.{TokenKind, IsDotted, IsIp6, IsMac, IsNumber, IsRange, Spells, keyword, keyword_of, known, too_large, unknown}
+use Rattle.flt_words.specs.Words.Spells.{number, dotted, range, mac, ip6}
 use Rattle.flt_words.proofs.Tables.{keyword_is_plain}
 use Rattle.flt_words.proofs.word.word_kind_at.Goals as goal
 

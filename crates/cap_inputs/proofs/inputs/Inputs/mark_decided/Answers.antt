@@ -1,7 +1,9 @@
 -- Marking the packet as decided changes only its cursor and the order, and keeps both sound.
-use Rattle.cap_inputs.proofs.Common.{◌∙◌, refl, ap, slice_set, ordering_of, PacketOrder, InputsView, with_cursor}
+use Rattle.std.proofs.Common.{◌∙◌, refl, ap}
+use Rattle.std.specs.List.{slice_set}
+use Rattle.cap_inputs.specs.Inputs.{InputsView, with_cursor}
 use Rattle.cap_inputs.proofs.Cursors.{following-order, get-among}
-use Rattle.cap_inputs.proofs.{Leasts.queue-decided, Placed.decided-waits, Placed.placed-decided}
+use Rattle.cap_inputs.proofs.{Placed.decided-waits, Placed.placed-decided, Common.ordering_of, Common.PacketOrder, Leasts.queue-decided}
 use Rattle.cap_inputs.proofs.inputs.Inputs.mark_decided.Goals as goal
 
 pub returns : goal.returns

@@ -1,8 +1,8 @@
 -- New inputs have fresh cursors and the first order, and are sound.
-use Rattle.cap_inputs.proofs.Common.{List, length, ap, ◌∙◌, refl, arith, InputView, first_schedule, fresh_view, order_of, fresh_input}
+use Rattle.std.proofs.Common.{List, length, ap, ◌∙◌, refl, arith}
+use Rattle.cap_inputs.proofs.Common.{InputView, fresh_view, order_of, fresh_input, Queue}
 use Rattle.cap_inputs.proofs.{Cursors.first-inputs, Cursors.first-ordering, Leasts.queued-first, Placed.placed-first}
-use Rattle.std.specs.Prelude.{if◌then◌else◌}
-use Rattle.cap_inputs.specs.Queue.{Queue}
+use Rattle.{cap_inputs.specs.inside.Cursor.first_schedule, std.specs.Prelude.if◌then◌else◌}
 use Rattle.cap_inputs.proofs.inputs.Inputs.new.Goals as goal
 
 pub returns : goal.returns

@@ -1,7 +1,7 @@
 -- A read advances only its cursor, and keeps the order sound.
-use Rattle.cap_inputs.proofs.Common.{ap, ◌∙◌, ordering_of, InputView}
+use Rattle.std.proofs.Common.{ap, ◌∙◌}
 use Rattle.cap_inputs.proofs.Cursors.{get-among, fetches-by, read_input-steps-by, schedule-order}
-use Rattle.cap_inputs.proofs.{Leasts.room-for, Placed.goes-on, Placed.read-idle}
+use Rattle.cap_inputs.proofs.{Placed.goes-on, Placed.read-idle, Common.ordering_of, Common.InputView, Leasts.room-for}
 use Rattle.cap_inputs.proofs.inputs.Inputs.read_input.Goals as goal
 
 pub returns-clause-exact : goal.returns-clause-exact

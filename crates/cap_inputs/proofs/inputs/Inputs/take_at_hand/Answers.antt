@@ -1,8 +1,8 @@
 -- Taking the next packet of an input at hand is reading that input on.
-use Rattle.std.proofs.{Common.rules, lemmas.List.set-get_or}
-use Rattle.cap_inputs.proofs.Common.{◌≡◌, true, Ok, ap, ◌∙◌, slice_set, ordering_of, InputView}
+use Rattle.std.proofs.Common.{rules, ◌≡◌, true, Ok, ap, ◌∙◌}
 use Rattle.cap_inputs.proofs.Cursors.{taken-of, get-among, fetches-by, read_input-steps-by, schedule-order}
-use Rattle.cap_inputs.proofs.{Leasts.room-for, Placed.goes-on, Placed.read-idle}
+use Rattle.cap_inputs.proofs.{Placed.goes-on, Placed.read-idle, Common.ordering_of, Common.InputView, Leasts.room-for}
+use Rattle.std.{proofs.lemmas.List.set-get_or, specs.List.slice_set}
 use Rattle.cap_inputs.proofs.inputs.Inputs.take_at_hand.Goals as goal
 
 pub returns-clause-exact : goal.returns-clause-exact

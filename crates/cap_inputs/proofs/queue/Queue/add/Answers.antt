@@ -1,6 +1,5 @@
 -- An added entry is once in the queue, which stays a heap.
-use Rattle.cap_inputs.proofs.Common.{heap_items, Reverse, IsPermutation-map, Waiting}
-use Rattle.cap_inputs.proofs.Queues.{once_added, bare}
+use Rattle.cap_inputs.proofs.{Common.heap_items, Common.Reverse, Common.IsPermutation-map, Common.Waiting, Queues.once_added, Queues.bare}
 use Rattle.cap_inputs.proofs.queue.Queue.add.Goals as goal
 
 pub invariant_of-self : goal.invariant_of-self

@@ -1,7 +1,6 @@
 -- The top of the heap is the least entry.
 use Rattle.std.proofs.Common.{refl}
-use Rattle.std.specs.BinaryHeap.{heap_items}
-use Rattle.cap_inputs.proofs.Queues.{top_first}
+use Rattle.cap_inputs.proofs.{Common.heap_items, Queues.top_first}
 use Rattle.cap_inputs.proofs.queue.Queue.peek.Goals as goal
 
 pub returns : goal.returns

@@ -1,6 +1,6 @@
 -- The entry that is taken is the least one, and the others remain a heap.
-use Rattle.cap_inputs.proofs.Common.{refl, heap_items, Reverse, IsPermutation-map, Waiting}
-use Rattle.cap_inputs.proofs.Queues.{taken_first}
+use Rattle.cap_inputs.proofs.Common.{heap_items, Reverse, IsPermutation-map, Waiting}
+use Rattle.{std.proofs.Common.refl, cap_inputs.proofs.Queues.taken_first}
 use Rattle.cap_inputs.proofs.queue.Queue.take.Goals as goal
 
 pub invariant_of-self-2 : goal.invariant_of-self-2

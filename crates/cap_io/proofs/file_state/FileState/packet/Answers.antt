@@ -1,7 +1,6 @@
 -- The packet of a unit has the fields of its record or block, and those of its interface.
-use Rattle.cap_io.proofs.Common.{common_steps, arith}
-use Rattle.cap_io.proofs.Passing.{part-lent, pcap-lent, pcapng-lent}
 use Rattle.cap_pcapng.proofs.Entered.{known_interface}
+use Rattle.cap_io.proofs.{Common.common_steps, Common.arith, Passing.part-lent, Passing.pcap-lent, Passing.pcapng-lent}
 use Rattle.cap_io.proofs.file_state.FileState.packet.Goals as goal
 
 pub returns-in-Pcap-clause-packet : goal.returns-in-Pcap-clause-packet

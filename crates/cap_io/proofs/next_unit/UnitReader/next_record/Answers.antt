@@ -2,7 +2,8 @@
 use Rattle.cap_io.proofs.Came.{fields_came, fields_refused, fields-has_memory, no_room, data_missing, record_came, record-takes}
 use Rattle.cap_io.proofs.CapturesCame.{moves-ended, moves-failed, moves-then, no-error, reads-no_unit}
 use Rattle.cap_io.proofs.OwnFaults.{own-fields, own-unfailed}
-use Rattle.cap_io.proofs.Common.{rules, true, Ok, sym, checked_err, ◌∙◌, [], ◌≡◌, ◌+◌, length, take, refl, arith, take_at, err_from_is_err_and}
+use Rattle.std.proofs.Common.{rules, true, Ok, sym, ◌∙◌, [], ◌≡◌, ◌+◌, length, take, refl}
+use Rattle.cap_io.proofs.Common.{checked_err, arith, take_at, err_from_is_err_and}
 use Rattle.cap_io.proofs.next_unit.UnitReader.next_record.Goals as goal
 
 pub returns-in_err-found : goal.returns-in_err-found

@@ -3,9 +3,11 @@ use Rattle.cap_io.proofs.BlocksCame.{adds-describes, block-exceeds, block_came, 
 use Rattle.cap_io.proofs.BlocksCame.{rest_of_block, whole_came}
 use Rattle.cap_io.proofs.CapturesCame.{block-takes, first-again, has-section, interface-takes, interfaces-held, interfaces-kept, order-held, packet-block}
 use Rattle.cap_io.proofs.CapturesCame.{passed-block, no-error, moves-failed, reads-no_unit, refused-block, section-fits, small-following}
-use Rattle.cap_io.proofs.Common.{rules, ◌≡◌, length, take, ap, arith, refl, sym, ◌∙◌, take_at, err_from_is_err_and, section_of, PcapngFile}
-use Rattle.cap_io.proofs.Common.{first_link_after, declared_by, known_first_link, section_before}
+use Rattle.std.proofs.Common.{rules, ◌≡◌, length, take, ap, refl, sym, ◌∙◌}
+use Rattle.cap_io.proofs.Common.{arith, take_at, err_from_is_err_and, PcapngFile}
+use Rattle.cap_pcapng.specs.Effect.{section_of}
 use Rattle.cap_io.proofs.{OwnFaults.entry-adds, OwnFaults.entry-own, Units.held_length-le}
+use Rattle.cap_io.specs.{inside.Reading.known_first_link, inside.Reading.section_before, Capture.first_link_after, Reading.declared_by}
 use Rattle.cap_io.proofs.next_unit.UnitReader.read_block.Goals as goal
 
 pub returns-in_err-found : goal.returns-in_err-found

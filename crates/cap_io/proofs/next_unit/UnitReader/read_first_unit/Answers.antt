@@ -1,8 +1,7 @@
 -- The first unit is a file header or a section header, or the file is refused.
-use Rattle.std.proofs.Common.{rules, ◌∙◌, arith}
-use Rattle.std.proofs.lemmas.Result.{err_from_is_err_and}
-use Rattle.cap_io.proofs.Came.{first_of, joined_front, section_of_bytes}
+use Rattle.std.proofs.Common.{rules, ◌∙◌}
 use Rattle.cap_io.proofs.CapturesCame.{no-error, ReadsUnit-following, reads-no_unit, header_passed, rest_of_front}
+use Rattle.cap_io.proofs.{Common.arith, Common.err_from_is_err_and, Came.first_of, Came.joined_front, Came.section_of_bytes}
 use Rattle.cap_io.proofs.next_unit.UnitReader.read_first_unit.Goals as goal
 
 pub returns-in_err-read_rest : goal.returns-in_err-read_rest

@@ -1,7 +1,8 @@
 -- A known interface keeps its number, and a new one gets the next.
-use Rattle.cap_io.proofs.Common.{◌≡◌, map, not, refl, sym, ap, ◌∙◌, rules, Some, option_map, slice_get-map, captured, interface_in, HasNumber, interface_of}
-use Rattle.cap_io.proofs.Common.{InterfaceNumber}
+use Rattle.std.proofs.Common.{◌≡◌, map, not, refl, sym, ap, ◌∙◌, rules, Some}
+use Rattle.cap_io.proofs.Common.{option_map, captured, interface_in, HasNumber, InterfaceNumber}
 use Rattle.cap_io.proofs.Interfaces.{same_interface, among-keys, number-keys, insert-keys, few-following, first-following, place-of-last}
+use Rattle.{std.proofs.lemmas.Option.slice_get-map, cap_io.specs.Text.interface_of}
 use Rattle.cap_io.proofs.numbering.OutputInterfaces.give_number.Goals as goal
 
 pub returns-clause-number : goal.returns-clause-number

@@ -1,8 +1,8 @@
 -- There is room if the interface is known or fewer than the most are.
-use Rattle.cap_io.proofs.Common.{◌≡◌, List, ◌++◌, length, map, nat_le, sym, ap, subst, ◌∙◌, arith, length-map, captured, Interface, interface_of}
-use Rattle.cap_io.proofs.Common.{most_output_interfaces, new_among, is_among, interface_in}
+use Rattle.std.proofs.Common.{◌≡◌, List, ◌++◌, length, map, nat_le, sym, ap, subst, ◌∙◌}
+use Rattle.cap_io.proofs.Common.{arith, length-map, captured, interface_in, lt-ltb}
+use Rattle.cap_io.specs.Text.{Interface, interface_of, most_output_interfaces, new_among, is_among}
 use Rattle.cap_io.proofs.Interfaces.{among-keys, room-full, room-below}
-use Rattle.std.proofs.lemmas.Bool.{lt-ltb}
 use Rattle.cap_io.proofs.numbering.OutputInterfaces.has_room.Goals as goal
 
 pub returns-then-len-lt-MOST_OUTPUT_INTERFACES : goal.returns-then-len-lt-MOST_OUTPUT_INTERFACES

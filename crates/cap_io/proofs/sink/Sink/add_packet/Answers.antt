@@ -1,5 +1,6 @@
 -- The bytes of the packet are written after those of the packets before it.
-use Rattle.cap_io.proofs.Common.{arith, checked, AppendsOrStops, captured, added_in}
+use Rattle.cap_io.proofs.Common.{arith, checked, AppendsOrStops, captured}
+use Rattle.cap_io.specs.Sink.{added_in}
 use Rattle.cap_io.proofs.Parts.{adds-failed, record-adds, block-adds}
 use Rattle.cap_io.proofs.sink.Sink.add_packet.Goals.{in-Pcap, in-Pcapng+in_ok-interface-in-Pcapng}
 use Rattle.cap_io.proofs.sink.Sink.add_packet.Goals as goal

@@ -1,6 +1,5 @@
 -- A packet is written, or refused for the first reason; after an error nothing more is written.
-use Rattle.cap_io.proofs.Common.{arith, captured}
-use Rattle.cap_io.proofs.Texts.{adds-broken, puts-tell, put-writes-tell}
+use Rattle.cap_io.proofs.{Common.arith, Common.captured, Texts.adds-broken, Texts.puts-tell, Texts.put-writes-tell}
 use Rattle.cap_io.proofs.sink.Sink.put.Goals as goal
 
 pub returns-in-Err-clause-bytes : goal.returns-in-Err-clause-bytes

@@ -1,7 +1,7 @@
 -- After an error the packets are at their end.
-use Rattle.std.proofs.Common.{arith, rules, ◌≡◌, Err, sym, subst}
+use Rattle.cap_io.proofs.Common.{arith, Stage}
+use Rattle.std.proofs.Common.{rules, ◌≡◌, Err, sym, subst}
 use Rattle.cap_io.specs.Source.{Phase, Reading, Advances, view_of}
-use Rattle.cap_io.specs.declared.source.Stage.{Stage}
 use Rattle.cap_io.proofs.source.Source.advance.Goals as goal
 
 pub returns-in-Err-clause-packets : goal.returns-in-Err-clause-packets

@@ -1,6 +1,5 @@
 -- The source is at the next packet, by its buffer or by reading units.
-use Rattle.cap_io.proofs.Common.{arith}
-use Rattle.cap_io.proofs.Passing.{bounds-then, past-between, past-bounds, past-continues}
+use Rattle.cap_io.proofs.{Common.arith, Passing.bounds-then, Passing.past-between, Passing.past-bounds, Passing.past-continues}
 use Rattle.cap_io.proofs.source.Source.advance_to_packet.Goals as goal
 
 pub returns-then-take_next : goal.returns-then-take_next

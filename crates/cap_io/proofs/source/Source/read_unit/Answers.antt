@@ -1,9 +1,9 @@
 -- Reading a unit takes it from those that the file has left.
-use Rattle.cap_io.proofs.Common.{◌+◌, ◌∙◌, Err, arith, length, length-take-le, refl, ap, err_from_is_err_and, length-take, SourceView}
-use Rattle.cap_io.proofs.Common.{block_at, unit_at, view_of}
+use Rattle.std.proofs.Common.{◌+◌, ◌∙◌, Err, length, refl, ap}
+use Rattle.cap_io.proofs.Common.{arith, length-take-le, err_from_is_err_and, length-take, Stage}
+use Rattle.cap_io.specs.Source.{SourceView, block_at, unit_at, view_of}
 use Rattle.cap_io.proofs.Hands.{packet-there}
 use Rattle.cap_io.proofs.Passing.{FindsEnd-next, FindsPacket-next, IsBroken-next, SkipsUnits-next, bounds-next, no-unit-end, stage_between}
-use Rattle.cap_io.specs.declared.source.Stage.{Stage}
 use Rattle.cap_io.proofs.source.Source.read_unit.Goals as goal
 
 pub returns-in_err-unit-clause-packets : goal.returns-in_err-unit-clause-packets

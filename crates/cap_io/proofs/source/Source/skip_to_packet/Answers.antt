@@ -1,5 +1,6 @@
 -- Units without packets are skipped up to the next packet, the end or a fault.
-use Rattle.std.proofs.{Common.◌∙◌, Common.ap, Common.arith, Common.Ok, lemmas.Result.err_from_is_err_and}
+use Rattle.std.proofs.Common.{◌∙◌, ap, Ok}
+use Rattle.cap_io.proofs.Common.{arith, err_from_is_err_and}
 use Rattle.cap_io.proofs.Passing.{FindsEnd-then, FindsPacket-then, IsBroken-then, SkipsUnits-then, bounds-then, no-unit-end, stays}
 use Rattle.cap_io.proofs.source.Source.skip_to_packet.Goals as goal
 

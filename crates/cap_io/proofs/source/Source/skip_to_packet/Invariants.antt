@@ -1,5 +1,6 @@
 -- The remaining packets are those at the start, since only units without packets were skipped.
-use Rattle.cap_io.proofs.Common.{◌≡◌, ◌+◌, ◌-◌, ◌^◌, ◌≤◌, IsTrue, SkipsUnits, end_offset, IsBetween}
+use Rattle.std.proofs.Common.{◌≡◌, ◌+◌, ◌-◌, ◌^◌, ◌≤◌, IsTrue}
+use Rattle.cap_io.specs.{Source.SkipsUnits, Source.end_offset, inside.Source.IsBetween}
 use Rattle.cap_io.proofs.source.Source.skip_to_packet.Given as goal
 
 abbrev pub invariant-loop : goal.invariant-loop

@@ -1,6 +1,5 @@
 -- The packet at hand is taken only after one that is lent.
-use Rattle.std.proofs.Common.{arith}
-use Rattle.cap_io.proofs.{Hands.if-at-hand}
+use Rattle.cap_io.proofs.{Common.arith, Hands.if-at-hand}
 use Rattle.cap_io.proofs.source.Source.take_at_hand.Goals as goal
 
 pub returns-in-Lent-clause-takes : goal.returns-in-Lent-clause-takes

@@ -1,6 +1,7 @@
 -- A packet at hand is the file's next one.
-use Rattle.cap_io.proofs.Common.{refl, drop, length, ap, ap₂, arith, view_of, SourceView, true, ◌≡◌, rules}
-use Rattle.cap_io.proofs.Hands.{takes-next}
+use Rattle.std.proofs.Common.{refl, drop, length, ap, ap₂, true, ◌≡◌, rules}
+use Rattle.cap_io.specs.Source.{view_of, SourceView}
+use Rattle.cap_io.proofs.{Common.arith, Hands.takes-next}
 use Rattle.cap_io.proofs.source.Source.take_next.Goals as goal
 
 pub returns-clause-found : goal.returns-clause-found

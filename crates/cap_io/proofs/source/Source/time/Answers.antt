@@ -1,6 +1,5 @@
 -- The time is that of the current packet.
-use Rattle.cap_io.proofs.Common.{arith}
-use Rattle.cap_io.proofs.Passing.{time-held}
+use Rattle.cap_io.proofs.{Common.arith, Passing.time-held}
 use Rattle.cap_io.proofs.source.Source.time.Goals as goal
 
 pub returns-in-Current : goal.returns-in-Current

@@ -1,6 +1,7 @@
 -- A read that the reader's buffer can satisfy takes its first bytes.
-use Rattle.cap_octet.proofs.Common.{rules, ◌==◌, ◌≡◌, ◌∙◌, Ok, length, take, arith, ap, sym, inr, ℕ, take-take, reader_buffer, reader_capacity, reader_inner}
-use Rattle.cap_octet.proofs.Reading.{held-consumed}
+use Rattle.std.proofs.Common.{rules, ◌==◌, ◌≡◌, ◌∙◌, Ok, length, take, arith, ap, sym, inr, ℕ}
+use Rattle.std.specs.Io.Buffered.{reader_buffer, reader_capacity, reader_inner}
+use Rattle.{std.proofs.lemmas.List.take-take, cap_octet.proofs.Reading.held-consumed}
 use Rattle.cap_octet.proofs.stream.StdInputInput.read.Goals as goal
 
 pub returns-then-given-lt-GIVEN_END-clause-passes : goal.returns-then-given-lt-GIVEN_END-clause-passes

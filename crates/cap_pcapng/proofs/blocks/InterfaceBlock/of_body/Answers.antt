@@ -1,7 +1,5 @@
 -- The times of an interface follow from the resolution among its options.
-use Rattle.cap_pcapng.specs.InterfaceOptions.{first_value, fitting_options, resolution_code}
-use Rattle.cap_pcapng.specs.OptionList.{options_left}
-use Rattle.cap_pcapng.proofs.InterfaceLists.{units-some}
+use Rattle.cap_pcapng.proofs.{Common.first_value, Common.fitting_options, Common.resolution_code, Common.options_left, InterfaceLists.units-some}
 use Rattle.cap_pcapng.proofs.blocks.InterfaceBlock.of_body.Goals as goal
 
 pub invariant_of-interface : goal.invariant_of-interface

@@ -1,7 +1,8 @@
 -- One more option is read, and the first refused one ends the list.
-use Rattle.std.proofs.{Common.◌≡◌, Common.◌∷◌, Common.◌∙◌, Common.ap, Common.Ok, lemmas.Result.err_from_is_err_and}
-use Rattle.cap_pcapng.specs.OptionList.{coded_value, item_of, options_left}
-use Rattle.cap_pcapng.proofs.InterfaceLists.{HasRead-more, HasRead-refused}
+use Rattle.std.proofs.Common.{◌≡◌, ◌∷◌, ◌∙◌, ap, Ok}
+use Rattle.std.proofs.lemmas.Result.{err_from_is_err_and}
+use Rattle.cap_pcapng.specs.OptionList.{coded_value, item_of}
+use Rattle.cap_pcapng.proofs.{Common.options_left, InterfaceLists.HasRead-more, InterfaceLists.HasRead-refused}
 use Rattle.cap_pcapng.proofs.interface.FoundOptions.of_options.Goals as goal
 
 pub loop-option-preserved : goal.loop-option-preserved

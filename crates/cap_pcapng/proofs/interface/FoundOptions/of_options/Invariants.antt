@@ -1,6 +1,5 @@
 -- The options so far are read.
-use Rattle.cap_pcapng.specs.OptionList.{options_left}
-use Rattle.cap_pcapng.proofs.InterfaceLists.{HasRead}
+use Rattle.cap_pcapng.proofs.{Common.options_left, InterfaceLists.HasRead}
 use Rattle.cap_pcapng.proofs.interface.FoundOptions.of_options.Given as goal
 
 abbrev pub invariant-loop-option : goal.invariant-loop-option

@@ -1,7 +1,8 @@
 -- Without a comment so far and with no options left, there is none.
-use Rattle.cap_pcapng.proofs.Common.{◌≡◌, [], ◌∷◌, ◌∙◌, ap, sym, rules, IsErr, unwrap_or, comment_code, first_value, fitting_options, item_of, options_left}
-use Rattle.cap_pcapng.proofs.OptionLists.{misfit-fitting_options}
+use Rattle.std.proofs.Common.{◌≡◌, [], ◌∷◌, ◌∙◌, ap, sym, rules, IsErr, unwrap_or}
+use Rattle.cap_pcapng.proofs.Common.{comment_code, first_value, fitting_options, options_left}
 use Rattle.cap_pcapng.proofs.options.Options.comment.Goals.{in_default, in_default-2}
+use Rattle.cap_pcapng.{specs.OptionList.item_of, proofs.OptionLists.misfit-fitting_options}
 use Rattle.cap_pcapng.proofs.options.Options.comment.Goals as goal
 
 pub returns-clause-value : goal.returns-clause-value

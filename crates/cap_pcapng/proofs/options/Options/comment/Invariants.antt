@@ -1,5 +1,6 @@
 -- The first comment is among the remaining options.
-use Rattle.cap_pcapng.proofs.Common.{◌≡◌, length, first_value, fitting_options, comment_code, options_left}
+use Rattle.std.proofs.Common.{◌≡◌, length}
+use Rattle.cap_pcapng.proofs.Common.{first_value, fitting_options, comment_code, options_left}
 use Rattle.cap_pcapng.proofs.options.Options.comment.Given as goal
 
 abbrev pub invariant-loop-option : goal.invariant-loop-option

@@ -1,6 +1,6 @@
 -- Each step takes one option from the list, or ends it.
 use Rattle.std.proofs.Common.{rules, arith, ◌∷◌, ap, ◌∙◌, sym, Err}
-use Rattle.cap_octet.specs.declared.fault.Fault.TheVariants.{BadOption}
+use Rattle.cap_pcapng.proofs.Common.{BadOption}
 use Rattle.cap_pcapng.proofs.OptionLists.{options_in-short, options_in-code_end, options_in-past, options_in-next, options_in-none, shorter_by}
 use Rattle.cap_pcapng.proofs.options.OptionsIterator.next.Goals as goal
 

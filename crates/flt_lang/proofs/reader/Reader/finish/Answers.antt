@@ -1,5 +1,5 @@
 -- All frames are completed, and one truth value remains.
-use Rattle.flt_lang.proofs.Common.{refl}
+use Rattle.std.proofs.Common.{refl}
 use Rattle.flt_lang.proofs.Stepping.{failed, same_given, finish_reads}
 use Rattle.flt_lang.proofs.reader.Reader.finish.Goals as goal
 

@@ -1,5 +1,6 @@
 -- A step consumes tokens, and the others are read as before.
-use Rattle.flt_lang.proofs.Common.{◌≤◌, length, drop, arith, length-drop, take_rest, zero-le}
+use Rattle.std.proofs.Common.{◌≤◌, length, drop, arith, zero-le}
+use Rattle.std.proofs.lemmas.List.{length-drop, take_rest}
 use Rattle.flt_lang.proofs.Stepping.{runs_on, run_whole, read_stops, run_ends, same_given}
 use Rattle.flt_lang.proofs.reader.Reader.read.Goals as goal
 

@@ -1,5 +1,6 @@
 -- Reading the remaining tokens gives the same as reading all of them.
-use Rattle.flt_lang.proofs.Common.{◌≡◌, ◌-◌, ◌≤◌, length, drop, kinds_of, run, nodes_of_tokens}
+use Rattle.std.proofs.Common.{◌≡◌, ◌-◌, ◌≤◌, length, drop}
+use Rattle.flt_lang.specs.{Grammar.kinds_of, inside.Parser.run, inside.Parser.nodes_of_tokens}
 use Rattle.flt_lang.proofs.reader.Reader.read.Given as goal
 
 abbrev pub invariant-loop-at : goal.invariant-loop-at

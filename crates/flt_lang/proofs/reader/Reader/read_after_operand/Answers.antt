@@ -1,5 +1,5 @@
 -- The number takes a prefix length, or the frames take the operand before the next token.
-use Rattle.flt_lang.proofs.Common.{sym, ◌∙◌, inl, inr}
+use Rattle.std.proofs.Common.{sym, ◌∙◌, inl, inr}
 use Rattle.flt_lang.proofs.Stepping.{failed, same_given, prefix_taken, next_read}
 use Rattle.flt_lang.proofs.reader.Reader.read_after_operand.Goals.{in_default-via-in-Some+else-operand_precedence-ge1, in_default-via-in_default}
 use Rattle.flt_lang.proofs.reader.Reader.read_after_operand.Goals as goal

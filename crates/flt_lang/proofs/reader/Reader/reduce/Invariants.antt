@@ -1,5 +1,6 @@
 -- Reducing the remaining frames gives the same as reducing all of them.
-use Rattle.flt_lang.proofs.Common.{◌≡◌, length, reduce}
+use Rattle.std.proofs.Common.{◌≡◌, length}
+use Rattle.flt_lang.specs.inside.Parser.{reduce}
 use Rattle.flt_lang.proofs.reader.Reader.reduce.Given as goal
 
 abbrev pub invariant-loop-frame : goal.invariant-loop-frame

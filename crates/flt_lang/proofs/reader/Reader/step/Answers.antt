@@ -1,7 +1,6 @@
 -- A step of the code is a step of the machine.
-use Rattle.std.proofs.Common.{arith}
-use Rattle.std.proofs.lemmas.Result.{err_from_is_err_and}
 use Rattle.flt_lang.proofs.Stepping.{run_goes_on, run_begins_on, run_stops, run_begins_none}
+use Rattle.std.proofs.{Common.arith, lemmas.Result.err_from_is_err_and}
 use Rattle.flt_lang.proofs.reader.Reader.step.Goals as goal
 
 pub returns-in_ok-more-in-Some-clause-ok : goal.returns-in_ok-more-in-Some-clause-ok

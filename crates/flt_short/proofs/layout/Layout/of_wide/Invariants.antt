@@ -1,6 +1,6 @@
 -- What is laid out is the code from the counter on.
 use Rattle.std.proofs.Common.{◌≡◌, drop}
-use Rattle.flt_short.specs.inside.Layout.{placed_code}
+use Rattle.flt_short.proofs.Common.{placed_code}
 use Rattle.flt_short.proofs.layout.Layout.of_wide.Given as goal
 
 abbrev pub invariant-loop-at : goal.invariant-loop-at
