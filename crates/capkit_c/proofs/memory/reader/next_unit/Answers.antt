@@ -1,5 +1,5 @@
 -- The effect of the call is that of reading the unit.
-use Rattle.capkit_c.proofs.Common.{arith, ◌∙◌, List, sym, subst, first_interfaces, BeginsWithUnit, FileState}
+use Rattle.capkit_c.proofs.Common.{arith, List, sym, subst, first_interfaces, BeginsWithUnit, FileState}
 use Rattle.capkit_c.proofs.Leaves.{all_known, ended, found_packet, full, passed, refused}
 use Rattle.cap_pcapng.specs.Interface.{Described}
 use Rattle.cap_pcapng.specs.declared.effect.BlockEffect.{BlockEffect}
