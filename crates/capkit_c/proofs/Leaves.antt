@@ -1,7 +1,7 @@
 -- The effect of reading the unit at a reader's offset.
-use Rattle.capkit_c.proofs.Common.{◌≡◌, ℕ, ◌+◌, ◌-◌, ◌<◌, ◌≤◌, List, [], ◌∷◌, ◌++◌, length, take, drop, Option, Some, None, refl, sym, ap, ◌∙◌, subst, arith}
+use Rattle.capkit_c.proofs.Common.{◌≡◌, ℕ, ◌+◌, ◌-◌, ◌<◌, ◌≤◌, List, [], length, take, drop, Option, Some, None, refl, sym, ap, ◌∙◌, subst, arith}
 use Rattle.capkit_c.proofs.Common.{min, option_map, drop-drop, drop-take, take-take, length-drop, length-take-le, Captured, Fault, Declared}
-use Rattle.capkit_c.proofs.Common.{Nothing, NoUnit, Whole, first_link_of, front_of, declared_by, declared_in, first_interfaces}
+use Rattle.capkit_c.proofs.Common.{NoUnit, Whole, first_link_of, front_of, declared_by, declared_in, first_interfaces}
 use Rattle.capkit_c.proofs.Common.{reader_form, most_known, packet_of, IsPastUnit, IsPacketFound, NextLeaves, Stays, DeclaresOne, comment_by}
 use Rattle.capkit_c.proofs.Common.{ends, fails, finds, is_full, passes, Counts, IsAtEnd, IsPacketAt, BeginsWithUnit, HoldsPacket, HoldsPackets, FileState}
 use Rattle.capkit_c.proofs.Common.{Interface, Packet, Reader, Described, HasLink}

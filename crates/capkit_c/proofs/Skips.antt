@@ -5,7 +5,7 @@ use Rattle.capkit_c.proofs.Common.{Bool, false, nat_lt, ◌==◌, nat_le, ◌&&�
 use Rattle.capkit_c.proofs.Common.{Captured, Fault, Order, checked_err, Head, is_section, frame_fault, frame_in, Described, Section, order_before}
 use Rattle.capkit_c.proofs.Common.{unit_fault, Declared, Nothing, PcapFile, PcapngFile, NoUnit, Whole, front_of, declared_by, FileState, declared_in}
 use Rattle.capkit_c.proofs.Common.{first_interfaces, reader_form, most_known, Counts, Interface, Reader, checked, first_failing}
-use Rattle.std.specs.Prelude.{is_some, map, pos, ◌*◌, ◌/◌, ◌^◌}
+use Rattle.std.specs.Prelude.{is_some, map, pos, ◌^◌}
 use Rattle.cap_pcapng.specs.Time.{microseconds, representable_time}
 use Rattle.std.proofs.lemmas.{Bool.Decides.nat_tests, List.length-append, List.length-map}
 use Rattle.cap_octet.specs.declared.fault.Fault.TheVariants.{NotACaptureFile, TooLong, BadBlockLength, BadByteOrderMagic}

@@ -1,15 +1,12 @@
 -- The effect of the call is that of reading the unit.
-use Rattle.capkit_c.proofs.Common.{◌∙◌, List, length, refl, sym, subst, ap, declared_by, first_interfaces, front_of, BeginsWithUnit, FileState}
+use Rattle.capkit_c.proofs.Common.{arith, List, sym, subst, first_interfaces, BeginsWithUnit, FileState}
 use Rattle.capkit_c.proofs.Leaves.{all_known, ended, found_packet, full, passed, refused}
 use Rattle.cap_pcapng.specs.Interface.{Described}
 use Rattle.cap_pcapng.specs.declared.effect.BlockEffect.{BlockEffect}
 use Rattle.capkit_c.proofs.memory.reader.next_unit.Goals as goal
 
 pub returns-then-is_at_end-clause-left : goal.returns-then-is_at_end-clause-left
-returns-then-is_at_end-clause-left c =
-    ended c.args.capture.now c.bytes_from-text.result.now c.args.reader.now c.args.table.now c.args.packet.now c.file_state-form.result
-    c.known_interface_count-count.result
-    c.file_state-form.ensures c.known_interface_count-count.ensures.counts c.bytes_from-text.ensures (c.if-is_at_end.ensures.over refl)
+returns-then-is_at_end-clause-left c = grind (arith, ended)
 
 pub returns-in-Ok-clause-left : goal.returns-in-Ok-clause-left
 returns-in-Ok-clause-left c =
@@ -26,18 +23,10 @@ returns-in-Ok-clause-left c =
     (subst B (sym c.in-Pcap.is) (c.in-Ok.ensures.ok known)) new.form new.interfaces new.offset c.packet_at.ensures new.link
 
 pub returns-in-Err-clause-left : goal.returns-in-Err-clause-left
-returns-in-Err-clause-left c =
-    let known : List Described = first_interfaces c.known_interface_count-count.result c.args.table.now in
-    refused c.args.capture.now c.bytes_from-text.result.now c.args.reader.now c.args.table.now c.args.packet.now c.file_state-form.result
-    c.known_interface_count-count.result c.in-Err.fault
-    c.file_state-form.ensures c.known_interface_count-count.ensures.counts c.bytes_from-text.ensures
-    (ap (λ g. front_of (declared_by g known) c.bytes_from-text.result.now) c.in-Pcap.is ∙ c.in-Err.ensures.err)
+returns-in-Err-clause-left c = grind (arith, refused)
 
 pub returns-in-Err-unit_in-clause-left : goal.returns-in-Err-unit_in-clause-left
-returns-in-Err-unit_in-clause-left c =
-    refused c.args.capture.now c.bytes_from-text.result.now c.args.reader.now c.args.table.now c.args.packet.now c.file_state-form.result
-    c.known_interface_count-count.result c.in-Err-unit_in.fault
-    c.file_state-form.ensures c.known_interface_count-count.ensures.counts c.bytes_from-text.ensures c.in-Err-unit_in.ensures.err
+returns-in-Err-unit_in-clause-left c = grind (arith, refused)
 
 pub returns-in-Packet-clause-left : goal.returns-in-Packet-clause-left
 returns-in-Packet-clause-left c =
@@ -54,24 +43,10 @@ returns-in-Packet-clause-left c =
     c.packet_at-in-Packet.ensures new.link
 
 pub returns-in_default-enter-clause-left : goal.returns-in_default-enter-clause-left
-returns-in_default-enter-clause-left c =
-    let counted = c.known_interface_count-count.ensures in
-    full c.args.capture.now c.bytes_from-text.result.now c.args.reader.now c.args.table.now c.enter.new.table c.args.packet.now c.file_state-form.result
-    c.known_interface_count-count.result c.in-Ok-unit_in.unit c.file_state-form.ensures counted.counts counted.fits c.bytes_from-text.ensures
-    c.in-Ok-unit_in.ensures.ok (c.in_default-enter.ensures.none refl) (c.in_default-enter.ensures.kept refl)
+returns-in_default-enter-clause-left c = grind (arith, full)
 
 pub returns-clause-left : goal.returns-clause-left
-returns-clause-left c =
-    let counted = c.known_interface_count-count.ensures in
-    let entered = c.in-Some.ensures in
-    let new = c.new_at-2.ensures in
-    passed c.args.capture.now c.bytes_from-text.result.now c.args.reader.now c.new_at-2.result c.args.table.now c.enter.new.table c.args.packet.now
-    c.file_state-form.result c.known_interface_count-count.result c.in-Some.count c.in-Ok-unit_in.unit c.file_state-form.ensures counted.counts counted.fits
-    counted.bounds c.bytes_from-text.ensures c.in-Ok-unit_in.ensures.ok entered.entered entered.there new.form new.interfaces new.offset
-    c.in_default-effect.not-Packet new.link
+returns-clause-left c = grind (arith, passed)
 
 pub returns-clause-full : goal.returns-clause-full
-returns-clause-full c =
-    λ filled. c.in-Some.ensures.full (all_known c.file_state-form.result c.args.reader.now (length c.args.table.now)
-    c.known_interface_count-count.result c.file_state-form.ensures c.known_interface_count-count.ensures.counts
-    c.known_interface_count-count.ensures.bare filled)
+returns-clause-full c = grind (arith, full, all_known)

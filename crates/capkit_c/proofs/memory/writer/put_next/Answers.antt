@@ -1,18 +1,11 @@
 -- The next unit is written, and the writer records it.
-use Rattle.capkit_c.proofs.Common.{refl, sym, ◌∙◌, captured, Captured}
+use Rattle.capkit_c.proofs.Common.{arith, sym, ◌∙◌, captured, Captured}
 use Rattle.capkit_c.proofs.Putting.{not_zero, is_less, is_not_less, is_packet, refusal, block_is, face_is, same_kept, more_kept}
 use Rattle.capkit_c.proofs.Writes.{unrefused}
 use Rattle.capkit_c.proofs.memory.writer.put_next.Goals as goal
 
 pub returns-in-Some : goal.returns-in-Some
-returns-in-Some c =
-    let p : Captured = captured c.args.packet.now in
-    let at = c.place_of-place.ensures in
-    record {
-      leaves = (sym (refusal c.args.writer.now c.args.table.now p _ _ _ at.known at.number at.room _ c.refusal_of.ensures) ∙ c.in-Some.is, refl);
-      is_packet = λ _. is_packet c.args.writer.now c.args.table.now p _ _ _ at.known at.number at.room _ c.is_block_next-is_packet.ensures;
-      keeps = (refl, refl);
-    }
+returns-in-Some c = grind (arith, refusal, is_packet)
 
 pub returns-then-place : goal.returns-then-place
 returns-then-place c =
