@@ -32,8 +32,7 @@ inserted_at i [] zero l low high = refl
 inserted_at i [] (suc at) l low high = absurd (omega arith)
 inserted_at i (j ∷ js) zero l low high = grind (arith, nat_tests)
 inserted_at i (j ∷ js) (suc at) l low high =
-    let k = low 0 (omega arith) in
-    let h = inserted_at i js at (omega arith) (λ n m. low (suc n) (omega arith)) (λ m. high (omega arith)) in
+    let k = low 0 (omega arith) in let h = inserted_at i js at (omega arith) (λ n m. low (suc n) (omega arith)) (λ m. high (omega arith)) in
     if_case (λ r. j ∷ insert js at i ≡ r) (nat_lt j.low i.low) (j ∷ insert_ascending i js) (i ∷ j ∷ js) (λ e. ap (λ r. j ∷ r) h)
     (λ e. absurd (let no : (j.low < i.low) → ⊥ = grind (arith, nat_tests) in no k))
 

@@ -1,29 +1,22 @@
 -- Decision trees of cases: they read as one case after the other, and have few tests.
-use Rattle.std.proofs.Math.Nat.{mod-lt}
-use Rattle.flt_gen.proofs.Ascending.{if_case}
 use Rattle.flt_gen.proofs.Common.{◌≡◌, ℕ, zero, suc, ◌+◌, ◌-◌, ◌*◌, ◌^◌, ◌<◌, ◌≤◌, List, [], ◌∷◌, ◌++◌, length, map, max, length-take, take, drop, Bool, true}
 use Rattle.flt_gen.proofs.Common.{false, Option, Some, None, refl, sym, ap, ap₂, ◌∙◌, subst, arith, add-one, is_empty, is_idle, capture_test, last_test}
 use Rattle.flt_gen.proofs.Common.{needed_tests, ◌==◌, ◌&&◌, nat_lt, nat_le, bit_and, nat_tests, and_parts, pow_pos, and_le_r, Direction, Link, Word, HalfWord}
 use Rattle.flt_gen.proofs.Common.{Byte, Width, Offset, Fixed, Equal, Elementary, Field, MatchResult, Yes, No, Rejected, reading_of, with, field_at, under_mask}
 use Rattle.flt_gen.proofs.Common.{elementary_reads, network_offset, Formula, both, either, all_of, reads, sides, value_needed, value_formula, kind_test}
-use Rattle.flt_gen.proofs.Common.{FrameKind, ValueType, Net, Value, Source, Destination}
-use Rattle.flt_words.specs.declared.token.Side.{Side}
-use Rattle.flt_gen.proofs.Counted.{Bare, bare_within, bare_all, bare_one, bare_some, bare_both, bare_either, bare_split}
-use Rattle.flt_gen.proofs.Exclusive.{both_either, or_no, either_assoc, and_yes}
-use Rattle.flt_gen.proofs.{Needed.all_put, Needed.idle_holds, Needed.fewer}
-use Rattle.std.specs.{List.list_all, List.insert, Prelude.slice_get}
-use Rattle.flt_ast.specs.declared.qualifiers.Direction.TheVariants as direction
-use Rattle.flt_gen.specs.Formula.{choose, Split}
-use Rattle.flt_gen.specs.declared.cases.Bound.{Bound, TheVariants.Below, TheVariants.From, TheVariants.Exactly}
-use Rattle.flt_gen.specs.declared.cases.Case.{Case}
-use Rattle.flt_gen.specs.declared.cases.Case.TheVariants.{Mac, Ip6, IpProto, Ip6Proto}
-use Rattle.flt_gen.specs.declared.{elementary.FieldTest.FieldTest, relation.Relation.Relation}
-use Rattle.flt_gen.specs.inside.{Emitted.equals, Code.accessor_offset}
-use Rattle.flt_gen.specs.Numbers.{accessor_tests, width_of}
-use Rattle.flt_words.specs.declared.token.Protocol.{Protocol}
 use Rattle.flt_gen.specs.inside.Cases.{same_words, case_front, mac_place, ip6_place, case_tests, word_test, lowest, is_whole, keeps, all_keep, chain, test_at}
-use Rattle.flt_gen.specs.inside.Cases.{from_test, middle, is_parted, same_word, decided, decision}
+use Rattle.std.{proofs.Math.Nat.mod-lt, specs.List.list_all, specs.List.insert, specs.Prelude.slice_get}
+use Rattle.flt_gen.proofs.{Ascending.if_case, Common.FrameKind, Common.ValueType, Common.Net, Common.Value, Common.Source, Common.Destination}
+use Rattle.flt_words.specs.declared.token.{Side.Side, Protocol.Protocol}
+use Rattle.flt_gen.proofs.Counted.{Bare, bare_within, bare_all, bare_one, bare_some, bare_both, bare_either, bare_split}
+use Rattle.flt_gen.proofs.{Exclusive.both_either, Exclusive.or_no, Exclusive.either_assoc, Exclusive.and_yes, Needed.all_put, Needed.idle_holds, Needed.fewer}
+use Rattle.flt_gen.specs.{Formula.choose, Formula.Split, inside.Emitted.equals}
+use Rattle.flt_gen.specs.declared.cases.Bound.{Bound, TheVariants.Below, TheVariants.From, TheVariants.Exactly}
+use Rattle.flt_gen.specs.declared.cases.Case.{Case, TheVariants.Mac, TheVariants.Ip6, TheVariants.IpProto, TheVariants.Ip6Proto}
+use Rattle.flt_gen.specs.{declared.elementary.FieldTest.FieldTest, declared.relation.Relation.Relation, Numbers.accessor_tests, Numbers.width_of}
+use Rattle.flt_gen.specs.inside.{Code.accessor_offset, Cases.from_test, Cases.middle, Cases.is_parted, Cases.same_word, Cases.decided, Cases.decision}
 use Rattle.std.proofs.lemmas.{List.length-map, List.map-append, List.take-append-drop, List.length-drop, List.length-append, Nat.and-not, Nat.and_comm}
+use Rattle.flt_ast.specs.declared.qualifiers.Direction.TheVariants as direction
 
 -- ---- which words cases have
 
@@ -99,9 +92,7 @@ miss : (t : FieldTest) (b : Bound) (mask : Option ℕ) (v x : ℕ) → ((m : ℕ
     → keeps b (Some (Field (record t { mask = mask; value = v }))) ≡ true → Past b x → (under_mask mask x == v) ≡ false
 miss t (Below n) None v x small k l = grind (arith, nat_tests)
 miss t (Below n) (Some mask) v x small k l =
-    let s = small mask refl in
-    let under : v + (2 ^ 32 - 1 - mask) < n = grind (arith, nat_tests) in
-    let whole = and-not 32 mask x s.0 s.1 in
+    let s = small mask refl in let under : v + (2 ^ 32 - 1 - mask) < n = grind (arith, nat_tests) in let whole = and-not 32 mask x s.0 s.1 in
     let swap = and_comm mask x in
     let rest : bit_and (2 ^ 32 - 1 - mask) x ≤ 2 ^ 32 - 1 - mask = (let c = and_comm (2 ^ 32 - 1 - mask) x in let r = and_le_r x (2 ^ 32 - 1 - mask)
     in omega arith) in
@@ -219,8 +210,7 @@ module _ (link : Link) (p : List ℕ) (n : ℕ) where
   none_past f fs b x [] h a e l = refl
   none_past f fs b x ((Field t ∷ ts) ∷ rs) h a e l =
       let k = and_parts (keeps b (Some (Field t))) (all_rows b rs) a in
-      ap₂ either
-      (test_read f fs t ts h.0 ∙ missed f t.mask t.value x (told ts) e (miss t b t.mask t.value x (small_word f fs t.mask x (h.0).3 e) k.0 l))
+      ap₂ either (test_read f fs t ts h.0 ∙ missed f t.mask t.value x (told ts) e (miss t b t.mask t.value x (small_word f fs t.mask x (h.0).3 e) k.0 l))
       (none_past f fs b x rs h.1 k.1 e l)
   none_past f fs b x (_ ∷ rs) h a e l = absurd h.0
 
@@ -320,8 +310,7 @@ module _ (link : Link) (p : List ℕ) (n : ℕ) where
   pub value_same : (k : ValueType) (q : Option Protocol) (d : Direction) (v : Value) → reads link (value_needed link k q d v) p n ≡ reads link
       (value_formula link k q d v) p n
   value_same Net q d (Value.Ip6 a m) =
-      let ts : Side → List Elementary = λ s. case_tests link (direction.One s) (Ip6 m a) in
-      let same : (s : Side) → told (needed_tests (ts s)) ≡ told (ts s) =
+      let ts : Side → List Elementary = λ s. case_tests link (direction.One s) (Ip6 m a) in let same : (s : Side) → told (needed_tests (ts s)) ≡ told (ts s) =
       λ s. needed_read (fields_of link (direction.One s) (Ip6 m a)) (ts s) (shape_of link (direction.One s) (Ip6 m a)) in
       ap (both (elementary_reads (kind_test link FrameKind.Ip6) p)) (sides_same d _ _ _ _ (same Source) (same Destination))
   value_same k q d v = refl
@@ -344,8 +333,7 @@ module _ (link : Link) (p : List ℕ) (n : ℕ) where
 -- ---- decisions
 
 module _ (link : Link) where
-  -- a formula reads as rows do, one after the other, and has few tests: one more for each row, but for
-  -- the few that are one after the other
+  -- a formula reads as rows do, one after the other, and has few tests: one more for each row, but for the few that are one after the other
   abbrev Good : ℕ → List (Offset × Width) → List (List Elementary) → Formula → Type 0
   Good few fs rs f = ((p : List ℕ) (n : ℕ) → reads link f p n ≡ read_all link p n rs)
       × (0 < length fs → 0 < length rs → Bare f (sizes rs + (length rs - max 1 few)))
@@ -364,17 +352,14 @@ module _ (link : Link) where
       → Good few gs (map rest (r ∷ rs)) next) → Good few fs (r ∷ rs) (same_word (first r) (first (rest r)) next)
   same_good few next fs [] rs h a ok = cc
   same_good few next (f ∷ []) (Field t ∷ []) rs h a ok = (
-    λ p n. first_told link p n f [] t [] rs h.0 a ∙ sym (and_yes _)
-        ∙ ap (both (by_field link p n f None t.value))
+    λ p n. first_told link p n f [] t [] rs h.0 a ∙ sym (and_yes _) ∙ ap (both (by_field link p n f None t.value))
         (sym (all_over link p n (map rest ((Field t ∷ []) ∷ rs)) (shapes_rest f [] ((Field t ∷ []) ∷ rs) h) (omega arith)))
         ∙ sym (same_read link p n f [] t.value ((Field t ∷ []) ∷ rs) h a (omega arith)),
     λ some l. bare_some _ (omega arith),
   )
   same_good few next (f ∷ fs) (Field t ∷ u ∷ us) rs h a ok =
-      let more = ok fs (shapes_rest f fs ((Field t ∷ u ∷ us) ∷ rs) h) in
-      let long = shape_length fs (u ∷ us) (h.0).4 in
-      let sum = sizes_rest f fs ((Field t ∷ u ∷ us) ∷ rs) h in
-      let same = length-map rs rest in (
+      let more = ok fs (shapes_rest f fs ((Field t ∷ u ∷ us) ∷ rs) h) in let long = shape_length fs (u ∷ us) (h.0).4 in
+      let sum = sizes_rest f fs ((Field t ∷ u ∷ us) ∷ rs) h in let same = length-map rs rest in (
         λ p n. ap₂ both (first_told link p n f fs t (u ∷ us) rs h.0 a) (more.0 p n)
             ∙ sym (same_read link p n f fs t.value ((Field t ∷ u ∷ us) ∷ rs) h a (omega arith)),
         λ some l. bare_within _ (omega arith) (bare_both (bare_one (Field t)) (more.1 (omega arith) (omega arith))),
@@ -388,12 +373,9 @@ module _ (link : Link) where
       (Split (from_test (first r) k) high low)
   parted_good few fs k [] lower upper low high g h a b l m some many = cc
   parted_good few (f ∷ fs) k (Field t ∷ ts) lower upper low high g h a b l m some many =
-      let sum = sizes_append lower upper in
-      let long = length-append lower upper in (
-        λ p n. ap₂ (choose _) (m.0 p n) (l.0 p n)
-            ∙ ap₂ (λ o w. choose (reading_of (with (field_at o w p) (λ x. Some (nat_le k x)))) (read_all link p n upper)
-            (read_all link p n ((Field t ∷ ts) ∷ lower))) (g.0).0 (g.0).1
-            ∙ halves_read link p n f fs k ((Field t ∷ ts) ∷ lower) upper g h a b (omega arith)
+      let sum = sizes_append lower upper in let long = length-append lower upper in (
+        λ p n. ap₂ (choose _) (m.0 p n) (l.0 p n) ∙ ap₂ (λ o w. choose (reading_of (with (field_at o w p) (λ x. Some (nat_le k x)))) (read_all link p n upper)
+            (read_all link p n ((Field t ∷ ts) ∷ lower))) (g.0).0 (g.0).1 ∙ halves_read link p n f fs k ((Field t ∷ ts) ∷ lower) upper g h a b (omega arith)
             ∙ sym (read_append link p n ((Field t ∷ ts) ∷ lower) upper),
         λ words z. bare_within _ (omega arith) (bare_split (m.1 words some) (l.1 words (omega arith))),
       )
@@ -414,8 +396,7 @@ module _ (link : Link) where
       same [] h some a = absurd (omega arith)
       same (d ∷ ds) h some a =
           subst (Good few fs (rows by w (d ∷ ds))) (ap₂ (λ t u. same_word t u (next (w + 1) (d ∷ ds))) (sym (first_is (by d) w))
-          (sym (first_is (by d) (w + 1) ∙ ap first (rest_is (by d) w))))
-          (same_good few (next (w + 1) (d ∷ ds)) fs (drop w (by d)) (rows by w ds) h
+          (sym (first_is (by d) (w + 1) ∙ ap first (rest_is (by d) w)))) (same_good few (next (w + 1) (d ∷ ds)) fs (drop w (by d)) (rows by w ds) h
           (ap (λ t. all_rows (Exactly (lowest t)) (rows by w (d ∷ ds))) (sym (first_is (by d) w))
           ∙ sym (kept_rows by w (Exactly (lowest (word_test by w d))) (d ∷ ds)) ∙ a)
           (λ gs g. let same = rows_rest by w (d ∷ ds) in subst (λ rs. Good few gs rs (next (w + 1) (d ∷ ds))) same
@@ -426,20 +407,16 @@ module _ (link : Link) where
       parts [] at h many e = grind (arith, nat_tests)
       parts (d ∷ ds) zero h many e = cc
       parts (d ∷ ds) (suc at) h many e =
-          let k = lowest (test_at by w (d ∷ ds) (suc at)) in
-          let b = and_parts (nat_lt (suc at) (length (d ∷ ds))) _ (and_parts (nat_lt 0 (suc at)) _ e).1 in
+          let k = lowest (test_at by w (d ∷ ds) (suc at)) in let b = and_parts (nat_lt (suc at) (length (d ∷ ds))) _ (and_parts (nat_lt 0 (suc at)) _ e).1 in
           let c = and_parts (all_keep by w (Below k) (d ∷ take at ds)) (all_keep by w (From k) (drop at ds)) b.1 in
-          let shapes = shapes_parts fs by w (suc at) (d ∷ ds) h in
-          let some : suc at < length (d ∷ ds) = (let t = b.0 in grind (arith, nat_tests)) in
+          let shapes = shapes_parts fs by w (suc at) (d ∷ ds) h in let some : suc at < length (d ∷ ds) = (let t = b.0 in grind (arith, nat_tests)) in
           subst (λ rs. Good few fs rs (Split (from_test (word_test by w d) k) (next w (drop at ds)) (next w (d ∷ take at ds))))
-          (rows_parts by w (suc at) (d ∷ ds))
-          (subst (λ t. Good few fs (rows by w (d ∷ take at ds) ++ rows by w (drop at ds))
+          (rows_parts by w (suc at) (d ∷ ds)) (subst (λ t. Good few fs (rows by w (d ∷ take at ds) ++ rows by w (drop at ds))
           (Split (from_test t k) (next w (drop at ds)) (next w (d ∷ take at ds)))) (sym (first_is (by d) w))
           (parted_good few fs k (drop w (by d)) (rows by w (take at ds)) (rows by w (drop at ds)) (next w (d ∷ take at ds)) (next w (drop at ds))
           shapes.0 shapes.1 (sym (kept_rows by w (Below k) (d ∷ take at ds)) ∙ c.0) (sym (kept_rows by w (From k) (drop at ds)) ∙ c.1)
           (ok w fs (d ∷ take at ds) shapes.0) (ok w fs (drop at ds) shapes.1)
-          (omega (arith, length-map (drop at ds) (λ (c : Case). drop w (by c)), length-drop at ds))
-          (omega (
+          (omega (arith, length-map (drop at ds) (λ (c : Case). drop w (by c)), length-drop at ds)) (omega (
             arith,
             length-map (take at ds) (λ (c : Case). drop w (by c)),
             length-map (drop at ds) (λ (c : Case). drop w (by c)),

@@ -1,15 +1,11 @@
 -- A decision tree, unfolded once, and the tests of a case from a word on.
 use Rattle.std.proofs.Common.{◌≡◌, ℕ, ◌+◌, ◌-◌, ◌<◌, List, [], ◌∷◌, drop, take, get_or, length, Bool, true, false, Option, Some, refl, ap, ◌∙◌, sym, arith, ◌≤◌}
-use Rattle.std.proofs.Common.{◌⊎◌}
-use Rattle.std.proofs.lemmas.Bool.Decides.{nat_tests}
-use Rattle.std.specs.Prelude.{is_none, if◌then◌else◌, Result}
-use Rattle.std.specs.declared.alloc.AllocError.{AllocError}
+use Rattle.std.proofs.{Common.◌⊎◌, lemmas.Bool.Decides.nat_tests}
+use Rattle.std.specs.{Prelude.is_none, Prelude.if◌then◌else◌, Prelude.Result, declared.alloc.AllocError.AllocError}
 use Rattle.flt_gen.specs.Formula.{Formula, Single, Both, Split, all_of, guarded_formula}
-use Rattle.flt_gen.specs.{declared.cases.Bound.TheVariants.Exactly, declared.cases.Case.Case}
-use Rattle.flt_gen.specs.declared.elementary.{Elementary.Elementary, FieldPlace.FieldPlace}
+use Rattle.flt_gen.specs.declared.{cases.Bound.TheVariants.Exactly, cases.Case.Case, elementary.Elementary.Elementary, elementary.FieldPlace.FieldPlace}
 use Rattle.flt_gen.specs.inside.Cases.{chain, decided, decision, all_keep, is_parted, middle, test_at, lowest, from_test, same_word}
-use Rattle.flt_gen.specs.inside.Emitted.{needed_tests}
-use Rattle.flt_gen.specs.inside.{Code.Block, Code.emit_all, Code.emit_elementary, Code.emit_after, Code.emit_formula, Emits.Emits}
+use Rattle.flt_gen.specs.inside.{Emitted.needed_tests, Code.Block, Code.emit_all, Code.emit_elementary, Code.emit_after, Code.emit_formula, Emits.Emits}
 use Rattle.flt_bpf.specs.declared.insn.Insn.{Insn}
 use Rattle.cap_octet.specs.declared.link.Link.{Link}
 
@@ -64,8 +60,7 @@ module _ (few k : ℕ) (by : Case → List Elementary) (w : ℕ) (cs : List Case
 
   abbrev parts : Bool → Bool → Formula
   parts same parted =
-      if same then same_word t (test_at by (w + 1) cs 0) (next (w + 1) cs) else
-      (if parted
+      if same then same_word t (test_at by (w + 1) cs 0) (next (w + 1) cs) else (if parted
       then Split (from_test t (lowest (test_at by w cs (middle by w cs)))) (next w (drop (middle by w cs) cs)) (next w (take (middle by w cs) cs))
       else chain by w cs)
 

@@ -1,5 +1,4 @@
--- Members on either side, of which one stands first: what is read of all, of the first one, and of its
--- destination.
+-- Members on either side, of which one stands first: what is read of all, of the first one, and of its destination.
 use Rattle.flt_gen.proofs.Common.{◌≡◌, Bool, Some, ap, ◌∙◌, arith, MatchResult, Yes, No, reading_of, both, either}
 
 -- what isn't a rejection

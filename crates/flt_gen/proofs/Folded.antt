@@ -4,14 +4,10 @@ use Rattle.flt_gen.proofs.Common.{field, Node, NumberTree, literal, load, negate
 use Rattle.flt_gen.proofs.Common.{number_size, number_words, number_tests, truth_size, truth_words, truth_tests, bound_of, words_of, number_nodes, truth_nodes}
 use Rattle.flt_gen.proofs.Common.{expr_nodes, number_onto, truth_onto, expr_onto, is_unfilled, any_primitive, some_primitive, Link, with, reading_of, compares}
 use Rattle.flt_gen.proofs.Common.{width_of, base, number, accessors, Compare, negation, reads, checked_formula, constant, formula, holds, short_bound_of}
-use Rattle.flt_gen.proofs.Common.{negated_constant, applied_constant, number_or, negated_number, applied_number, folded_number, joined_truth, folded_truth}
-use Rattle.flt_gen.proofs.Common.{folded_expression, with_negation, with_operator, with_folded}
-use Rattle.flt_gen.proofs.{Held.held_truth, Held.none_held, Held.back_truth, Numbers.constant_is, Once.both_again, Once.checked_same}
+use Rattle.flt_gen.proofs.Common.{negated_constant, applied_constant, negated_number, applied_number, folded_number, joined_truth, folded_truth}
+use Rattle.flt_gen.proofs.{Common.folded_expression, Common.with_negation, Common.with_operator, Common.with_folded, Once.both_again, Once.checked_same}
+use Rattle.flt_gen.proofs.{Held.held_truth, Held.none_held, Held.back_truth, Numbers.constant_is, Leads.by_operand}
 use Rattle.flt_words.specs.declared.token.Join.{Join}
-
--- by what is folded
-by_fold : (P : NumberTree → Type 0) (o : Option ℕ) (a : NumberTree) → ((k : ℕ) → o ≡ Some k → P (literal k)) → P a → P (number_or o a)
-by_fold P o a one whole = grind arith
 
 negated_some : (u : Option ℕ) (k : ℕ) → negated_constant u ≡ Some k → (x : ℕ) × (u ≡ Some x)
 negated_some u k e = grind arith
@@ -50,32 +46,24 @@ number_folded (load q s a) =
       same = λ p n link. ap (λ o. with o (λ v. with (base link q p) (λ at. field p ((at + v) % 2 ^ 32) (width_of s)))) (h.same p n link);
     }
 number_folded (negated a) =
-    let h = number_folded a in
-    let b = folded_number a in
-    by_fold (λ t. Replaces t (negated a)) (negated_constant (constant b)) (negated b)
-    (λ k e. let s = negated_some (constant b) k e in record {
+    let h = number_folded a in let b = folded_number a in
+    by_operand (λ t. Replaces t (negated a)) (negated_constant (constant b)) literal (negated b) (λ k e. let s = negated_some (constant b) k e in record {
       counts = omega arith;
       accessors_are = λ rest. sym (constant_alone b s.0 rest s.1) ∙ h.accessors_are rest;
       same = λ p n link. sym (negated_is p n link b (constant b) refl k e) ∙ ap (λ o. negated_constant o) (h.same p n link);
-    })
-    (record { counts = omega (arith, h.counts); accessors_are = h.accessors_are; same = λ p n link. ap (λ o. negated_constant o) (h.same p n link) })
+    }) (record { counts = omega (arith, h.counts); accessors_are = h.accessors_are; same = λ p n link. ap (λ o. negated_constant o) (h.same p n link) })
 number_folded (applied o a b) =
-    let h = number_folded a in
-    let g = number_folded b in
-    let c = folded_number a in
-    let d = folded_number b in
+    let h = number_folded a in let g = number_folded b in let c = folded_number a in let d = folded_number b in
     let all = λ (rest : List Protocol). ap (accessors c) (g.accessors_are rest) ∙ h.accessors_are (accessors b rest) in
-    by_fold (λ t. Replaces t (applied o a b)) (applied_constant o (constant c) (constant d)) (applied o c d)
+    by_operand (λ t. Replaces t (applied o a b)) (applied_constant o (constant c) (constant d)) literal (applied o c d)
     (λ k e. let s = applied_some o (constant d) (constant c) k e in record {
       counts = omega arith;
       accessors_are = λ rest. sym (ap (accessors c) (constant_alone d s.1 rest s.3) ∙ constant_alone c s.0 rest s.2) ∙ all rest;
       same = λ p n link. sym (applied_is p n link o c d (constant d) (constant c) refl refl k e) ∙ operands_same o c a d b h g p n link;
-    })
-    (record { counts = omega (arith, h.counts, g.counts); accessors_are = all; same = operands_same o c a d b h g })
+    }) (record { counts = omega (arith, h.counts, g.counts); accessors_are = all; same = operands_same o c a d b h g })
 number_folded _ = record { counts = omega arith; accessors_are = λ rest. refl; same = λ p n link. refl }
 
--- a truth in the place of another one: it counts no more, has primitives that lack qualifiers only
--- if that has, and reads the same
+-- a truth in the place of another one: it counts no more, has primitives that lack qualifiers only if that has, and reads the same
 record Stands (a b : TruthTree) : Type 0 where
   counts : (truth_size a ≤ truth_size b) × (truth_words a ≤ truth_words b) × (truth_tests a ≤ truth_tests b)
   filled : any_primitive is_unfilled a ≡ any_primitive is_unfilled b
@@ -93,8 +81,7 @@ both_same j a c b d h g p n link = grind arith
 
 truth_folded : (a : TruthTree) → Stands (folded_truth a) a
 truth_folded (compared c a b) =
-    let h = number_folded a in
-    let g = number_folded b in
+    let h = number_folded a in let g = number_folded b in
     record {
       counts = omega (arith, h.counts, g.counts);
       filled = refl;
@@ -104,13 +91,9 @@ truth_folded (compared c a b) =
           ∙ checked_same link p n (accessors a (accessors b [])) (Compare c (folded_number a) (folded_number b)) (Compare c a b)
           (ap₂ (λ o q. reading_of (with o (λ x. with q (λ y. Some (compares c x y))))) (h.same p n link) (g.same p n link));
     }
-truth_folded (denied a) =
-    let h = truth_folded a in
-    record { counts = h.counts; filled = h.filled; same = λ p n link. ap negation (h.same p n link) }
+truth_folded (denied a) = let h = truth_folded a in record { counts = h.counts; filled = h.filled; same = λ p n link. ap negation (h.same p n link) }
 truth_folded (joined j a b) =
-    let h = truth_folded a in
-    let g = truth_folded b in
-    let k = joined_stands j (folded_truth a) (folded_truth b) in
+    let h = truth_folded a in let g = truth_folded b in let k = joined_stands j (folded_truth a) (folded_truth b) in
     record {
       counts = omega (arith, h.counts, g.counts, k.counts);
       filled = k.filled ∙ ap₂ (λ x y. x || y) h.filled g.filled;

@@ -1,7 +1,10 @@
--- The formula of a truth in which hosts or ports are looked for together reads as the truth's own,
--- and has no more tests.
+-- The formula of a truth in which hosts or ports are looked for together reads as the truth's own, and has no more tests.
+use Rattle.flt_words.specs.declared.token.Protocol.TheVariants as protocol
+use Rattle.cap_octet.specs.declared.link.Link.TheVariants as link
+use Rattle.flt_gen.specs.declared.elementary.FrameKind.TheVariants as kind
+use Rattle.flt_ast.specs.declared.qualifiers.Direction.TheVariants as direction
+use Rattle.flt_ast.specs.Counts as count
 use Rattle.flt_gen.proofs.Ascending.{if_case, Each, each_is, Searchable, Reached, Ready, Ordered, Points, ordered_inserted, points_inserted, length_inserted}
-use Rattle.flt_gen.proofs.Ascending.{is_in, is_within, within_inserted, within_joined, searchable_joined, ends_few, one_point, joined_few, joined_points}
 use Rattle.flt_gen.proofs.Common.{◌≡◌, ℕ, ◌+◌, ◌-◌, ◌*◌, ◌<◌, ◌≤◌, max, List, [], ◌∷◌, length, Bool, true, false, Option, Some, None, refl, sym, ap, ap₂, ◌∙◌}
 use Rattle.flt_gen.proofs.Common.{subst, arith, ◌==◌, ◌||◌, ◌&&◌, nat_lt, nat_le, if◌then◌else◌, suc-mul, nat_tests, and_parts, or_parts, Protocol, And, Or}
 use Rattle.flt_gen.proofs.Common.{ValueType, Direction, CompleteQualifiers, Value, Interval, index_of, Sides, FrameKind, network_offset, not, map, and-false}
@@ -9,33 +12,42 @@ use Rattle.flt_gen.proofs.Common.{inl, inr, sought_formula, most_in_turn, sought
 use Rattle.flt_gen.proofs.Common.{ip_transport, ip6_transport, sought, Entry, TruthTree, check, cast, sized, bare, valued, qualified, compared, denied, joined}
 use Rattle.flt_gen.proofs.Common.{is_unfilled, any_primitive, Link, Formula, Both, Either, Except, both, either, negation, Numbers, reads, check_formula}
 use Rattle.flt_gen.proofs.Common.{cast_formula, sized_formula, hosts_formula, port_formula, relation_formula, qualified_needed, formula, first_ends, Group}
-use Rattle.flt_gen.proofs.Common.{no_group, entry, with_member, same_type, same_protocol, same_direction, goes_with, member_of, group_and, larger_group}
-use Rattle.flt_gen.proofs.Common.{is_searched, numbers_of, several_formula, accessor_tests, accessor_test_count, guarded_formula, Elementary, with}
-use Rattle.flt_gen.proofs.Common.{value_formula, rows_formula, group_formula, or_any, or_group, choice, grouped_formula, MOST_TOGETHER, FEWEST_RANGES}
+use Rattle.flt_gen.proofs.Common.{no_group, with_member, same_type, same_protocol, same_direction, goes_with, member_of, group_and, larger_group, is_searched}
+use Rattle.flt_gen.proofs.Common.{numbers_of, several_formula, accessor_tests, accessor_test_count, guarded_formula, Elementary, with, value_formula}
 use Rattle.flt_gen.proofs.Counted.{Sized, Bare, bare_within, bare_both, bare_either, bare_else, bare_after, bare_check, bare_cast, of_kinds, bare_hosts}
-use Rattle.flt_gen.proofs.Counted.{bare_ports}
-use Rattle.flt_gen.proofs.Deciding.{some_front, rows, Likes, likes_put, length_put, alike, alike_alike, self_relation}
-use Rattle.flt_gen.proofs.EitherSide.{one_formula, one_size, list_read, list_size, list_alone, list_more, none_size, size_put, list_good, like_either}
-use Rattle.flt_gen.proofs.{Exclusive.or_no, Exclusive.both_either, Exclusive.either_assoc, IdleBits.uncut, Deciding.value_same, Needed.bare_needed}
-use Rattle.flt_gen.proofs.{Once.relation_sizes, Once.guarded_sizes, Once.relation_same, Once.all_read, Once.guarded_read}
-use Rattle.flt_gen.proofs.Relations.{entry_tests, entry_bare, IsEntry, entry_is}
-use Rattle.flt_gen.proofs.Prefixes.{Idle, idle_sought, cut_in, cut_within, cut_order, cut_apart}
 use Rattle.flt_gen.proofs.Together.{Fitting, fitting_small, unmasked_fitting, address_fitting, PortsReady, members_read, members_more, members_alone}
-use Rattle.flt_gen.proofs.Together.{member_reads, IsMember, member_tests, several_are, member_is}
-use Rattle.flt_gen.proofs.Search.{Merged, bare_sought}
-use Rattle.std.specs.Prelude.{◌⊎◌, count_by, is_none}
-use Rattle.flt_words.specs.declared.token.Protocol.TheVariants as protocol
-use Rattle.flt_gen.specs.declared.cases.Case.{Case}
-use Rattle.flt_gen.specs.inside.Cases.{case_of, same_words, key_of, case_front, insert_case, are_either, list_formula}
 use Rattle.flt_gen.specs.inside.Group.{with_case, shares_words, case_goes_with, larger_with, together_formula, entry_formula, entry_of, leaf_formula, fewest}
-use Rattle.flt_gen.specs.inside.Group.{fewest_either}
-use Rattle.std.proofs.lemmas.List.{length-map}
-use Rattle.cap_octet.specs.declared.link.Link.TheVariants as link
+use Rattle.flt_gen.proofs.Ascending.{is_in, is_within, within_inserted, within_joined, searchable_joined, ends_few, one_point, joined_few, joined_points}
+use Rattle.flt_gen.proofs.Common.{rows_formula, group_formula, or_any, or_group, grouped_formula, MOST_TOGETHER, FEWEST_RANGES, option_map_or, truth_tests}
+use Rattle.flt_gen.proofs.{Counted.bare_ports, Counted.bare_one, Once.relation_sizes, Once.guarded_sizes, Once.relation_same, Once.all_read, Once.guarded_read}
+use Rattle.flt_gen.proofs.{Together.member_reads, Together.IsMember, Together.member_tests, Together.several_are, Together.member_is, Numbers.indexed_same}
+use Rattle.flt_gen.specs.{inside.Group.fewest_either, declared.cases.Case.Case}
+use Rattle.flt_gen.proofs.Deciding.{some_front, rows, Likes, likes_put, length_put, alike, alike_alike, self_relation, value_same}
+use Rattle.flt_gen.proofs.EitherSide.{one_formula, one_size, list_read, list_size, list_alone, list_more, none_size, size_put, list_good, like_either}
+use Rattle.flt_gen.proofs.{Exclusive.or_no, Exclusive.both_either, Exclusive.either_assoc, Search.Merged, Search.bare_sought, Needed.bare_needed}
+use Rattle.flt_gen.proofs.Prefixes.{uncut, Idle, idle_sought, cut_in, cut_within, cut_order, cut_apart}
+use Rattle.std.{specs.Prelude.◌⊎◌, specs.Prelude.count_by, specs.Prelude.is_none, proofs.lemmas.List.length-map}
+use Rattle.flt_gen.specs.inside.Cases.{case_of, same_words, key_of, case_front, insert_case, are_either, list_formula}
 use Rattle.cap_octet.specs.declared.link.Link.TheVariants.{Ether}
-use Rattle.flt_gen.specs.declared.elementary.FrameKind.TheVariants as kind
 use Rattle.flt_words.specs.declared.token.Size.{Size}
-use Rattle.flt_ast.specs.declared.qualifiers.Direction.TheVariants as direction
-use Rattle.flt_ast.specs.Counts as count
+use Rattle.flt_ast.specs.Counts.{value_tests}
+
+-- an entry reads as the value or comparison that it is, and has no more tests how many tests an entry has
+abbrev pub entry_tests : Entry → ℕ
+entry_tests (Entry.Value q v) = value_tests q v
+entry_tests (Entry.Relation r) = accessor_test_count r.protocol + 1
+
+pub entry_bare : (link : Link) (e : Entry) → Bare (entry_formula link e) (entry_tests e)
+entry_bare link (Entry.Value q v) = bare_needed link q.value_type q.protocol q.direction v
+entry_bare link (Entry.Relation r) = grind (arith, bare_within, guarded_sizes, bare_one)
+
+-- an entry stands for a truth
+pub record IsEntry (link : Link) (a : TruthTree) (e : Entry) : Type 0 where
+  pub few : entry_tests e ≤ truth_tests a
+  pub same : (p : List ℕ) (n : ℕ) → reads link (entry_formula link e) p n ≡ reads link (formula link a) p n
+
+pub entry_is : (link : Link) (a : TruthTree) → Each (entry_of a) (IsEntry link a)
+entry_is link a = grind (arith, value_same, guarded_read, indexed_same)
 
 -- how many tests members have one by one
 abbrev entries_tests : List Entry → ℕ
@@ -45,8 +57,7 @@ entries_tests (e ∷ es) = entry_tests e + entries_tests es
 abbrev group_tests : Group → ℕ
 group_tests group = entries_tests group.entries
 
--- a group with members: what its lists are, and how its members, of which all but the first look
--- for ms, read
+-- a group with members: what its lists are, and how its members, of which all but the first look for ms, read
 pub record Held (group : Group) (ms : List Interval) : Type 0 where
   pub order : group.first.low ≤ group.first.high
   pub merged : 2 ≤ length group.entries → Merged group.qualifiers.direction
@@ -90,12 +101,10 @@ several_ports_few : (protocol : Option Protocol) (d : Direction) (n x : ℕ) →
     (n * count.side_tests d 1 + x) + (1 + count.transport_tests protocol + (n * count.side_tests d 1 + x)) ≤ n * count.port_tests protocol d 1
 several_ports_few protocol d n x l m = grind arith
 
--- numbers of a group with members that are one number each, of which there are two at least, or of
--- three others
+-- numbers of a group with members that are one number each, of which there are two at least, or of three others
 abbrev Numbered : Numbers → ℕ → Type 0
 Numbered numbers n =
-    ((max 1 (length numbers.all) + first_ends numbers.all ≤ n) × (first_ends (numbers.first ∷ []) ≡ 0) × (2 ≤ n))
-    ⊎ ((max 1 (length numbers.all) ≤ n) × (3 ≤ n))
+    ((max 1 (length numbers.all) + first_ends numbers.all ≤ n) × (first_ends (numbers.first ∷ []) ≡ 0) × (2 ≤ n)) ⊎ ((max 1 (length numbers.all) ≤ n) × (3 ≤ n))
 
 sought_few : (d : Direction) (numbers : Numbers) (n : ℕ) → Numbered numbers n → 2 ≤ n → sought_tests d numbers ≤ n * count.side_tests d 1 + (n - 1)
 sought_few d numbers n h two = grind (arith, nat_tests, ends_few)
@@ -135,28 +144,18 @@ searchable_cut last first (i ∷ is) h up = cut_apart last 0 first (i ∷ is) h 
 ready : (link : Link) (at : Sides) (b : Bool) (group : Group) (ms : List Interval) → Held group ms → 1 ≤ length group.entries
     → Fitting b at → ((mask : Option ℕ) → (b ≡ false → mask ≡ None) → Reached (index_of link at) mask at.source at.destination)
     → Ready link at (sought b group.first group.all)
-ready link at b group ms h some fit reached = record {
-  order = cut_order last group.first group.first is idle idle.first_aligned h.order;
-  all = searchable_cut last group.first is idle up;
-  others_are = refl;
-  first_in = λ p x e inside.
-      let small = fitting_small b at group.first is fit p x (inl e) in
-      let here : is_in x group.first ≡ true = sym (cut_in last x group.first group.first is idle idle.first_aligned small) ∙ inside in
-      cut_within last x group.first is idle small ∙ within_joined x group.all h.ascends ∙ h.all_within x ∙ ap (λ c. c || is_within x ms) here;
-  reached = reached (high_mask last) (λ e. ap (λ c. high_mask (left_out c group.first is)) e);
-}
-  where
-    is : List Interval
-    is = joined_all group.all
-
-    last : ℕ
-    last = left_out b group.first is
-
-    idle : Idle last group.first is
-    idle = idle_sought b group.first is
-
-    up : Searchable is
-    up = searchable_joined group.all (let c = h.all_count in omega arith) h.ascends
+ready link at b group ms h some fit reached =
+    let is = joined_all group.all in let last = left_out b group.first is in let idle = idle_sought b group.first is in
+    record {
+      order = cut_order last group.first group.first is idle idle.first_aligned h.order;
+      all = searchable_cut last group.first is idle (searchable_joined group.all (let c = h.all_count in omega arith) h.ascends);
+      others_are = refl;
+      first_in = λ p x e inside.
+          let small = fitting_small b at group.first is fit p x (inl e) in
+          let here : is_in x group.first ≡ true = sym (cut_in last x group.first group.first is idle idle.first_aligned small) ∙ inside in
+          cut_within last x group.first is idle small ∙ within_joined x group.all h.ascends ∙ h.all_within x ∙ ap (λ c. c || is_within x ms) here;
+      reached = reached (high_mask last) (λ e. ap (λ c. high_mask (left_out c group.first is)) e);
+    }
 
 -- the numbers of a group are searched in all places where its members may be
 module _ (link : Link) (group : Group) (ms : List Interval) (h : Held group ms) (some : 1 ≤ length group.entries) where
@@ -171,8 +170,7 @@ module _ (link : Link) (group : Group) (ms : List Interval) (h : Held group ms) 
 
   ports_ready : k ≡ false → PortsReady link (numbers_of group)
   ports_ready e =
-      let no = ap (λ c. c && not group.is_plain) e in
-      let l = offset_few link in (
+      let no = ap (λ c. c && not group.is_plain) e in let l = offset_few link in (
         ready link (port_places (ip_transport link)) masked group ms h some (unmasked_fitting masked (port_places (ip_transport link)) no)
             (λ mask f. (f no, refl)),
         ready link (port_places (ip6_transport link)) masked group ms h some (unmasked_fitting masked (port_places (ip6_transport link)) no)
@@ -196,8 +194,7 @@ group_bare_several link group ms h e = by group.is_plain refl e
 
     with_numbers : Numbered (numbers_of group) n → 2 ≤ n → Bare (several_formula link group.qualifiers k (numbers_of group)) (group_tests group)
     with_numbers few two =
-        bare_within _ h.counted
-        (bare_several link group.qualifiers (numbers_of group) n few two k
+        bare_within _ h.counted (bare_several link group.qualifiers (numbers_of group) n few two k
         (λ e f. addresses_ready link group ms h (omega arith) f) (λ e. ports_ready link group ms h (omega arith) e))
 
     length_cut : (b : Bool) → length (sought b group.first group.all).all ≡ length (joined_all group.all)
@@ -206,20 +203,13 @@ group_bare_several link group ms h e = by group.is_plain refl e
     by : (b : Bool) → group.is_plain ≡ b → nat_le (if b then 2 else FEWEST_RANGES) n ≡ true
         → Bare (several_formula link group.qualifiers k (numbers_of group)) (group_tests group)
     by true plain e =
-        let two : 2 ≤ n = grind (arith, nat_tests) in
-        let c = h.all_count in
-        let pts = h.points plain in
-        let few = joined_points group.all (omega arith) pts.1 in
-        let off : (k && not group.is_plain) ≡ false = ap (λ b. k && not b) plain ∙ and-false k in
+        let two : 2 ≤ n = grind (arith, nat_tests) in let c = h.all_count in let pts = h.points plain in
+        let few = joined_points group.all (omega arith) pts.1 in let off : (k && not group.is_plain) ≡ false = ap (λ b. k && not b) plain ∙ and-false k in
         let point : first_ends (cut 0 group.first ∷ []) ≡ 0 = one_point (cut 0 group.first) (let e = pts.0 in omega arith) in
-        with_numbers
-        (subst (λ b. Numbered (sought b group.first group.all) n) (sym off)
-        (inl (subst (λ (is : List Interval). max 1 (length is) + first_ends is ≤ n) (sym (uncut 0 (joined_all group.all) refl)) (omega arith), point, two)))
-        two
+        with_numbers (subst (λ b. Numbered (sought b group.first group.all) n) (sym off)
+        (inl (subst (λ (is : List Interval). max 1 (length is) + first_ends is ≤ n) (sym (uncut 0 (joined_all group.all) refl)) (omega arith), point, two))) two
     by false plain e =
-        let three : 3 ≤ n = grind (arith, nat_tests) in
-        let c = h.all_count in
-        let few = joined_few group.all (omega arith) in
+        let three : 3 ≤ n = grind (arith, nat_tests) in let c = h.all_count in let few = joined_few group.all (omega arith) in
         let same = length_cut (k && not group.is_plain) in
         with_numbers (inr (omega arith, three)) (omega arith)
 
@@ -232,37 +222,19 @@ rows_bare link (e ∷ f ∷ es) l = bare_either (entry_bare link e) (rows_bare l
 listed_is : (link : Link) (group : Group) → Listed group.qualifiers.direction group → is_searched group ≡ true
     → Bare (together_formula link group group.case) (group_tests group) × ((p : List ℕ) (n : ℕ) → reads link (together_formula link group group.case) p n
     ≡ reads link (rows_formula link group.entries) p n)
-listed_is link group h searched = subst Good (sym h.is_first)
-    (let good = list_good b link d h.kind h.first group.cases refl h.first_like h.like h.some many in
-    let few = h.counted link in
-    let fronts = ap (λ (ts : List Elementary). length ts) front in (
+listed_is link group h searched =
+    let d = group.qualifiers.direction in let b = are_either d h.kind in let same = like_either d h.kind h.first h.first_like in
+    let front = (alike link d d h.kind h.first h.first_like).1 in
+    let put = ap (λ c. guarded_formula (case_front link h.first) (list_formula c link d h.first group.cases)) same in
+    let many : b ≡ true → fewest_either h.first ≤ length group.cases = λ e. grind (arith, nat_tests) in
+    let good = list_good b link d h.kind h.first group.cases refl h.first_like h.like h.some many in
+    let few = h.counted link in let fronts = ap (λ (ts : List Elementary). length ts) front in
+    subst (λ (o : Option Case). Bare (together_formula link group o) (group_tests group) × ((p : List ℕ) (n : ℕ)
+    → reads link (together_formula link group o) p n ≡ reads link (rows_formula link group.entries) p n)) (sym h.is_first) (
       subst (λ (f : Formula). Bare f (group_tests group)) (sym put) (bare_within _ (omega arith) (guarded_sizes (case_front link h.first) good.0)),
       λ p n. ap (λ (f : Formula). reads link f p n) put ∙ guarded_read link p n (case_front link h.first) _
-          ∙ ap₂ (λ ts r. both (all_read link p n ts) r) front (good.1 p n)
-          ∙ sym (h.rows_are link p n),
-    ))
-  where
-    d : Direction
-    d = group.qualifiers.direction
-
-    b : Bool
-    b = are_either d h.kind
-
-    Good : Option Case → Type 0
-    Good o = Bare (together_formula link group o) (group_tests group) × ((p : List ℕ) (n : ℕ) → reads link (together_formula link group o) p n
-        ≡ reads link (rows_formula link group.entries) p n)
-
-    same : are_either d h.first ≡ b
-    same = like_either d h.kind h.first h.first_like
-
-    front : case_front link h.first ≡ case_front link h.kind
-    front = (alike link d d h.kind h.first h.first_like).1
-
-    put : together_formula link group (Some h.first) ≡ guarded_formula (case_front link h.first) (list_formula b link d h.first group.cases)
-    put = ap (λ c. guarded_formula (case_front link h.first) (list_formula c link d h.first group.cases)) same
-
-    many : b ≡ true → fewest_either h.first ≤ length group.cases
-    many e = grind (arith, nat_tests)
+          ∙ ap₂ (λ ts r. both (all_read link p n ts) r) front (good.1 p n) ∙ sym (h.rows_are link p n),
+    )
 
 group_bare : (link : Link) (group : Group) → Kept group → 0 < length group.entries → Bare (group_formula link group) (group_tests group)
 group_bare link group k l = if_case (λ (f : Formula). Bare f (group_tests group)) (is_searched group) _ _ (by k) (λ e. rows_bare link group.entries l)
@@ -290,8 +262,7 @@ group_rows link p n group k =
         ∙ several_are link p n group.qualifiers (has_addresses group.qualifiers.value_type && not group.is_plain) group.first ms group.all
         (h.merged (searched_two group few)) h.ascends h.all_within (has_addresses group.qualifiers.value_type)
         (λ t. (and_parts (has_addresses group.qualifiers.value_type) (not group.is_plain) t).0)
-        (λ t f. addresses_ready link group ms h (omega arith) f) (λ t. ports_ready link group ms h (omega arith) t)
-        ∙ sym (h.rows link p n)
+        (λ t f. addresses_ready link group ms h (omega arith) f) (λ t. ports_ready link group ms h (omega arith) t) ∙ sym (h.rows link p n)
     by (listed l h) e = (listed_is link group h e).1 p n
 
 -- a formula stands for a truth, or else for the group after it
@@ -339,15 +310,11 @@ record Fits_in (q : CompleteQualifiers) (group : Group) : Type 0 where
 fits_in : (q : CompleteQualifiers) (group : Group) (es : List Entry) → 0 < length es → goes_with q group es ≡ true → Fits_in q group
 fits_in q group [] l g = absurd (omega arith)
 fits_in q group (e ∷ es) l g =
-    let room = nat_lt (length (e ∷ es)) MOST_TOGETHER in
-    let o = group.qualifiers in
-    let a = and_parts (is_none group.case) _ g in
+    let room = nat_lt (length (e ∷ es)) MOST_TOGETHER in let o = group.qualifiers in let a = and_parts (is_none group.case) _ g in
     let b = and_parts (same_type q.value_type o.value_type) (same_protocol q.protocol o.protocol && (same_direction q.direction o.direction && room)) a.1 in
     let c = and_parts (same_protocol q.protocol o.protocol) (same_direction q.direction o.direction && room) b.1 in
-    let d = and_parts (same_direction q.direction o.direction) room c.1 in
-    let e = protocols_are q.protocol o.protocol c.0 in
-    let f = directions_are q.direction o.direction d.0 in
-    let k = alike_types q.value_type o.value_type b.0 in
+    let d = and_parts (same_direction q.direction o.direction) room c.1 in let e = protocols_are q.protocol o.protocol c.0 in
+    let f = directions_are q.direction o.direction d.0 in let k = alike_types q.value_type o.value_type b.0 in
     record {
       none = a.0;
       merged = f.1;
@@ -364,8 +331,7 @@ rows_put link p n e es = grind (arith, or_no)
 -- one more number before those, ls, of a group without cases
 held_put : (q : CompleteQualifiers) (v : Value) (m : Interval) (group : Group) (ls : List Interval) → member_of q.value_type v ≡ Some m
     → Ordered 0 group.all → ((y : ℕ) → is_within y group.all ≡ is_within y ls) → length group.all ≡ length group.entries
-    → (group.is_plain ≡ true → Points group.all)
-    → length group.entries * member_tests (has_addresses q.value_type) q.protocol q.direction ≤ group_tests group
+    → (group.is_plain ≡ true → Points group.all) → length group.entries * member_tests (has_addresses q.value_type) q.protocol q.direction ≤ group_tests group
     → (0 < length group.entries → Merged q.direction)
     → ((link : Link) (p : List ℕ) (n : ℕ) → either (member_reads link p n (has_addresses q.value_type) q.protocol q.direction m)
     (reads link (rows_formula link group.entries) p n) ≡ members_read link p n (has_addresses q.value_type) q.protocol q.direction m ls)
@@ -377,13 +343,12 @@ held_put q v m group ls w up within many points few merged rows = record {
   all_within = λ y. within_inserted y m group.all ∙ ap (λ b. is_in y m || b) (within y);
   all_count = length_inserted m group.all ∙ omega arith;
   points = λ plain.
-      let t = and_parts (m.low == m.high) group.is_plain plain in
-      let point : m.low ≡ m.high = (let u = t.0 in grind (arith, nat_tests)) in
+      let t = and_parts (m.low == m.high) group.is_plain plain in let point : m.low ≡ m.high = (let u = t.0 in grind (arith, nat_tests)) in
       (point, points_inserted m group.all point (points t.1));
   counted =
       let one = suc-mul (length group.entries) (member_tests (has_addresses q.value_type) q.protocol q.direction) in
       let more = (its Ether [] 0).1 in omega arith;
-  rows = λ link p n. rows_put link p n (entry q v) group.entries ∙ ap (λ r. either r (reads link (rows_formula link group.entries) p n))
+  rows = λ link p n. rows_put link p n (Entry.Value q v) group.entries ∙ ap (λ r. either r (reads link (rows_formula link group.entries) p n))
       (value_same link p n q.value_type q.protocol q.direction v ∙ (its link p n).2) ∙ rows link p n;
 }
   where
@@ -397,8 +362,7 @@ held_put q v m group ls w up within many points few merged rows = record {
 kept_with : (q : CompleteQualifiers) (v : Value) (m : Interval) (group : Group) → Kept group → goes_with q group group.entries ≡ true
     → member_of q.value_type v ≡ Some m → Kept (with_member q v m group)
 kept_with q v m group (nothing none all empty alone) g w =
-    let zero : length group.entries ≡ 0 = ap length none in
-    let no_all : length group.all ≡ 0 = ap length all in
+    let zero : length group.entries ≡ 0 = ap length none in let no_all : length group.all ≡ 0 = ap length all in
     numbered (omega arith) alone []
     (held_put q v m group [] w (subst (Ordered 0) (sym all) tt) (λ y. ap (is_within y) all) (omega arith) (λ plain. subst Points (sym all) tt)
     (subst (λ k. k * member_tests (has_addresses q.value_type) q.protocol q.direction ≤ group_tests group) (sym zero) (omega arith)) (λ l. absurd (omega arith))
@@ -406,8 +370,7 @@ kept_with q v m group (nothing none all empty alone) g w =
     ∙ or_no _ ∙ sym (members_alone link p n (has_addresses q.value_type) q.protocol q.direction m)))
 kept_with q v m group (numbered l empty ms h) g w =
     let f = fits_in q group group.entries l g in
-    numbered (omega arith) empty (group.first ∷ ms)
-    (held_put q v m group (group.first ∷ ms) w h.ascends h.all_within h.all_count (λ plain. (h.points plain).1)
+    numbered (omega arith) empty (group.first ∷ ms) (held_put q v m group (group.first ∷ ms) w h.ascends h.all_within h.all_count (λ plain. (h.points plain).1)
     (subst (λ k. length group.entries * k ≤ group_tests group) f.tests_are h.counted) (λ l. f.merged)
     (λ link p n. ap (either (member_reads link p n (has_addresses q.value_type) q.protocol q.direction m))
     (h.rows link p n ∙ f.reads_are link p n group.first ms)
@@ -441,33 +404,27 @@ listed_put : (q : CompleteQualifiers) (e : Entry) (c kind : Case) (group : Group
     let front = all_read link p n (case_front link kind) in
     either (both front (reads link (one_formula b link q.direction c) p n)) (reads link (rows_formula link group.entries) p n)
     ≡ both front (list_read b link q.direction c (insert_case c group.cases) p n)) → Listed q.direction (with_case q e c group)
-listed_put q e c kind group its likes like count few rows_are = record {
-  kind = kind;
-  first = c;
-  is_first = refl;
-  first_like = like;
-  like = likes_put q.direction kind c (place c group.cases) group.cases like likes;
-  some = let l = length_put c (place c group.cases) group.cases in omega arith;
-  all_count = let l = length_put c (place c group.cases) group.cases in omega arith;
-  counted = λ link.
-      let l = length_put c (place c group.cases) group.cases in
-      let s = size_put (are_either q.direction kind) link q.direction c (place c group.cases) group.cases in
-      let one = subst (λ b. length (case_front link c) + one_size b link q.direction c ≤ entry_tests e) same (its link).1 in
-      let old = few link in
-      let fronts = ap (λ (ts : List Elementary). length ts) (front link) in
-      omega arith;
-  rows_are = λ link p n.
-      rows_put link p n e group.entries
-      ∙ ap (λ r. either r (reads link (rows_formula link group.entries) p n)) ((its link).2 p n ∙ guarded_read link p n (case_front link c) _
-      ∙ ap₂ (λ ts b. both (all_read link p n ts) (reads link (one_formula b link q.direction c) p n)) (front link) same)
-      ∙ rows_are link p n;
-}
-  where
-    same : are_either q.direction c ≡ are_either q.direction kind
-    same = like_either q.direction kind c like
-
-    front : (link : Link) → case_front link c ≡ case_front link kind
-    front link = (alike link q.direction q.direction kind c like).1
+listed_put q e c kind group its likes like count few rows_are =
+    let same = like_either q.direction kind c like in let l = length_put c (place c group.cases) group.cases in
+    let front = λ (link : Link). (alike link q.direction q.direction kind c like).1 in
+    record {
+      kind = kind;
+      first = c;
+      is_first = refl;
+      first_like = like;
+      like = likes_put q.direction kind c (place c group.cases) group.cases like likes;
+      some = omega arith;
+      all_count = omega arith;
+      counted = λ link.
+          let s = size_put (are_either q.direction kind) link q.direction c (place c group.cases) group.cases in
+          let one = subst (λ b. length (case_front link c) + one_size b link q.direction c ≤ entry_tests e) same (its link).1 in
+          let old = few link in let fronts = ap (λ (ts : List Elementary). length ts) (front link) in
+          omega arith;
+      rows_are = λ link p n.
+          rows_put link p n e group.entries
+          ∙ ap (λ r. either r (reads link (rows_formula link group.entries) p n)) ((its link).2 p n ∙ guarded_read link p n (case_front link c) _
+          ∙ ap₂ (λ ts b. both (all_read link p n ts) (reads link (one_formula b link q.direction c) p n)) (front link) same) ∙ rows_are link p n;
+    }
 
 -- what is known where a case goes with members
 case_fits : (c : Case) (d : Direction) (group : Group) (es : List Entry) → 0 < length es → case_goes_with c d group es ≡ true
@@ -478,24 +435,19 @@ kept_with_case : (q : CompleteQualifiers) (e : Entry) (c : Case) (group : Group)
     → ((link : Link) → Cased link q.direction c (entry_tests e) (entry_formula link e)) → Kept (with_case q e c group)
 kept_with_case q e c group (nothing none all empty alone) g w =
     let b = are_either q.direction c in
-    listed (omega arith)
-    (listed_put q e c c group w (subst (Likes q.direction c) (sym empty) tt) (w Ether).0 (ap length empty ∙ sym (ap length none))
+    listed (omega arith) (listed_put q e c c group w (subst (Likes q.direction c) (sym empty) tt) (w Ether).0 (ap length empty ∙ sym (ap length none))
     (λ link. subst (λ cs. list_size b link q.direction cs + length cs ≤ group_tests group) (sym empty) (omega (arith, none_size b link q.direction)))
     (λ link p n.
     let one = both (all_read link p n (case_front link c)) (reads link (one_formula b link q.direction c) p n) in
-    ap (λ es. either one (reads link (rows_formula link es) p n)) none ∙ or_no one
-    ∙ ap (both (all_read link p n (case_front link c)))
+    ap (λ es. either one (reads link (rows_formula link es) p n)) none ∙ or_no one ∙ ap (both (all_read link p n (case_front link c)))
     (sym (ap (λ cs. list_read b link q.direction c (insert_case c cs) p n) empty ∙ list_alone b link q.direction c p n))))
 kept_with_case q e c group (numbered l empty ms h) g w = grind (arith, case_fits)
 kept_with_case q e c group (listed l h) g w =
-    let fit = case_fits c q.direction group group.entries l g in
-    let j = subst (λ d. Listed d group) fit.1 h in
-    let b = are_either q.direction j.kind in
+    let fit = case_fits c q.direction group group.entries l g in let j = subst (λ d. Listed d group) fit.1 h in let b = are_either q.direction j.kind in
     let like = alike_alike q.direction j.kind j.first c j.first_like (ap (shares_words q.direction c) (sym j.is_first) ∙ fit.0) in
     let few : (link : Link) → list_size b link q.direction group.cases + length group.cases ≤ group_tests group =
     λ link. (let all = j.counted link in let some = some_front link j.kind in omega arith) in
-    listed (omega arith) (listed_put q e c j.kind group w j.like like j.all_count few
-    (λ link p n.
+    listed (omega arith) (listed_put q e c j.kind group w j.like like j.all_count few (λ link p n.
     let one = reads link (one_formula b link q.direction c) p n in
     ap (either (both _ one)) (j.rows_are link p n) ∙ sym (both_either _ one _)
     ∙ ap (both _) (sym (list_more b link q.direction j.kind j.first c (place c group.cases) group.cases p n refl like j.first_like j.like))))
@@ -513,8 +465,7 @@ module _ (link : Link) (group more : Group) (k : Kept group) where
       → Taken link e group more
   by_test e x false kept is some = cc
   by_test e x true kept is some =
-      let tests = ap entries_tests is in
-      let long = ap length is in
+      let tests = ap entries_tests is in let long = ap length is in
       each_is (Some x) (Taken link e group) more (record {
         kept = kept refl;
         some = omega arith;
@@ -524,25 +475,22 @@ module _ (link : Link) (group more : Group) (k : Kept group) where
       }) some
 
   by_member : (q : CompleteQualifiers) (v : Value) (o : Option Interval) → member_of q.value_type v ≡ o → group_and q v group o ≡ Some more
-      → Taken link (entry q v) group more
+      → Taken link (Entry.Value q v) group more
   by_member q v None w e = cc
-  by_member q v (Some m) w e = by_test (entry q v) (with_member q v m group) (goes_with q group group.entries) (λ g. kept_with q v m group k g w) refl e
+  by_member q v (Some m) w e = by_test (Entry.Value q v) (with_member q v m group) (goes_with q group group.entries) (λ g. kept_with q v m group k g w) refl e
 
   by_case : (q : CompleteQualifiers) (v : Value) (o : Option Case) → case_of q.value_type q.protocol q.direction v ≡ o → larger_with q v group o ≡
-      Some more → Taken link (entry q v) group more
+      Some more → Taken link (Entry.Value q v) group more
   by_case q v None w e = by_member q v (member_of q.value_type v) refl e
   by_case q v (Some c) w e =
-      by_test (entry q v) (with_case q (entry q v) c group) (case_goes_with c q.direction group group.entries)
-      (λ g. kept_with_case q (entry q v) c group k g (λ l. (
+      let its : (l : Link) → IsCase l q.value_type q.protocol q.direction v c = λ l. each_is (case_of q.value_type q.protocol q.direction v)
+      (IsCase l q.value_type q.protocol q.direction v) c (case_is l q.value_type q.protocol q.direction v) w in
+      by_test (Entry.Value q v) (with_case q (Entry.Value q v) c group) (case_goes_with c q.direction group group.entries)
+      (λ g. kept_with_case q (Entry.Value q v) c group k g (λ l. (
         (its l).0,
         (its l).1,
-        λ p n. value_same l p n q.value_type q.protocol q.direction v ∙
-            (its l).2 p n,
+        λ p n. value_same l p n q.value_type q.protocol q.direction v ∙ (its l).2 p n,
       ))) refl e
-    where
-      its : (l : Link) → IsCase l q.value_type q.protocol q.direction v c
-      its l = each_is (case_of q.value_type q.protocol q.direction v) (IsCase l q.value_type q.protocol q.direction v) c
-          (case_is l q.value_type q.protocol q.direction v) w
 
   taken : (e : Entry) → larger_group e group ≡ Some more → Taken link e group more
   taken (Entry.Value q v) some = by_case q v (case_of q.value_type q.protocol q.direction v) refl some
@@ -562,20 +510,11 @@ leaf_stands : (link : Link) (a : TruthTree) (f : Formula) (group : Group) → Ke
 leaf_stands link a f group k sizes same None is = or_stands link f a group k sizes same
 leaf_stands link a f group k sizes same (Some e) is = by (larger_group e group) refl
   where
-    by : (o : Option Group) → larger_group e group ≡ o → Stands link (choice o (group_formula link) (or_group link (entry_formula link e) group)) a group
-    by None none =
-        let b = entry_bare link e in
-        let few = is.few in
-        or_stands link (entry_formula link e) a group k (omega arith) is.same
+    by : (o : Option Group) → larger_group e group ≡ o → Stands link (option_map_or (group_formula link) o (or_group link (entry_formula link e) group)) a group
+    by None none = let b = entry_bare link e in let few = is.few in or_stands link (entry_formula link e) a group k (omega arith) is.same
     by (Some more) some =
-        let t = taken link group more k e some in
-        let b = group_bare link more t.kept t.some in
-        let few = is.few in
-        let tests = t.tests_fit in
-        record {
-          counts = omega arith;
-          reads_are = λ p n. t.reads_are p n ∙ ap (λ r. either r (reads link (group_formula link group) p n)) (is.same p n);
-        }
+        let t = taken link group more k e some in let b = group_bare link more t.kept t.some in let few = is.few in let tests = t.tests_fit in
+        record { counts = omega arith; reads_are = λ p n. t.reads_are p n ∙ ap (λ r. either r (reads link (group_formula link group) p n)) (is.same p n) }
 
 -- the second one of two truths may join the group after it, or begin another one
 module _ (link : Link) (a b : TruthTree) (group : Group) (k : Kept group) (f : Group → Formula) (g : Formula)
@@ -586,10 +525,7 @@ module _ (link : Link) (a b : TruthTree) (group : Group) (k : Kept group) (f : G
   -- both with a group that the second one joins
   joins : (e : Entry) → IsEntry link b e → (old more : Group) → Kept old → larger_group e old ≡ Some more → Stands link (f more) (joined Or a b) old
   joins e is old more kept some =
-      let t = taken link old more kept e some in
-      let s = h more t.kept in
-      let few = is.few in
-      let tests = t.tests_fit in
+      let t = taken link old more kept e some in let s = h more t.kept in let few = is.few in let tests = t.tests_fit in
       record {
         counts = omega (arith, s.counts);
         reads_are = λ p n. s.reads_are p n ∙ ap (either (reads link (formula link a) p n))
@@ -598,16 +534,15 @@ module _ (link : Link) (a b : TruthTree) (group : Group) (k : Kept group) (f : G
       }
 
   or_member : (e : Entry) → IsEntry link b e → (o p : Option Group) → larger_group e group ≡ o → larger_group e no_group ≡ p
-      → Stands link (choice o f (choice p (λ new. or_group link (f new) group) (Either (f no_group) g))) (joined Or a b) group
+      → Stands link (option_map_or f o (option_map_or (λ new. or_group link (f new) group) p (Either (f no_group) g))) (joined Or a b) group
   or_member e is None None none alone = parted
   or_member e is None (Some new) none begun =
       let s = joins e is no_group new kept_none begun in
       or_stands link (f new) (joined Or a b) group k (bare_within _ (omega arith) s.counts) (λ p n. s.reads_are p n ∙ or_no _)
   or_member e is (Some more) p some q = joins e is group more k some
 
-  either_stands : (o : Option Entry) → Each o (IsEntry link b)
-      → Stands link (choice (with o (λ e. larger_group e group)) f
-      (choice (with o (λ e. larger_group e no_group)) (λ new. or_group link (f new) group) (Either (f no_group) g))) (joined Or a b) group
+  either_stands : (o : Option Entry) → Each o (IsEntry link b) → Stands link (option_map_or f (with o (λ e. larger_group e group))
+      (option_map_or (λ new. or_group link (f new) group) (with o (λ e. larger_group e no_group)) (Either (f no_group) g))) (joined Or a b) group
   either_stands None is = parted
   either_stands (Some e) is = or_member e is (larger_group e group) (larger_group e no_group) refl refl
 
@@ -621,18 +556,15 @@ grouped_stands link (bare v) group k u = cc
 grouped_stands link (valued q v) group k u = cc
 grouped_stands link (qualified q v) group k u =
     leaf_stands link (qualified q v) (qualified_needed link q v) group k (bare_needed link q.value_type q.protocol q.direction v)
-    (λ p n. value_same link p n q.value_type q.protocol q.direction v) (Some (entry q v)) (entry_is link (qualified q v))
+    (λ p n. value_same link p n q.value_type q.protocol q.direction v) (Some (Entry.Value q v)) (entry_is link (qualified q v))
 grouped_stands link (compared c l r) group k u =
     leaf_stands link (compared c l r) (relation_formula link c l r) group k (relation_sizes link c l r) (λ p n. relation_same link p n c l r)
     (entry_of (compared c l r)) (entry_is link (compared c l r))
 grouped_stands link (denied a) group k u =
     let h = grouped_stands link a no_group kept_none u in
-    or_stands link (Except (grouped_formula link no_group a)) (denied a) group k
-    (omega (arith, h.counts))
-    (λ p n. ap negation (h.reads_are p n ∙ or_no _))
+    or_stands link (Except (grouped_formula link no_group a)) (denied a) group k (omega (arith, h.counts)) (λ p n. ap negation (h.reads_are p n ∙ or_no _))
 grouped_stands link (joined And a b) group k u =
-    let parts = or_parts (any_primitive is_unfilled a) (any_primitive is_unfilled b) u in
-    let h = grouped_stands link a no_group kept_none parts.0 in
+    let parts = or_parts (any_primitive is_unfilled a) (any_primitive is_unfilled b) u in let h = grouped_stands link a no_group kept_none parts.0 in
     let g = grouped_stands link b no_group kept_none parts.1 in
     or_stands link (Both (grouped_formula link no_group a) (grouped_formula link no_group b)) (joined And a b) group k
     (bare_within _ (omega arith) (bare_both h.counts g.counts)) (λ p n. ap₂ both (h.reads_are p n ∙ or_no _) (g.reads_are p n ∙ or_no _))

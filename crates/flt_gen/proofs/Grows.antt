@@ -1,6 +1,5 @@
 -- The code of a formula, in front of other code, which still stands at its end: it has no fault and
 -- no jump, and no more instructions and branches than are counted.
-use Rattle.flt_bpf.proofs.Codes.{code_is}
 use Rattle.flt_gen.proofs.Common.{accessor_offset, ◌≡◌, ℕ, ◌+◌, ◌-◌, ◌*◌, ◌<◌, ◌≤◌, List, [], ◌∷◌, length, Bool, true, false, cond, Option, Some, None, refl}
 use Rattle.flt_gen.proofs.Common.{ap, ◌∙◌, arith, ◌≢◌, nat_lt, ◌&&◌, if◌then◌else◌, count_by, nat_tests, sum_by-cons, All-cons, Insn, Operand, Constant}
 use Rattle.flt_gen.proofs.Common.{IndexRegister, Operation, LoadAbsolute, LoadIndirect, Load, LoadHeaderLength, Store, Compute, Negate, Jump, JumpIf}
@@ -11,12 +10,9 @@ use Rattle.flt_gen.proofs.Common.{network_offset, Elementary, Outcome, Field, Of
 use Rattle.flt_gen.proofs.Common.{Except, Split, AtIndex, plain, computation, takes_constant, constant, constant_operand, branch_insn, emit_branch}
 use Rattle.flt_gen.proofs.Common.{emit_comparison, emit_field, emit_mask, emit_accessor, emit_base, emit_number, Block, at_top, emit_test, emit_after}
 use Rattle.flt_gen.proofs.Common.{emit_formula, words, nodes, tests, test_count, place_loads, mask_loads, field_loads, test_loads, loads, is_loaded, left_by}
-use Rattle.flt_gen.proofs.Common.{FieldPlace}
-use Rattle.flt_gen.proofs.{Counted.place_few, Numbers.operand_is}
-use Rattle.flt_gen.proofs.Leads.{Extends, extends_none, extends_put, by_operand}
-use Rattle.flt_bpf.specs.{Check.fault_of, Instructions.operation_of}
+use Rattle.flt_bpf.{proofs.Codes.code_is, specs.Check.fault_of, specs.Instructions.operation_of, specs.declared.operation.AluOperation.AluOperation}
+use Rattle.flt_gen.proofs.{Common.FieldPlace, Numbers.operand_is, Leads.Extends, Leads.extends_none, Leads.extends_put, Leads.by_operand, Counted.place_few}
 use Rattle.flt_bpf.specs.declared.fault.CheckFault.{CheckFault, TheVariants.JumpOut, TheVariants.NoSuchWord}
-use Rattle.flt_bpf.specs.declared.operation.AluOperation.{AluOperation}
 
 abbrev pub branches : List Insn → ℕ
 branches c = count_by (λ i. is_branch (operation_of i.code)) c
@@ -51,8 +47,7 @@ Asked false X = Unit {0}
 asked : (b : Bool) {X Y : Type 0} → (X → Y) → Asked b X → Asked b Y
 asked b f x = grind arith
 
--- code d that was put in front of code c: at most m instructions, which are w with each branch
--- counted three times. It is sound, if that is asked for
+-- code d that was put in front of code c: at most m instructions, which are w with each branch counted three times. It is sound, if that is asked for
 pub record GrowsBy (b : Bool) (c d : List Insn) (m w : ℕ) : Type 0 where
   pub sound : Asked b (Sound d)
   pub tail : Extends c d
@@ -120,12 +115,7 @@ module _ (b : Bool) where
   branch_grows t operand k hit miss c s h m =
       let i = branch_insn t operand k (length c - hit) (length c - miss) in
       let n : branches (i ∷ c) ≡ 1 + branches c = branch_count (JumpIf t operand) i c refl in
-      record {
-        sound = branch_sound t operand k hit miss c b s h m;
-        tail = extends_put i (extends_none c);
-        shorter = omega arith;
-        lighter = omega arith;
-      }
+      record { sound = branch_sound t operand k hit miss c b s h m; tail = extends_put i (extends_none c); shorter = omega arith; lighter = omega arith }
 
   comparison_grows : (comparison : Comparison) (operand : Operand) (k hit miss : ℕ) (c : List Insn) → Asked b (Sound c) → Asked b (Inside c hit)
       → Asked b (Inside c miss) → GrowsBy b c (emit_comparison comparison operand k hit miss c) 1 3
@@ -184,15 +174,12 @@ module _ (b : Bool) where
       (λ k is. grows_more _ _ (omega arith) (omega arith) (place_grows (accessor_offset link protocol k) (width_of size) g))
       (grows_more _ _ (omega arith) (omega arith) (number_grows link i slot few (accessor_grows link protocol (width_of size) g)))
   number_grows link (applied operator l r) slot {c = c} {d = d} {m = m} {w = w} few g =
-      grows_more _ _ (omega arith) (omega arith)
-      (number_grows link l slot (omega arith)
+      grows_more _ _ (omega arith) (omega arith) (number_grows link l slot (omega arith)
       (by_operand (λ code. GrowsBy b c code (m + 4 + 6 * number_size r) (w + 4 + 6 * number_size r)) (constant_operand operator r) _ _
       (λ k is. grows_more _ _ (omega arith) (omega arith)
       (grows_put (computation operator Constant) k refl refl (constant_fine operator k (length d) (operand_is operator r k is).taken) g))
-      (grows_more _ _ (omega arith) (omega arith)
-      (grows_put (Store Accumulator) slot refl refl (word_fine slot (omega arith))
-      (number_grows link r (slot + 1) (omega arith)
-      (operands_grow slot (omega arith) (grows_put (computation operator IndexRegister) 0 refl refl refl g)))))))
+      (grows_more _ _ (omega arith) (omega arith) (grows_put (Store Accumulator) slot refl refl (word_fine slot (omega arith))
+      (number_grows link r (slot + 1) (omega arith) (operands_grow slot (omega arith) (grows_put (computation operator IndexRegister) 0 refl refl refl g)))))))
 
   fits_top : {c d : List Insn} {m w : ℕ} → GrowsBy b c d m w → FitsBy b c (at_top d) m w
   fits_top {d = d} g = record { grows = g; entry = asked b (top_inside d) g.sound }
@@ -226,30 +213,22 @@ module _ (b : Bool) where
       (loads held f + 3 * tests f + 6 * nodes f)
   emitted_by held link (Single t) hit miss c few s h m = more_by _ _ (omega arith) (omega arith) (test_fits None t hit miss c s h m)
   emitted_by held link (Compare comparison l r) hit miss c few s h m =
-      more_by _ _ (omega arith) (omega arith)
-      (fits_top
-      (number_grows link l 0 (omega arith)
+      more_by _ _ (omega arith) (omega arith) (fits_top (number_grows link l 0 (omega arith)
       (by_operand (λ code. GrowsBy b c code (4 + 6 * number_size r) (6 + 6 * number_size r)) (constant r) _ _
-      (λ k is. grows_more _ _ (omega arith) (omega arith) (comparison_grows comparison Constant k hit miss c s h m))
-      (grows_more _ _ (omega arith) (omega arith)
-      (grows_put (Store Accumulator) 0 refl refl refl
-      (number_grows link r 1 (omega arith)
+      (λ k is. grows_more _ _ (omega arith) (omega arith) (comparison_grows comparison Constant k hit miss c s h m)) (grows_more _ _ (omega arith) (omega arith)
+      (grows_put (Store Accumulator) 0 refl refl refl (number_grows link r 1 (omega arith)
       (operands_grow 0 (omega arith) (comparison_grows comparison IndexRegister 0 hit miss c s h m))))))))
   emitted_by held link (Both x y) hit miss c few s h m =
-      let e = emit_formula link y hit miss c in
-      let f = emitted_by None link y hit miss c (omega arith) s h m in
+      let e = emit_formula link y hit miss c in let f = emitted_by None link y hit miss c (omega arith) s h m in
       more_by _ _ (omega arith) (omega arith)
       (fits_on f.grows (emitted_by None link x e.entry miss e.code (omega arith) f.grows.sound f.entry (inside_on _ f.grows m)))
   emitted_by held link (Either x y) hit miss c few s h m =
-      let e = emit_formula link y hit miss c in
-      let f = emitted_by None link y hit miss c (omega arith) s h m in
+      let e = emit_formula link y hit miss c in let f = emitted_by None link y hit miss c (omega arith) s h m in
       more_by _ _ (omega arith) (omega arith)
       (fits_on f.grows (emitted_by None link x hit e.entry e.code (omega arith) f.grows.sound (inside_on _ f.grows h) f.entry))
   emitted_by held link (Except a) hit miss c few s h m = emitted_by None link a miss hit c few s m h
   emitted_by held link (Split t x y) hit miss c few s h m =
-      let left = left_by t in
-      let no = emit_after left link y hit miss c in
-      let yes = emit_after left link x hit miss no.code in
+      let left = left_by t in let no = emit_after left link y hit miss c in let yes = emit_after left link x hit miss no.code in
       let f = emitted_by left link y hit miss c (omega arith) s h m in
       let g = emitted_by left link x hit miss no.code (omega arith) f.grows.sound (inside_on _ f.grows h) (inside_on _ f.grows m) in
       more_by _ _ (omega arith) (omega arith)

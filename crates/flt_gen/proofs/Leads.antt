@@ -1,9 +1,7 @@
--- Code that grew in front still stands at its end; what its first instruction does; and where it
--- leads: its answer from a place on.
-use Rattle.flt_gen.proofs.Common.{constant_or, ◌≡◌, ℕ, ◌-◌, ◌≤◌, List, ◌∷◌, length, drop, Option, Some, refl, sym, ap, ◌∙◌, arith, Insn, State, Operation}
-use Rattle.flt_gen.proofs.Common.{plain, answer_of, answer_after, answer_drop, code_of, does, does_if_known}
-use Rattle.flt_bpf.proofs.Codes.{code_is}
-use Rattle.flt_bpf.specs.{Instructions.operation_of, Machine.step}
+-- Code that grew in front still stands at its end; what its first instruction does; and where it leads: its answer from a place on.
+use Rattle.flt_gen.proofs.Common.{◌≡◌, ℕ, ◌-◌, ◌≤◌, List, ◌∷◌, length, drop, Option, Some, refl, sym, ap, ◌∙◌, arith, Insn, State, Operation, plain, answer_of}
+use Rattle.flt_gen.proofs.Common.{answer_after, answer_drop, code_of, does, does_if_known, option_map_or}
+use Rattle.flt_bpf.{proofs.Codes.code_is, specs.Instructions.operation_of, specs.Machine.step}
 
 -- a longer code is the same from the places of the shorter
 pub record Extends (c d : List Insn) : Type 0 where
@@ -17,8 +15,8 @@ pub extends_put : {c d : List Insn} (i : Insn) → Extends c d → Extends c (i 
 extends_put {d = d} i e = grind arith
 
 -- by a constant operand or index
-pub by_operand : (P : List Insn → Type 0) (o : Option ℕ) (short : ℕ → List Insn) (long : List Insn) → ((k : ℕ) → o ≡ Some k → P (short k)) → P long
-    → P (constant_or o short long)
+pub by_operand : {A : Type 0} (P : A → Type 0) (o : Option ℕ) (short : ℕ → A) (long : A) → ((k : ℕ) → o ≡ Some k → P (short k)) → P long
+    → P (option_map_or short o long)
 by_operand P o short long one all = grind arith
 
 -- a state with the words of memory that programs may use

@@ -11,17 +11,13 @@ pub mod Folded
 pub mod Held
 pub mod Runs
 pub mod Grows
-pub mod Accessors
 pub mod Walking
-pub mod Alone
 pub mod Counted
-pub mod IdleBits
 pub mod Prefixes
 pub mod Together
 pub mod Once
 pub mod Needed
 pub mod Grouping
-pub mod Relations
 pub mod Turned
 pub mod Masks
 pub mod Whole

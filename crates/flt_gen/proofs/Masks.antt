@@ -1,8 +1,7 @@
 -- A mask of 128 bits, by the four words in which it stands.
 use Rattle.flt_gen.proofs.Common.{◌≡◌, ℕ, ◌+◌, ◌-◌, ◌*◌, ◌^◌, ◌<◌, ◌≤◌, [], ◌∷◌, map, ap, arith, Option, ⊎_elim, cases_lt, pow-add, first_bits, ip6_mask}
 use Rattle.flt_gen.proofs.Common.{word_mask, nat_tests, ip6_tests}
-use Rattle.std.proofs.Math.Pow.{pow_mono}
-use Rattle.std.specs.Int.Digits.{number_from_digits}
+use Rattle.std.{proofs.Math.Pow.pow_mono, specs.Int.Digits.number_from_digits}
 
 -- each word lacks a power of 2, the whole word where it has no bit of the mask; so does the mask
 joins : (a b c d q : ℕ) → a ≤ 2 ^ 32 → b ≤ 2 ^ 32 → c ≤ 2 ^ 32 → d ≤ 2 ^ 32 → q + 2 ^ 96 + 2 ^ 64 + 2 ^ 32 ≡ a * 2 ^ 96 + b * 2 ^ 64 + c * 2 ^ 32 + d
@@ -20,18 +19,17 @@ parted n bits =
 
 masks_join : (bits : ℕ) → number_from_digits (2 ^ 32) (first_bits 32 (bits - 32 * 0) ∷ first_bits 32 (bits - 32 * 1) ∷ first_bits 32 (bits - 32 * 2) ∷
     first_bits 32 (bits - 32 * 3) ∷ []) ≡ first_bits 128 bits
-masks_join bits = joins _ _ _ _ _ (few 0) (few 1) (few 2) (few 3) (omega (
-  arith,
-  parted 96 bits,
-  parted 64 (bits - 32),
-  parted 32 (bits - 32 - 32),
-  same (32 - bits) (32 - (bits - 32 * 0)) (omega arith),
-  same (32 - (bits - 32 - 32)) (32 - (bits - 32 * 2)) (omega arith),
-  same (32 - (bits - 32 - 32 - 32)) (32 - (bits - 32 * 3)) (omega arith),
-))
-  where
-    few : (word : ℕ) → 2 ^ (32 - (bits - 32 * word)) ≤ 2 ^ 32
-    few word = pow_mono {i = 32 - (bits - 32 * word)} {j = 32} (omega arith)
+masks_join bits =
+    let few : (word : ℕ) → 2 ^ (32 - (bits - 32 * word)) ≤ 2 ^ 32 = λ word. pow_mono {i = 32 - (bits - 32 * word)} {j = 32} (omega arith) in
+    joins _ _ _ _ _ (few 0) (few 1) (few 2) (few 3) (omega (
+      arith,
+      parted 96 bits,
+      parted 64 (bits - 32),
+      parted 32 (bits - 32 - 32),
+      same (32 - bits) (32 - (bits - 32 * 0)) (omega arith),
+      same (32 - (bits - 32 - 32)) (32 - (bits - 32 * 2)) (omega arith),
+      same (32 - (bits - 32 - 32 - 32)) (32 - (bits - 32 * 3)) (omega arith),
+    ))
 
 -- what is below a word of an address
 pub word_power : (word : ℕ) → 2 ^ (96 - 32 * word) < 2 ^ 128

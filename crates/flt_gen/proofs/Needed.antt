@@ -1,5 +1,4 @@
--- Words of IPv6 addresses of which no bit counts: the formula reads the same, and has no more
--- tests.
+-- Words of IPv6 addresses of which no bit counts: the formula reads the same, and has no more tests.
 use Rattle.flt_gen.proofs.Common.{◌≡◌, ℕ, ◌+◌, ◌≤◌, List, ◌∷◌, length, true, Option, arith, ◌==◌, ◌&&◌, nat_tests, Protocol, ValueType, Net, Direction, Value}
 use Rattle.flt_gen.proofs.Common.{Link, Elementary, MatchResult, under_mask, elementary_reads, network_offset, both, all_of, reads, ip6_tests, is_empty}
 use Rattle.flt_gen.proofs.Common.{needed_tests, value_needed}

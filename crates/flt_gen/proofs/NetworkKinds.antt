@@ -4,15 +4,11 @@ use Rattle.flt_gen.proofs.Common.{subst, ◌∙◌, arith, if◌then◌else◌, 
 use Rattle.flt_gen.proofs.Common.{Yes, No, Rejected, reading_of, with, elementary_reads, is_at, kind_test, type_test, link_of, link_type, type_offset}
 use Rattle.flt_gen.proofs.Common.{frame_kind, carries_kind, carries}
 use Rattle.std.proofs.lemmas.Grind.{and_high_numeral}
-use Rattle.cap_octet.specs.Assigned.{ETHERTYPE_IPV4, ETHERTYPE_IPV6, ETHERTYPE_ARP, ETHERTYPE_RARP}
+use Rattle.cap_octet.specs.{Assigned.ETHERTYPE_IPV4, Assigned.ETHERTYPE_IPV6, Assigned.ETHERTYPE_ARP, Assigned.ETHERTYPE_RARP, Number.u16_in, Number.number_in}
 use Rattle.cap_octet.specs.Link.{all_links}
-use Rattle.cap_octet.specs.NetworkHeader.{header_after, network_header, header_by_version}
-use Rattle.cap_octet.specs.Number.{u16_in, number_in}
-use Rattle.cap_octet.specs.declared.{network.NetworkHeader.NetworkHeader}
-use Rattle.cap_octet.specs.declared.network.NetworkHeader.TheVariants.{Known, Short}
-use Rattle.cap_octet.specs.declared.network.NetworkKind.{NetworkKind}
-use Rattle.cap_octet.specs.declared.network.NetworkKind.TheVariants.{Ipv4, Ipv6, Arp, Rarp}
-use Rattle.cap_octet.specs.declared.number.Order.TheVariants.{Big}
+use Rattle.cap_octet.specs.{NetworkHeader.header_after, NetworkHeader.network_header, NetworkHeader.header_by_version, declared.number.Order.TheVariants.Big}
+use Rattle.cap_octet.specs.declared.network.NetworkHeader.{NetworkHeader, TheVariants.Known, TheVariants.Short}
+use Rattle.cap_octet.specs.declared.network.NetworkKind.{NetworkKind, TheVariants.Ipv4, TheVariants.Ipv6, TheVariants.Arp, TheVariants.Rarp}
 
 -- what the test of a kind reads of a packet with this header
 abbrev reads_kind : NetworkHeader → NetworkKind → Bool → MatchResult
@@ -41,8 +37,7 @@ type_of Rarp = ETHERTYPE_RARP
 -- raw IP tells it by the version, which the first four bits are
 version_test : (v n m : ℕ) → m ≡ 16 * n → v < 2 ^ 8 → (bit_and v 0xf0 == m) ≡ (v / 16 == n)
 version_test v n m times upper_bound =
-    let parts : bit_and v 240 + v % 16 ≡ v = and_high_numeral v 239 refl upper_bound in
-    let high : bit_and v 0xf0 ≡ 16 * (v / 16) = omega arith in
+    let parts : bit_and v 240 + v % 16 ≡ v = and_high_numeral v 239 refl upper_bound in let high : bit_and v 0xf0 ≡ 16 * (v / 16) = omega arith in
     grind (arith, nat_tests)
 
 same_number : (p : List ℕ) (at : ℕ) → u16_in Big p at ≡ big_endian_at p at HalfWord

@@ -6,8 +6,7 @@ use Rattle.flt_gen.proofs.Common.{operand_value, into, word_into, header_length,
 use Rattle.flt_gen.proofs.Common.{load, negated, applied, Link, Offset, Fixed, AfterHeader, AtIndex, with, field_at, network_offset, width_of, base, result_of}
 use Rattle.flt_gen.proofs.Common.{number, number_words, plain, alu_operation, computation, takes_constant, constant, constant_operand, emit_base}
 use Rattle.flt_gen.proofs.Common.{emit_transport, emit_accessor, emit_operands, emit_number, answer_of, answer_after, LoadIndirect, Load, LoadHeaderLength}
-use Rattle.flt_gen.proofs.Common.{Store, Negate, CopyToIndex, Immediate, Memory, Length}
-use Rattle.flt_gen.proofs.Leads.{by_operand, run_plain}
+use Rattle.flt_gen.proofs.{Common.Store, Common.Negate, Common.CopyToIndex, Common.Immediate, Common.Memory, Common.Length, Leads.by_operand, Leads.run_plain}
 use Rattle.std.proofs.{Math.ListN.length-set, lemmas.Option.slice_get-get_or}
 use Rattle.flt_words.specs.declared.token.Operator.TheVariants.{Add}
 
@@ -90,8 +89,7 @@ module _ (p : List ℕ) (n : ℕ) where
   field_runs (Fixed at) width c s f h = run_plain p n (LoadAbsolute width) at c s ∙ into_any (field p at width) c s f (λ v e. h v s.index e)
   field_runs (AtIndex index at) width c s f h =
       let u : State = record s { index = index } in
-      run_plain p n (Load Index Immediate) index (plain (LoadIndirect width) at ∷ c) s
-      ∙ run_plain p n (LoadIndirect width) at c u
+      run_plain p n (Load Index Immediate) index (plain (LoadIndirect width) at ∷ c) s ∙ run_plain p n (LoadIndirect width) at c u
       ∙ into_any (field p ((index + at) % 2 ^ 32) width) c u f (λ v e. h v index e)
   field_runs (AfterHeader header at) width c s f h = run_plain p n LoadHeaderLength header (plain (LoadIndirect width) at ∷ c) s
       ∙ by_header (field p header Byte) refl
@@ -101,8 +99,7 @@ module _ (p : List ℕ) (n : ℕ) where
           (answer_for (with (with o (λ b. Some (header_length b))) (λ x. field p ((x + at) % 2 ^ 32) width)) f)
       by_header None is = refl
       by_header (Some b) is =
-          let x = header_length b in
-          let u : State = record s { index = x } in
+          let x = header_length b in let u : State = record s { index = x } in
           run_plain p n (LoadIndirect width) at c u ∙ into_any (field p ((x + at) % 2 ^ 32) width) c u f
           (λ v e. h v x (ap (λ o. with (with o (λ y. Some (header_length y))) (λ y. field p ((y + at) % 2 ^ 32) width)) is ∙ e))
 
@@ -110,10 +107,8 @@ module _ (p : List ℕ) (n : ℕ) where
   base_runs : (at : ℕ) (w : Width) (c : List Insn) (slot v : ℕ) (s t : State) (f : ℕ → ℕ) → Keeps slot s t → t.accumulator ≡ v → GoesOn c slot s f
       → answer_of (emit_base at w c) p n 0 t ≡ Some (answer_for (field p ((at + v) % 2 ^ 32) w) f)
   base_runs at w c slot v s t f k e h =
-      let u : State = record t { index = t.accumulator } in
-      let place : t.accumulator + at ≡ at + v = omega (arith, e) in
-      run_plain p n CopyToIndex 0 (plain (LoadIndirect w) at ∷ c) t
-      ∙ run_plain p n (LoadIndirect w) at c u
+      let u : State = record t { index = t.accumulator } in let place : t.accumulator + at ≡ at + v = omega (arith, e) in
+      run_plain p n CopyToIndex 0 (plain (LoadIndirect w) at ∷ c) t ∙ run_plain p n (LoadIndirect w) at c u
       ∙ ap (λ b. answer_after (answer_of c p n) (into Accumulator (field p (b % 2 ^ 32) w) u)) place
       ∙ into_runs (field p ((at + v) % 2 ^ 32) w) c slot s u f (record { long = k.long; kept = k.kept }) h
 
@@ -133,13 +128,11 @@ module _ (p : List ℕ) (n : ℕ) where
           (answer_for (with (with (with q (λ b. Some (header_length b))) (λ x. Some (x + l))) (λ at. field p ((at + v) % 2 ^ 32) w)) f)
       by_header None = refl
       by_header (Some b) =
-          let x = header_length b in
-          let sum : (t.accumulator + x) % 2 ^ 32 ≡ (v + x) % 2 ^ 32 = ap (λ m. (m + x) % 2 ^ 32) e in
+          let x = header_length b in let sum : (t.accumulator + x) % 2 ^ 32 ≡ (v + x) % 2 ^ 32 = ap (λ m. (m + x) % 2 ^ 32) e in
           let place : (l + (v + x) % 2 ^ 32) % 2 ^ 32 ≡ (x + l + v) % 2 ^ 32 = omega arith in
           run_operator Add IndexRegister 0 (emit_base l w c) (record t { index = x })
           ∙ base_runs l w c slot ((v + x) % 2 ^ 32) s (record t { accumulator = (t.accumulator + x) % 2 ^ 32; index = x }) f
-          (record { long = k.long; kept = k.kept }) sum h
-          ∙ ap (λ at. Some (answer_for (field p at w) f)) place
+          (record { long = k.long; kept = k.kept }) sum h ∙ ap (λ at. Some (answer_for (field p at w) f)) place
 
   accessor_runs : (link : Link) (protocol : Protocol) (w : Width) (c : List Insn) (slot v : ℕ) (s t : State) (f : ℕ → ℕ) → Keeps slot s t
       → t.accumulator ≡ v → GoesOn c slot s f → answer_of (emit_accessor link protocol w c) p n 0 t ≡ Some
@@ -173,20 +166,12 @@ module _ (p : List ℕ) (n : ℕ) where
       → answer_of c p n 0 u ≡ Some (f y)) → answer_of (plain (Store Accumulator) slot ∷ emit_number link r (slot + 1) (emit_operands slot c)) p n 0
       t ≡ Some (answer_for (number link r p n) f)
   operands_run link r slot x c s t f few k e right h =
-      run_store slot (emit_number link r (slot + 1) (emit_operands slot c)) t inside
-      ∙ right stored f (omega (arith, length-set {A = ℕ}, k.long)) (λ y u j g.
+      let inside : slot < length t.memory = omega (arith, few, k.long) in let stored : State = record t { memory = slice_set t.memory slot t.accumulator } in
+      run_store slot (emit_number link r (slot + 1) (emit_operands slot c)) t inside ∙ right stored f (omega (arith, length-set {A = ℕ}, k.long)) (λ y u j g.
       let word : slice_get u.memory slot ≡ Some x = j.kept slot (omega arith) ∙ get_set_same t.memory slot t.accumulator inside ∙ ap Some e in
-      run_plain p n CopyToIndex 0 (plain (Load Accumulator Memory) slot ∷ c) u
-      ∙ run_word slot x c (record u { index = u.accumulator }) word
+      run_plain p n CopyToIndex 0 (plain (Load Accumulator Memory) slot ∷ c) u ∙ run_word slot x c (record u { index = u.accumulator }) word
       ∙ h y (record { accumulator = x; index = u.accumulator; memory = u.memory })
-      (record { long = j.long; kept = λ i l. j.kept i (omega arith) ∙ get_set_below t.memory slot i t.accumulator l inside ∙ k.kept i l })
-      refl g)
-    where
-      inside : slot < length t.memory
-      inside = omega (arith, few, k.long)
-
-      stored : State
-      stored = record t { memory = slice_set t.memory slot t.accumulator }
+      (record { long = j.long; kept = λ i l. j.kept i (omega arith) ∙ get_set_below t.memory slot i t.accumulator l inside ∙ k.kept i l }) refl g)
 
   pub number_runs : (link : Link) (e : NumberTree) (slot : ℕ) (c : List Insn) → slot + number_words e ≤ 16 → Runs link e slot c
   number_runs link (literal k) slot c few = λ s f long h. run_plain p n (Load Accumulator Immediate) k c s ∙ h k (record s { accumulator = k })
@@ -199,8 +184,7 @@ module _ (p : List ℕ) (n : ℕ) where
       λ s f long h. by_operand (λ b. answer_of b p n 0 s ≡ Some (answer_for (number link (load protocol size i) p n) f)) (constant i) _ _
       (λ k is. indexed_runs link protocol (width_of size) c slot k s f (record { long = long; kept = λ j l. refl }) h
       ∙ ap (λ o. Some (answer_for (with o (λ v. with (base link protocol p) (λ at. field p ((at + v) % 2 ^ 32) (width_of size)))) f))
-      (sym (constant_is link i k is)))
-      (number_runs link i slot (emit_accessor link protocol (width_of size) c) few s _ long
+      (sym (constant_is link i k is))) (number_runs link i slot (emit_accessor link protocol (width_of size) c) few s _ long
       (λ v t k e. accessor_runs link protocol (width_of size) c slot v s t f k e h)
       ∙ ap Some (for_with (number link i p n) (λ v. with (base link protocol p) (λ at. field p ((at + v) % 2 ^ 32) (width_of size))) f))
   number_runs link (negated a) slot c few =
@@ -211,15 +195,11 @@ module _ (p : List ℕ) (n : ℕ) where
   number_runs link (applied operator l r) slot c few =
       λ s f long h. number_runs link l slot _ (omega arith) s (λ x. answer_for (with (number link r p n) (λ y. result_of operator x y)) f) long
       (λ x t k e. by_operand (λ d. answer_of d p n 0 t ≡ Some (answer_for (with (number link r p n) (λ y. result_of operator x y)) f))
-      (constant_operand operator r) _ _
-      (λ j is. run_operator operator Constant j c t
-      ∙ ap (λ a. answer_after (answer_of c p n) (into Accumulator (result_of operator a j) t)) e
-      ∙ into_runs (result_of operator x j) c slot s t f k h
+      (constant_operand operator r) _ _ (λ j is. run_operator operator Constant j c t
+      ∙ ap (λ a. answer_after (answer_of c p n) (into Accumulator (result_of operator a j) t)) e ∙ into_runs (result_of operator x j) c slot s t f k h
       ∙ ap (λ o. Some (answer_for (with o (λ y. result_of operator x y)) f)) (sym (constant_is link r j (operand_is operator r j is).is)))
       (operands_run link r slot x (plain (computation operator IndexRegister) 0 ∷ c) s t (λ y. answer_for (result_of operator x y) f) (omega arith) k
-      e (number_runs link r (slot + 1) _ (omega arith))
-      (λ y u j g i. run_operator operator IndexRegister 0 c u
-      ∙ ap₂ (λ a b. answer_after (answer_of c p n) (into Accumulator (result_of operator a b) u)) g i
-      ∙ into_runs (result_of operator x y) c slot s u f j h)
+      e (number_runs link r (slot + 1) _ (omega arith)) (λ y u j g i. run_operator operator IndexRegister 0 c u
+      ∙ ap₂ (λ a b. answer_after (answer_of c p n) (into Accumulator (result_of operator a b) u)) g i ∙ into_runs (result_of operator x y) c slot s u f j h)
       ∙ ap Some (for_with (number link r p n) (λ y. result_of operator x y) f)))
       ∙ ap Some (for_with (number link l p n) (λ x. with (number link r p n) (λ y. result_of operator x y)) f)

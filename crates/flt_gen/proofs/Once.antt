@@ -1,10 +1,8 @@
--- The tests of a protocol's accessors stand once: the formula reads the same, and has no more
--- tests.
+-- The tests of a protocol's accessors stand once: the formula reads the same, and has no more tests.
 use Rattle.flt_gen.proofs.Common.{◌≡◌, ℕ, ◌+◌, ◌≤◌, List, [], ◌∷◌, refl, sym, ap, ◌∙◌, arith, Comparison, Protocol, NumberTree, load, negated, applied}
 use Rattle.flt_gen.proofs.Common.{compared, accessor_test_count, number_tests, truth_tests, Link, Elementary, MatchResult, Yes, elementary_reads, accessors}
 use Rattle.flt_gen.proofs.Common.{accessor_tests, Formula, Compare, both, reads, guarded_formula, checked_formula, nodes, words, length, without_protocol}
-use Rattle.flt_gen.proofs.Common.{protocols_of, relation_formula, formula}
-use Rattle.flt_gen.proofs.Counted.{Sized, bare_within, bare_after}
+use Rattle.flt_gen.proofs.{Common.protocols_of, Common.relation_formula, Common.formula, Counted.Sized, Counted.bare_within, Counted.bare_after}
 
 -- tests in front of a formula add neither nodes nor words
 pub guarded_sizes : {f : Formula} {s w n : ℕ} (ts : List Elementary) → Sized f s w n → Sized (guarded_formula ts f) s w (length ts + n)
@@ -34,8 +32,7 @@ protocols_tests _ rest = omega arith
 pub relation_sizes : (link : Link) (c : Comparison) (l r : NumberTree) → Sized (relation_formula link c l r) (nodes (Compare c l r))
     (words (Compare c l r)) (truth_tests (compared c l r))
 relation_sizes link c l r =
-    let h = protocols_tests l (protocols_of r []) in
-    let k = protocols_tests r [] in
+    let h = protocols_tests l (protocols_of r []) in let k = protocols_tests r [] in
     let one : Sized (Compare c l r) (nodes (Compare c l r)) (words (Compare c l r)) 1 =
     record { nodes_fit = omega arith; words_fit = omega arith; short_fit = omega arith; light_fit = omega arith } in
     bare_within _ (omega arith) (checked_sizes link (protocols_of l (protocols_of r [])) one)

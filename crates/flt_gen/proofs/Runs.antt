@@ -1,16 +1,14 @@
 -- The code of a formula goes on where the formula's reading says.
-use Rattle.flt_gen.specs.Formula.{choose, Formula, Single, Compare, Both, Either, Except, Split, relation_reads, both, either, reads}
-use Rattle.flt_gen.proofs.Ascending.{if_case}
 use Rattle.flt_gen.proofs.Common.{◌≡◌, ℕ, ◌+◌, ◌-◌, ◌≤◌, List, length, Bool, true, false, Option, Some, None, refl, sym, ap, ap₂, ◌∙◌, arith, nat_le, nat_lt}
 use Rattle.flt_gen.proofs.Common.{◌==◌, not, ◌&&◌, if◌then◌else◌, bit_and, nat_tests, and_parts, Insn, State, Width, Test, Operand, Constant, IndexRegister}
 use Rattle.flt_gen.proofs.Common.{Compute, JumpIf, answer_of, test_holds, operand_value, Comparison, Equal, NotEqual, Less, AtMost, Greater, AtLeast}
 use Rattle.flt_gen.proofs.Common.{number_words, NumberTree, Link, Offset, Elementary, Outcome, Field, FieldTest, MatchResult, Yes, No, Rejected, reading_of}
 use Rattle.flt_gen.proofs.Common.{with, compares, field_at, under_mask, field_reads, elementary_reads, number, constant, branch_insn, emit_test, emit_branch}
 use Rattle.flt_gen.proofs.Common.{emit_comparison, emit_field, emit_mask, emit_relation, emit_after, emit_formula, words, is_loaded, left_by, FieldPlace}
-use Rattle.flt_gen.proofs.Common.{same_offset, same_width, same_mask}
-use Rattle.flt_gen.proofs.Grows.{emitted_by}
+use Rattle.flt_gen.specs.Formula.{choose, Formula, Single, Compare, Both, Either, Except, Split, relation_reads, both, either, reads}
+use Rattle.flt_gen.proofs.{Ascending.if_case, Numbers.answer_for, Numbers.field_runs, Numbers.constant_is, Numbers.operands_run, Numbers.number_runs}
+use Rattle.flt_gen.proofs.{Common.same_offset, Common.same_width, Common.same_mask, Grows.emitted_by}
 use Rattle.flt_gen.proofs.Leads.{by_operand, run, run_plain, HasWords, Tops, Leads, leads_top, leads_on, leads_in, leads_to}
-use Rattle.flt_gen.proofs.Numbers.{answer_for, field_runs, constant_is, operands_run, number_runs}
 use Rattle.flt_bpf.specs.declared.operation.AluOperation.{AluOperation}
 
 -- one of two answers, by a reading; a rejected one ends the run with 0
@@ -74,8 +72,7 @@ module _ (p : List ℕ) (n : ℕ) where
   branch_tops t operand k a b hit miss v w c e f h m =
       λ s q. run p n (JumpIf t operand) (branch_insn t operand k (length c - hit) (length c - miss)) c s refl
       ∙ two_ways c (length c - hit) (length c - miss) v w s (test_holds t s.accumulator (operand_value operand k s.index)) (h.by s q) (m.by s q)
-      ∙ ap (λ x. Some (if test_holds t x (operand_value operand k s.index) then v else w)) (e s q)
-      ∙ ap (λ y. Some (if test_holds t a y then v else w)) (f s q)
+      ∙ ap (λ x. Some (if test_holds t x (operand_value operand k s.index) then v else w)) (e s q) ∙ ap (λ y. Some (if test_holds t a y then v else w)) (f s q)
 
   -- the machine's three tests and the six comparisons
   comparison_tops : {P : State → Type 0} (comparison : Comparison) (operand : Operand) (k a b hit miss v w : ℕ) (c : List Insn)
@@ -128,29 +125,23 @@ module _ (p : List ℕ) (n : ℕ) where
   masked_tops : (mask : Option ℕ) (c : List Insn) (x v : ℕ) → Tops p n (Has (under_mask mask x)) c v → Tops p n (Has x) (emit_mask mask c) v
   masked_tops None c x v h = h
   masked_tops (Some m) c x v h =
-      λ s q. run_plain p n (Compute AluOperation.And Constant) m c s ∙ h (record s { accumulator = bit_and s.accumulator m })
-      (q.0, ap (λ y. bit_and y m) q.1)
+      λ s q. run_plain p n (Compute AluOperation.And Constant) m c s ∙ h (record s { accumulator = bit_and s.accumulator m }) (q.0, ap (λ y. bit_and y m) q.1)
 
   -- a field is loaded and asked for; where there is none the run ends with 0
   test_leads : (held : Option FieldPlace) (t : Elementary) (hit miss v w : ℕ) (c : List Insn) → Leads p n (After (left_by t)) c hit v
-      → Leads p n (After (left_by t)) c miss w
-      → let e = emit_test held t hit miss c in Leads p n (After held) e.code e.entry (pick (elementary_reads t p) v w)
+      → Leads p n (After (left_by t)) c miss w → let e = emit_test held t hit miss c in Leads p n (After held) e.code e.entry (pick (elementary_reads t p) v w)
   test_leads held (Outcome true) hit miss v w c h m = leads_in p n (λ s q. (q.0, tt)) h
   test_leads held (Outcome false) hit miss v w c h m = leads_in p n (λ s q. (q.0, tt)) m
   test_leads held (Field t) hit miss v w c h m =
-      if_case (λ (d : List Insn). Leads p n (After held) d (length d) (pick (field_reads t p) v w)) (is_loaded held t) _ _
-      (λ e. leads_top p n d _ (λ s q.
+      let d = emit_comparison t.comparison Constant t.value hit miss c in
+      if_case (λ (d : List Insn). Leads p n (After held) d (length d) (pick (field_reads t p) v w)) (is_loaded held t) _ _ (λ e. leads_top p n d _ (λ s q.
       let k = still_held held t s e q.1 in
-      compared_tops t k.0 hit miss v w c k.1.0 h m s (q.0, k.1.1)
-      ∙ ap Some (picked (passes t k.0) v w)
+      compared_tops t k.0 hit miss v w c k.1.0 h m s (q.0, k.1.1) ∙ ap Some (picked (passes t k.0) v w)
       ∙ ap (λ o. Some (pick (reading_of (with o (λ y. Some (passes t y)))) v w)) (sym k.1.0)))
       (λ e. leads_top p n (emit_field t.offset t.width (emit_mask t.mask d)) _ (λ s q.
       field_runs p n t.offset t.width (emit_mask t.mask d) s (λ x. if passes t x then v else w)
       (λ x i f. masked_tops t.mask d x _ (compared_tops t x hit miss v w c f h m) (record s { accumulator = x; index = i }) (q.0, refl))
       ∙ ap Some (for_test (field_at t.offset t.width p) (passes t) v w)))
-    where
-      d : List Insn
-      d = emit_comparison t.comparison Constant t.value hit miss c
 
   -- a relation: the test of both numbers, or of one and a constant
   relation_picks : (o : Option ℕ) (b : ℕ → ℕ → Bool) (q : Option ℕ) (v w : ℕ)
@@ -165,14 +156,12 @@ module _ (p : List ℕ) (n : ℕ) where
       (λ x t k e. by_operand (λ d. answer_of d p n 0 t ≡ Some (pick (reading_of (with (number link r p n) (λ y. Some (compares comparison x y)))) v
       w)) (constant r) _ _
       (λ j is. comparison_tops {P = Has x} comparison Constant j x j hit miss v w c (λ u q. q.1) (λ u q. refl) (leads_in p n (λ u q. q.0) h)
-      (leads_in p n (λ u q. q.0) m) t (k.long, e)
-      ∙ ap Some (picked (compares comparison x j) v w)
+      (leads_in p n (λ u q. q.0) m) t (k.long, e) ∙ ap Some (picked (compares comparison x j) v w)
       ∙ ap (λ o. Some (pick (reading_of (with o (λ y. Some (compares comparison x y)))) v w)) (sym (constant_is p n link r j is)))
       (operands_run p n link r 0 x (emit_comparison comparison IndexRegister 0 hit miss c) s t (λ y. if compares comparison x y then v else w)
       (omega arith) k e (number_runs p n link r 1 _ few_r)
       (λ y u j g i. comparison_tops {P = HasBoth x y} comparison IndexRegister 0 x y hit miss v w c (λ z q. q.1) (λ z q. q.2)
-      (leads_in p n (λ z q. q.0) h) (leads_in p n (λ z q. q.0) m) u (j.long, g, i))
-      ∙ ap Some (for_test (number link r p n) (compares comparison x) v w)))
+      (leads_in p n (λ z q. q.0) h) (leads_in p n (λ z q. q.0) m) u (j.long, g, i)) ∙ ap Some (for_test (number link r p n) (compares comparison x) v w)))
       ∙ ap Some (relation_picks (number link l p n) (compares comparison) (number link r p n) v w)
 
   -- code that is entered anyhow, or with nothing in A
@@ -201,12 +190,9 @@ module _ (p : List ℕ) (n : ℕ) where
       (by_itself (emitted_after None link a hit e.entry v (pick (reads link b p n) v w) e.code (omega arith)
       (leads_on p n (emitted_by false None link b hit miss c (omega arith) tt tt tt).grows.tail h)
       (by_itself (emitted_after None link b hit miss v w c (omega arith) h m)))))
-  emitted_after held link (Except a) hit miss v w c few h m =
-      grind (arith, anyhow, leads_to, by_itself, emitted_after None link a miss hit w v c few m h)
+  emitted_after held link (Except a) hit miss v w c few h m = grind (arith, anyhow, leads_to, by_itself, emitted_after None link a miss hit w v c few m h)
   emitted_after held link (Split t a b) hit miss v w c few h m =
-      let left = left_by t in
-      let no = emit_after left link b hit miss c in
-      let yes = emit_after left link a hit miss no.code in
+      let left = left_by t in let no = emit_after left link b hit miss c in let yes = emit_after left link a hit miss no.code in
       let grown = (emitted_by false left link b hit miss c (omega arith) tt tt tt).grows.tail in
       leads_to p n (pick_chosen (elementary_reads t p) (reads link a p n) (reads link b p n) v w)
       (test_leads held t yes.entry no.entry (pick (reads link a p n) v w) (pick (reads link b p n) v w) yes.code

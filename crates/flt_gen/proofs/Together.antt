@@ -1,21 +1,18 @@
 -- Addresses or ports that are looked for together read as one after the other.
-use Rattle.flt_gen.proofs.Ascending.{if_case, Each, Ordered, within_joined, is_in, is_within, Ready}
 use Rattle.flt_gen.proofs.Common.{◌≡◌, ℕ, ◌+◌, ◌*◌, ◌^◌, ◌%◌, ◌<◌, ◌≤◌, List, [], ◌∷◌, map, Bool, true, false, Option, Some, None, refl, ap, ap₂, ◌-◌, ◌∙◌}
 use Rattle.flt_gen.proofs.Common.{arith, inl, inr, ◌==◌, ◌||◌, ◌&&◌, nat_le, min, max, bit_and, nat_tests, and_parts, or-false, Protocol, Ip, Tcp, Udp}
 use Rattle.flt_gen.proofs.Common.{ValueType, Numbers, Host, Net, Port, PortRange, Source, Destination, And, Or, Direction, CompleteQualifiers, Value}
 use Rattle.flt_gen.proofs.Common.{first_bits, HalfWord, Offset, Link, FrameKind, Elementary, Interval, Sides, Transport, MatchResult, Yes, No, field_at}
 use Rattle.flt_gen.proofs.Common.{under_mask, kind_test, elementary_reads, Formula, sought_formula, most_in_turn, both, either, all_of, sides, reads, address_places}
 use Rattle.flt_gen.proofs.Common.{partial_mask, port_is, port_between, port_places, in_net, hosts_formula, ip_transport, ip6_transport, port_formula}
+use Rattle.flt_gen.proofs.Ascending.{if_case, Each, Ordered, within_joined, is_in, is_within, Ready}
 use Rattle.flt_gen.proofs.Common.{value_formula, joined_all, left_out, high_mask, cut, sought, has_addresses, net_numbers, member_of, several_formula}
-use Rattle.flt_gen.proofs.Exclusive.{or_no, both_either}
-use Rattle.flt_gen.proofs.Firsts.{Known}
-use Rattle.flt_gen.proofs.Prefixes.{Idle, idle_sought, Small, cut_in, cut_within, net_hit}
-use Rattle.flt_gen.proofs.{Runs.one_number, Search.Merged, Search.read_by, Search.sides_read, Search.sought_read}
-use Rattle.std.specs.Prelude.{◌⊎◌, count_ones}
-use Rattle.std.proofs.Math.Nat.{mod-lt}
-use Rattle.flt_ast.specs.Counts as count
+use Rattle.flt_gen.proofs.{Exclusive.or_no, Exclusive.both_either, Search.Merged, Search.read_by, Search.sides_read, Search.sought_read, Firsts.Known}
+use Rattle.flt_gen.proofs.{Prefixes.idle_sought, Prefixes.Small, Prefixes.cut_in, Prefixes.cut_within, Prefixes.net_hit, Runs.one_number}
+use Rattle.std.{specs.Prelude.◌⊎◌, specs.Prelude.count_ones, proofs.Math.Nat.mod-lt}
 use Rattle.flt_ast.specs.Nets.{ip4_mask}
 use Rattle.flt_gen.specs.inside.Group.{is_prefix}
+use Rattle.flt_ast.specs.Counts as count
 use Rattle.flt_gen.specs.declared.elementary.FrameKind.TheVariants as kind
 
 -- the fields of these sides fit the masks that numbers may have
@@ -145,8 +142,7 @@ module _ (link : Link) (p : List ℕ) (n : ℕ) where
   hit i x = is_in x i
 
   abbrev pub members_read : Bool → Option Protocol → Direction → Interval → List Interval → MatchResult
-  members_read k protocol d m ms =
-      by_sides k protocol (λ at. sides_read d (source_of at) (destination_of at) (hit m) (λ x. is_within x (m ∷ ms)))
+  members_read k protocol d m ms = by_sides k protocol (λ at. sides_read d (source_of at) (destination_of at) (hit m) (λ x. is_within x (m ∷ ms)))
 
   abbrev pub member_reads : Bool → Option Protocol → Direction → Interval → MatchResult
   member_reads k protocol d m = by_sides k protocol (λ at. plain_reads d (source_of at) (destination_of at) (hit m))
@@ -169,27 +165,16 @@ module _ (link : Link) (p : List ℕ) (n : ℕ) where
 
     sides_are : (few : ℕ) (at : Sides) → Fitting b at → Ready link at (sought b m all) → told_at (asked few) at ≡ sides_read q.direction (source_of at) (destination_of at)
         (hit m) (λ x. is_within x (m ∷ ms))
-    sides_are few at fit ready = sought_read link p n at (sought b m all) ready few q.direction h
+    sides_are few at fit ready =
+        let last = left_out b m (joined_all all) in let idle = idle_sought b m (joined_all all) in let u : ℕ → ℕ = λ x. under_mask (high_mask last) x in
+        let small : (x : ℕ) → (source_of at ≡ Some x) ⊎ (destination_of at ≡ Some x) → Small last x = fitting_small b at m (joined_all all) fit p in
+        let one : (x : ℕ) → Small last x → is_within (u x) (cut last m ∷ []) ≡ hit m x =
+        λ x l. or-false (is_in (u x) (cut last m)) ∙ cut_in last x m m (joined_all all) idle idle.first_aligned l in
+        let some : (x : ℕ) → Small last x → is_within (u x) (map (cut last) (joined_all all)) ≡ is_within x (m ∷ ms) =
+        λ x l. cut_within last x m (joined_all all) idle l ∙ within_joined x all o ∙ w x in
+        sought_read link p n at (sought b m all) ready few q.direction h
         ∙ sides_seen q.direction (source_of at) (destination_of at) _ _ _ _ (λ x e. one x (small x (inl e)))
         (λ x e. one x (small x (inr e))) (λ x e. some x (small x (inl e))) (λ x e. some x (small x (inr e)))
-      where
-        last : ℕ
-        last = left_out b m (joined_all all)
-
-        idle : Idle last m (joined_all all)
-        idle = idle_sought b m (joined_all all)
-
-        u : ℕ → ℕ
-        u x = under_mask (high_mask last) x
-
-        small : (x : ℕ) → (source_of at ≡ Some x) ⊎ (destination_of at ≡ Some x) → Small last x
-        small x e = fitting_small b at m (joined_all all) fit p x e
-
-        one : (x : ℕ) → Small last x → is_within (u x) (cut last m ∷ []) ≡ hit m x
-        one x l = or-false (is_in (u x) (cut last m)) ∙ cut_in last x m m (joined_all all) idle idle.first_aligned l
-
-        some : (x : ℕ) → Small last x → is_within (u x) (map (cut last) (joined_all all)) ≡ is_within x (m ∷ ms)
-        some x l = cut_within last x m (joined_all all) idle l ∙ within_joined x all o ∙ w x
 
     several_hosts : ((k : FrameKind) → Ready link (address_places link k) (sought b m all)) → reads link (hosts_formula link q.protocol
         (asked (most_in_turn q.protocol (sought b m all).first))) p n ≡ members_read true q.protocol q.direction m ms
@@ -235,14 +220,12 @@ module _ (link : Link) (p : List ℕ) (n : ℕ) where
 
   net_row : (protocol : Option Protocol) (d : Direction) (mask a : ℕ) → Each (net_numbers (record { address = a; mask = mask })) (IsNet protocol d mask a)
   net_row protocol d mask a =
-      if_case (λ o. Each o (IsNet protocol d mask a)) (is_prefix mask && bit_and a mask == a) _ _
-      (λ t.
+      if_case (λ o. Each o (IsNet protocol d mask a)) (is_prefix mask && bit_and a mask == a) _ _ (λ t.
       let h = and_parts (is_prefix mask) (bit_and a mask == a) t in
       let first : mask ≡ first_bits 32 (count_ones mask) = (let u = h.0 in let v : mask + 2 ^ (32 - count_ones mask) ≡ 2 ^ 32 = grind
       (arith, nat_tests) in omega arith) in
       let under : bit_and a mask ≡ a = (let u = h.1 in grind (arith, nat_tests)) in
-      (omega arith, omega arith, address_row protocol d (partial_mask mask) a _ (λ x s. prefix_hit mask (count_ones mask) a x first under s)))
-      (λ t. tt)
+      (omega arith, omega arith, address_row protocol d (partial_mask mask) a _ (λ x s. prefix_hit mask (count_ones mask) a x first under s))) (λ t. tt)
 
   pub member_is : (k : ValueType) (protocol : Option Protocol) (d : Direction) (v : Value) → Each (member_of k v) (IsMember k protocol d v)
   member_is Host protocol d (Value.Dotted x z) = grind (arith, address_row, one_number)

@@ -1,11 +1,10 @@
--- The last of the nodes that are left are emitted, one or several at once: what is left to do then
--- leads to the same walk.
+-- The last of the nodes that are left are emitted, one or several at once: what is left to do then leads to the same walk.
 use Rattle.flt_gen.proofs.Common.{◌++◌, drop, length-drop, zero, ◌<◌, Check, length-take, ◌≡◌, ℕ, ◌-◌, List, [], ◌∷◌, length, take, get_or, suc, ◌≤◌, Some}
 use Rattle.flt_gen.proofs.Common.{None, Entry, Equal, Ether, sym, ap, ◌∙◌, arith, reverse, take-suc, reverse-append, Node, Link, Walk, emit_node}
-use Rattle.flt_gen.proofs.Common.{emit_both_nodes, or_walk, emit_nodes}
-use Rattle.flt_gen.specs.inside.{Relations.relation, Relations.relation_in, Walk.emit_member}
-use Rattle.std.proofs.Math.Seq.{drop-append_seam}
-use Rattle.std.proofs.lemmas.List.{take_all, take-append-drop, length-reverse}
+use Rattle.flt_gen.proofs.Common.{emit_both_nodes, emit_nodes, unwrap_or, ◌+◌, add-one, Insn, Protocol, accessor_tests, block, emit_all, emit_accessor_tests}
+use Rattle.flt_gen.proofs.Common.{rows_formula}
+use Rattle.flt_gen.specs.inside.{Relations.relation, Relations.relation_in, Group.entry_formula, Code.emit_formula, Walk.emit_member}
+use Rattle.std.proofs.{Math.Seq.drop-append_seam, lemmas.List.take_all, lemmas.List.take-append-drop, lemmas.List.length-reverse}
 
 -- what is left of a list, turned round
 pub reverse_taken : {A : Type 0} (xs : List A) (e : ℕ) → reverse (take e xs) ≡ drop (length (reverse xs) - e) (reverse xs)
@@ -29,8 +28,8 @@ both_walked : (link : Link) (w v : Walk) (n m : Node) (ns : List Node) → relat
     → emit_nodes link w (n ∷ m ∷ ns) ≡ emit_nodes link v ns
 both_walked link w v (Node.Compare Equal) (Node.Literal k) (Node.Load p s ∷ Node.Literal i ∷ ns) none e = never _ (sym none)
 both_walked link w v (Node.Apply o) (Node.Literal k) ns none e = grind arith
-both_walked link w v (Node.Compare c) (Node.Literal k) ns none e = ap (λ x. emit_nodes link (or_walk x w) ns) e
-both_walked link w v (Node.Load p s) (Node.Literal k) ns none e = ap (λ x. emit_nodes link (or_walk x w) ns) e
+both_walked link w v (Node.Compare c) (Node.Literal k) ns none e = ap (λ x. emit_nodes link (unwrap_or x w) ns) e
+both_walked link w v (Node.Load p s) (Node.Literal k) ns none e = ap (λ x. emit_nodes link (unwrap_or x w) ns) e
 both_walked link w v _ _ ns none e = never v e
 
 one_walked : (link : Link) (w : Walk) (n m : Node) (ns : List Node) → emit_both_nodes link w n m ≡ None → emit_nodes link w (n ∷ m ∷ ns) ≡ emit_nodes
@@ -42,8 +41,7 @@ abbrev node : List Node → ℕ → Node
 node ns k = get_or ns k (Check Ether)
 
 one_put : (ns : List Node) (j i : ℕ) → j ≡ suc i → j ≤ length ns → reverse (take j ns) ≡ node ns i ∷ reverse (take i ns)
-one_put ns j i e within =
-    ap (λ k. reverse (take k ns)) e ∙ ap reverse (take-suc ns i (Check Ether) (omega arith)) ∙ reverse-append (take i ns) (node ns i ∷ [])
+one_put ns j i e within = ap (λ k. reverse (take k ns)) e ∙ ap reverse (take-suc ns i (Check Ether) (omega arith)) ∙ reverse-append (take i ns) (node ns i ∷ [])
 
 two_put : (ns : List Node) (j i h : ℕ) → j ≡ suc i → i ≡ suc h → j ≤ length ns → reverse (take j ns) ≡ node ns i ∷ node ns h ∷ reverse (take h ns)
 two_put ns j i h e f within = one_put ns j i e within ∙ ap (λ xs. node ns i ∷ xs) (one_put ns i h f (omega arith))
@@ -84,3 +82,22 @@ both_put link ns left w v some within none both = grind (arith, two_put, both_wa
 
 -- of what is left after each way to emit the last nodes
 pub ruleset node_steps = (first_put, node_put, both_put, relation_put)
+
+-- ---- tests of accessors and members of a group, one more at a time
+
+-- one more, and the last is the first
+turned : {A : Type 0} (xs : List A) (k : ℕ) (other : A) → k < length xs → reverse (take (k + 1) xs) ≡ get_or xs k other ∷ reverse (take k xs)
+turned xs k other l =
+    let taken : take (k + 1) xs ≡ take k xs ++ (get_or xs k other ∷ []) = ap (λ j. take j xs) (add-one k) ∙ take-suc xs k other l in
+    ap reverse taken ∙ reverse-append (take k xs) (get_or xs k other ∷ [])
+
+pub one_more : (link : Link) (ps : List Protocol) (k : ℕ) (other : Protocol) (hit miss : ℕ) (c : List Insn) → k < length ps → emit_accessor_tests link
+    (reverse (take (k + 1) ps)) hit miss c ≡ (let e = emit_accessor_tests link (reverse (take k ps)) hit miss c in
+    emit_all (accessor_tests link (get_or ps k other)) e.entry miss e.code)
+one_more link ps k other hit miss c l = ap (λ qs. emit_accessor_tests link qs hit miss c) (turned ps k other l)
+
+pub one_more_row : (link : Link) (es : List Entry) (k : ℕ) (other : Entry) (hit miss : ℕ) (c d d' : List Insn) (entry entry' : ℕ) → k < length es
+    → emit_formula link (rows_formula link (reverse (take k es))) hit miss c ≡ block d entry
+    → emit_formula link (entry_formula link (get_or es k other)) hit entry d ≡ block d' entry'
+    → emit_formula link (rows_formula link (reverse (take (k + 1) es))) hit miss c ≡ block d' entry'
+one_more_row link es k other hit miss c d d' entry entry' l h n = grind (arith, turned)

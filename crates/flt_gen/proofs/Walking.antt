@@ -1,16 +1,14 @@
 -- The walk over the nodes of a tree, the last first, puts the code of the tree's formula in front.
 use Rattle.flt_gen.proofs.Common.{arith, Formula, Both, Either, Except, Compare, checked_formula, ◌+◌, if◌then◌else◌, ◌≡◌, ℕ, List, [], ◌∷◌, Bool, Option, Some}
 use Rattle.flt_gen.proofs.Common.{None, with, Equal, refl, sym, ap, ◌∙◌, Insn, And, Or, Comparison, Node, Apply, Literal, Not, Constant, IndexRegister}
-use Rattle.flt_gen.proofs.Common.{Operator, formula, Group, no_group, larger_group, entry, choice, or_any, or_group, group_formula, grouped_formula, NumberTree}
-use Rattle.flt_gen.proofs.Common.{literal, len, named, load, negated, applied, TruthTree, qualified, compared, denied, joined, Expression, empty, truth}
-use Rattle.flt_gen.proofs.Common.{number_onto, truth_onto, expr_onto, Link, Entry, protocols_of, relation_formula, Protocol, plain, computation, takes_constant}
-use Rattle.flt_gen.proofs.Common.{emit_comparison, emit_operands, constant_or, Store, Accumulator, emit_number, Block, emit_formula, emit_accessor_tests}
-use Rattle.flt_gen.proofs.Common.{program_code, Walk, targets, finish_truth, finish_number, with_insns, finish_formula, flush_members, flush_group}
-use Rattle.flt_gen.proofs.Common.{emit_truth_node, emit_node, or_walk, start_walk, insns_of, emit_nodes}
-use Rattle.flt_gen.proofs.Decision.{guarded_emitted}
+use Rattle.flt_gen.proofs.Common.{Operator, formula, Group, no_group, larger_group, or_any, or_group, group_formula, grouped_formula, NumberTree, literal, len}
+use Rattle.flt_gen.proofs.Common.{named, load, negated, applied, TruthTree, qualified, compared, denied, joined, Expression, empty, truth, number_onto}
+use Rattle.flt_gen.proofs.Common.{truth_onto, expr_onto, Link, Entry, protocols_of, relation_formula, Protocol, plain, computation, takes_constant}
+use Rattle.flt_gen.proofs.Common.{emit_comparison, emit_operands, Store, Accumulator, emit_number, Block, emit_formula, emit_accessor_tests, program_code, Walk}
+use Rattle.flt_gen.proofs.Common.{targets, finish_truth, finish_number, with_insns, finish_formula, flush_members, flush_group, emit_truth_node, emit_node}
+use Rattle.flt_gen.proofs.{Common.start_walk, Common.insns_of, Common.emit_nodes, Common.option_map_or, Common.unwrap_or, Common.true, Decision.guarded_emitted}
 use Rattle.flt_gen.specs.inside.Group.{is_empty, entry_formula, entry_of, leaf_formula}
-use Rattle.flt_gen.specs.inside.Relations.{relation_of}
-use Rattle.flt_gen.specs.inside.Walk.{others, emit_entry, emit_member, emit_apart}
+use Rattle.flt_gen.specs.inside.{Relations.relation_of, Walk.others, Walk.emit_entry, Walk.emit_member, Walk.emit_apart, Walk.finish_group}
 use Rattle.flt_gen.specs.declared.{code.Targets.Targets, waiting.LeftTruth.LeftTruth, waiting.Pending.Pending}
 
 -- the tests of accessors stand in front of the formula that they guard
@@ -26,10 +24,9 @@ with_number link a w = record w { code = emit_number link a w.slot w.code; acces
 -- an operator whose right operand is a constant, which its instruction may have or not
 constant_walked : (link : Link) (o : Operator) (k : ℕ) (a : NumberTree) (w : Walk) (d : List Node)
     → ((v : Walk) → emit_nodes link v (number_onto a d) ≡ emit_nodes link (finish_number link v.numbers (with_number link a v)) d) → (t : Bool)
-    → emit_nodes link (or_walk (if t then Some (with_insns (plain (computation o Constant) k ∷ w.code) w) else None)
-    (emit_node link (emit_node link w (Apply o)) (Literal k))) (number_onto a d) ≡ emit_nodes link
-    (finish_number link w.numbers (record w {
-      code = emit_number link a w.slot (constant_or (if t then Some k else None) (λ j. plain (computation o Constant) j ∷ w.code)
+    → emit_nodes link (unwrap_or (if t then Some (with_insns (plain (computation o Constant) k ∷ w.code) w) else None)
+    (emit_node link (emit_node link w (Apply o)) (Literal k))) (number_onto a d) ≡ emit_nodes link (finish_number link w.numbers (record w {
+      code = emit_number link a w.slot (option_map_or (λ j. plain (computation o Constant) j ∷ w.code) (if t then Some k else None)
           (plain (Store Accumulator) w.slot ∷ emit_number link (literal k) (w.slot + 1)
           (emit_operands w.slot (plain (computation o IndexRegister) 0 ∷ w.code))));
       accessors = protocols_of a w.accessors;
@@ -80,7 +77,7 @@ leaf_walked link f group c to ts d = grind (arith, settled)
 
 entry_walked : (link : Link) (e : Entry) (group : Group) (o : Option Group) (c : List Insn) (to : Targets) (ts : List LeftTruth) (d : List Node)
     → emit_nodes link (emit_entry link e (waiting c to ts group) o) d ≡ emit_nodes link
-    (emit_of link (choice o (group_formula link) (or_group link (entry_formula link e) group)) c to ts) d
+    (emit_of link (option_map_or (group_formula link) o (or_group link (entry_formula link e) group)) c to ts) d
 entry_walked link e group o c to ts d = grind (arith, leaf_walked)
 
 -- a comparison after the group that waits: a constant that is its right operand is in the test
@@ -100,8 +97,7 @@ relation_walked link k a b c to ts d =
     both b ∙ ap (λ (e : Block). emit_nodes link (finish_truth e (between c to ts)) d)
     (sym (checked_emitted link (protocols_of a (protocols_of b [])) (Compare k a b) to.yes to.no c))
   where
-    both : (r : NumberTree) → comparison_walked link k r (between c to ts) (number_onto a d) ≡
-        (let e = emit_formula link (Compare k a r) to.yes to.no c in
+    both : (r : NumberTree) → comparison_walked link k r (between c to ts) (number_onto a d) ≡ (let e = emit_formula link (Compare k a r) to.yes to.no c in
         emit_nodes link (finish_truth (emit_accessor_tests link (protocols_of a (protocols_of r [])) e.entry to.no e.code) (between c to ts)) d)
     both (literal j) = number_walked link a _ d
     both (named j) = number_walked link a _ d
@@ -115,7 +111,7 @@ member_is x e link w d is = (let same : x ≡ e = cc in ap (λ y. emit_nodes lin
 
 entry_nodes : (link : Link) (b : TruthTree) (e : Entry) (w : Walk) (d : List Node) → entry_of b ≡ Some e → emit_nodes link w (truth_onto b d) ≡
     emit_nodes link (emit_member link e w) d
-entry_nodes link (qualified q v) e w d is = member_is (entry q v) e link w d is
+entry_nodes link (qualified q v) e w d is = member_is (Entry.Value q v) e link w d is
 entry_nodes link (compared Equal (load p s (literal i)) (literal j)) e w d is = member_is _ e link w d is
 entry_nodes link (compared _ _ _) e w d is = cc
 entry_nodes link _ e w d is = cc
@@ -160,7 +156,7 @@ flushed_group link w none = grind arith
 module _ (link : Link) (a b : TruthTree) (ha : (more : Group) → Walks link a more) (hb : (more : Group) → Walks link b more) (ts : List LeftTruth)
     (d : List Node) where
   abbrev either : Group → Option Group → Option Group → Formula
-  either group o p = choice o (λ more. grouped_formula link more a) (choice p (λ new. or_group link (grouped_formula link new a) group)
+  either group o p = option_map_or (λ more. grouped_formula link more a) o (option_map_or (λ new. or_group link (grouped_formula link new a) group) p
       (Either (grouped_formula link no_group a) (grouped_formula link group b)))
 
   begins : (group : Group) (c : List Insn) (to : Targets) → emit_nodes link (waiting c to (left_after_or to ∷ ts) group)
@@ -195,12 +191,11 @@ module _ (link : Link) (a b : TruthTree) (ha : (more : Group) → Walks link a m
       (larger_group e group) (larger_group e no_group) refl refl
 
 truth_walked : (link : Link) (a : TruthTree) (group : Group) → Walks link a group
-truth_walked link (qualified q v) group = entry_walked link (entry q v) group (larger_group (entry q v) group)
+truth_walked link (qualified q v) group = entry_walked link (Entry.Value q v) group (larger_group (Entry.Value q v) group)
 truth_walked link (compared k a b) group = compared_walked link k a b group (relation_of k a b) refl
 truth_walked link (denied a) group =
     λ c to ts d. settled link group Pending.Nothing ts (Except (grouped_formula link no_group a)) d
-    (λ w. emit_nodes link (emit_truth_node link w Not) (truth_onto a d)) (λ c to. truth_walked link a no_group c (targets to.no to.yes) ts d) c to
-    group.entries
+    (λ w. emit_nodes link (emit_truth_node link w Not) (truth_onto a d)) (λ c to. truth_walked link a no_group c (targets to.no to.yes) ts d) c to group.entries
 truth_walked link (joined And a b) group = grind (arith, settled, both_walked, truth_walked link a no_group, truth_walked link b no_group)
 truth_walked link (joined Or a b) group =
     λ c to ts d. either_walked link a b (λ more. truth_walked link a more) (λ more. truth_walked link b more) ts d group c to (entry_of b) refl
@@ -210,3 +205,31 @@ truth_walked link a group = leaf_walked link (formula link a) group
 pub expression_walked : (link : Link) (e : Expression) → insns_of (emit_nodes link start_walk (expr_onto e)) ≡ program_code link e
 expression_walked link empty = refl
 expression_walked link (truth a) = ap insns_of (truth_walked link a no_group start_walk.code start_walk.to [] [])
+
+-- ---- an entry that stands alone is emitted by itself, whether it may be a member or not
+
+one_formula : (link : Link) (e : Entry) (group : Group) → group.entries ≡ e ∷ [] → group_formula link group ≡ entry_formula link e
+one_formula link e group is = grind arith
+
+one_member : (e : Entry) (group more : Group) → group.entries ≡ [] → larger_group e group ≡ Some more → more.entries ≡ e ∷ []
+one_member e group more none some = grind arith
+
+none_of : (es : List Entry) → is_empty es ≡ true → es ≡ []
+none_of es no_entry = grind arith
+
+pub alone_emitted : (link : Link) (e : Entry) (w : Walk) → w.pending ≡ Pending.Nothing → is_empty w.group.entries ≡ true
+    → emit_entry link e w (larger_group e w.group) ≡ finish_formula link (entry_formula link e) (record w { group = no_group })
+alone_emitted link e w pending no_entry = by (larger_group e w.group) refl
+  where
+    none : w.group.entries ≡ []
+    none = none_of w.group.entries no_entry
+
+    v : Walk
+    v = record w { group = no_group }
+
+    flushed : flush_group link w ≡ v
+    flushed = grind arith
+
+    by : (o : Option Group) → larger_group e w.group ≡ o → emit_entry link e w o ≡ finish_formula link (entry_formula link e) v
+    by None is = ap (λ u. emit_apart link e u w.pending (larger_group e u.group)) flushed ∙ ap (λ p. emit_apart link e v p (larger_group e no_group)) pending
+    by (Some more) is = ap (finish_group link w more) pending ∙ ap (λ f. finish_formula link f v) (one_formula link e more (one_member e w.group more none is))

@@ -4,16 +4,10 @@ use Rattle.flt_gen.proofs.Common.{fold, length-drop, ◌≢◌, ◌↔◌, rever
 use Rattle.flt_gen.proofs.Common.{JUMP, HasNoJump, IsShort, start, valid_if_short, faultless_drop, ends_drop, answer_drop, machine_answers, Node, tests_of}
 use Rattle.flt_gen.proofs.Common.{nodes_of, words_of, bound_of, expr_nodes, is_unfilled, some_primitive, Expression, empty, truth, Link, MatchResult, Yes}
 use Rattle.flt_gen.proofs.Common.{IsProgramOf, short_bound_of, holds, with_folded, folded_expression, no_group, grouped_formula, returns_code, expression_code}
-use Rattle.flt_gen.proofs.Common.{program_code, emit_nodes, start_walk, insns_of}
-use Rattle.flt_gen.proofs.Folded.{expression_folded, nodes_folded}
-use Rattle.flt_gen.proofs.Grouping.{kept_none, grouped_stands}
-use Rattle.flt_gen.proofs.Exclusive.{or_no}
-use Rattle.flt_gen.proofs.Grows.{branches, Sound, none_by, FitsBy, more_by, emitted_by}
-use Rattle.flt_gen.proofs.Leads.{HasWords, Leads, leads_to}
-use Rattle.flt_gen.proofs.{Runs.pick, Runs.emitted_leads, Walking.expression_walked}
-use Rattle.flt_bpf.specs.Check.{fault_of}
-use Rattle.flt_bpf.specs.{Instructions.operation_of, Machine.step, Valid.IsValid}
-use Rattle.flt_bpf.proofs.Checking.{parts}
+use Rattle.flt_gen.proofs.{Common.program_code, Common.emit_nodes, Common.start_walk, Common.insns_of, Folded.expression_folded, Folded.nodes_folded}
+use Rattle.flt_gen.proofs.{Grouping.kept_none, Grouping.grouped_stands, Leads.HasWords, Leads.Leads, Leads.leads_to, Walking.expression_walked, Exclusive.or_no}
+use Rattle.flt_gen.proofs.{Grows.branches, Grows.Sound, Grows.none_by, Grows.FitsBy, Grows.more_by, Grows.emitted_by, Runs.pick, Runs.emitted_leads}
+use Rattle.flt_bpf.{specs.Check.fault_of, specs.Instructions.operation_of, specs.Valid.IsValid, specs.Machine.step, proofs.Checking.parts}
 use Rattle.flt_gen.specs.inside.Round.{IsRound}
 use Rattle.flt_short.proofs.Likeness.{met_of}
 
@@ -57,8 +51,7 @@ fits link empty filled few = grind (arith, more_by, none_by, returns_sound)
 fits link (truth a) filled few =
     let s = grouped_stands link a no_group kept_none filled in
     more_by true _ _ (omega (arith, s.short_fit, s.nodes_fit)) (omega (arith, s.light_fit, s.nodes_fit))
-    (emitted_by true None link (grouped_formula link no_group a) 2 1 returns_code (omega (arith, s.words_fit)) returns_sound
-    (omega arith) (omega arith))
+    (emitted_by true None link (grouped_formula link no_group a) 2 1 returns_code (omega (arith, s.words_fit)) returns_sound (omega arith) (omega arith))
 
 leads : (link : Link) (e : Expression) → some_primitive is_unfilled e ≡ false → words_of e ≤ 16 → (p : List ℕ) (n : ℕ)
     → Leads p n HasWords (expression_code link e).code (expression_code link e).entry (pick (holds e link p n) 262144 0)
@@ -66,8 +59,7 @@ leads link empty filled few p n = (returns_lead p n).0
 leads link (truth a) filled few p n =
     let s = grouped_stands link a no_group kept_none filled in
     leads_to p n (ap (λ r. pick r 262144 0) (s.reads_are p n ∙ or_no _))
-    (emitted_leads p n link (grouped_formula link no_group a) 2 1 262144 0 returns_code (omega (arith, s.words_fit)) (returns_lead p n).0
-    (returns_lead p n).1)
+    (emitted_leads p n link (grouped_formula link no_group a) 2 1 262144 0 returns_code (omega (arith, s.words_fit)) (returns_lead p n).0 (returns_lead p n).1)
 
 -- what is left of code
 branches_drop : (c : List Insn) (k : ℕ) → branches (drop k c) ≤ branches c
@@ -76,10 +68,7 @@ branches_drop c k =
 
 program_made : (link : Link) (e : Expression) → some_primitive is_unfilled e ≡ false → words_of e ≤ 16 → IsMadeOf (program_code link e) e link
 program_made link e filled few =
-    let x = expression_code link e in
-    let k = length x.code - x.entry in
-    let f = fits link e filled few in
-    let g = f.grows in
+    let x = expression_code link e in let k = length x.code - x.entry in let f = fits link e filled few in let g = f.grows in
     record {
       is = record {
         no_jump = All-drop (λ i. i.code ≢ JUMP) k x.code g.sound.no_jump;
@@ -123,26 +112,21 @@ made : (link : Link) (e : Expression) (walked folded tree : List Node) (wide : L
     → walked ≡ folded → reverse folded ≡ fold with_folded [] tree → tree ≡ expr_nodes e
     → wide ≡ insns_of (emit_nodes link start_walk (reverse walked)) → IsMadeOf wide e link
 made link e walked folded tree wide filled few w f n c =
-    let d = folded_expression e in
-    let h = expression_folded e in
+    let same : wide ≡ program_code link (folded_expression e) = grind (arith, nodes_folded, expression_walked) in
+    let d = folded_expression e in let h = expression_folded e in
     let m = subst (λ code. IsMadeOf code d link) (sym same) (program_made link d (h.filled ∙ filled) (omega (arith, h.words))) in
     record { is = folded_code wide e link m.is; valid = m.valid }
-  where
-    same : wide ≡ program_code link (folded_expression e)
-    same = grind (arith, nodes_folded, expression_walked)
 
 -- after a round of the optimiser
 once_more : (link : Link) (e : Expression) (code short : List Insn) → bound_of e ≤ 32768 → IsRound short code → IsMadeOf code e link → IsMadeOf short e link
 once_more link e code short within r m =
-    let t = r.threads in
-    let s = r.shortens in
+    let t = r.threads in let s = r.shortens in
     let is = replaced_code r.moved code e link m.is (t.no_jump m.is.no_jump) (omega (arith, t.same_length)) (omega (arith, t.branches))
     (λ p n answer was. t.runs p n ∙ was) in
     let v = parts short (s.valid (valid_if_short r.moved (t.sound m.valid) (omega (arith, is.bounded)))) in
     record {
       is = replaced_code short r.moved e link is (s.no_jump is.no_jump) s.shorter s.fewer (λ p n answer i.
-          let was = machine_answers r.moved p n answer i in
-          let now = s.runs p n answer was.met was.answered in
+          let was = machine_answers r.moved p n answer i in let now = s.runs p n answer was.met was.answered in
           (met_of p n short (length short) 0 0 start answer now.count now.answered).answer);
       valid = record { faultless = v.faultless; ends = v.ends };
     }
@@ -161,8 +145,7 @@ pub laid_program : (new code : List Insn) (e : Expression) (link : Link)
 laid_program new code e link same at_most m = record {
   bounded = omega (arith, m.is.bounded);
   decides = λ p n.
-      let d = m.is.decides p n in
-      let r = machine_answers new p n d.answer (same p n ∙ d.answered) in
+      let d = m.is.decides p n in let r = machine_answers new p n d.answer (same p n ∙ d.answered) in
       record { answer = d.answer; count = r.met; answered = r.answered; upper_bound = omega (arith, r.upper_bound); right = d.right };
 }
 

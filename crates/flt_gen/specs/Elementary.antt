@@ -59,8 +59,7 @@ under_mask (Some mask) v = bit_and v mask
 -- what a test of a field reads
 abbrev pub field_reads : FieldTest → List ℕ → MatchResult
 field_reads t p =
-    reading_of
-    (with (field_at t.offset t.width p)
+    reading_of (with (field_at t.offset t.width p)
     (λ v. Some (compares t.comparison (under_mask t.mask v) t.value)))
 
 -- what an elementary test reads; what the link itself decides is the same for all packets

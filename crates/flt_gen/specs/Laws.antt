@@ -2,13 +2,12 @@
 use Rattle.std.specs.Int.Digits.{number_from_digits}
 use Rattle.std.specs.Prelude.{◌≡◌, ◌↔◌, ℕ, ◌-◌, ◌^◌, ◌<◌, Bool, true, false, List, All, map, Option, None, unwrap_or}
 use Rattle.flt_ast.specs.Nets.{ip6_mask}
-use Rattle.cap_octet.specs.{Link.link_type, Link.type_offset, NetworkHeader.network_header, declared.link.Link.Link}
+use Rattle.cap_octet.specs.{Link.link_type, Link.type_offset, NetworkHeader.network_header}
+use Rattle.cap_octet.specs.declared.{link.Link.Link, network.NetworkKind.NetworkKind}
 use Rattle.cap_octet.specs.declared.network.NetworkHeader.TheVariants.{Known, Short}
-use Rattle.cap_octet.specs.declared.network.NetworkKind.{NetworkKind}
 use Rattle.flt_gen.specs.Elementary.{Yes, Rejected, elementary_reads, kind_test}
-use Rattle.flt_gen.specs.Primitives.{ip6_tests}
+use Rattle.flt_gen.specs.{Primitives.ip6_tests, declared.elementary.FrameKind.FrameKind}
 use Rattle.flt_gen.specs.declared.elementary.Elementary.{Elementary, TheVariants.Outcome, TheVariants.Field}
-use Rattle.flt_gen.specs.declared.elementary.FrameKind.{FrameKind}
 
 -- the bits of a word that a test looks at
 abbrev pub word_mask : Elementary → ℕ

@@ -1,12 +1,11 @@
 -- The value of arithmetic on a packet.
 use Rattle.std.specs.Prelude.{ℕ, ◌+◌, ◌-◌, ◌*◌, ◌/◌, ◌%◌, ◌^◌, ◌==◌, nat_lt, if◌then◌else◌, List, [], ◌∷◌, Option, Some, None, bit_and, bit_or, bit_xor}
-use Rattle.cap_octet.specs.Assigned.{IPPROTO_ICMP, IPPROTO_TCP, IPPROTO_UDP}
-use Rattle.cap_octet.specs.{Link.network_offset, declared.link.Link.Link}
+use Rattle.flt_words.specs.declared.token.Operator.TheVariants.{Or, And, ShiftLeft, ShiftRight, Add, Subtract, Multiply, Divide, Remainder, ExclusiveOr}
+use Rattle.cap_octet.specs.{Assigned.IPPROTO_ICMP, Assigned.IPPROTO_TCP, Assigned.IPPROTO_UDP, declared.link.Link.Link}
+use Rattle.cap_octet.specs.Link.{network_offset}
 use Rattle.flt_bpf.specs.Machine.{field}
 use Rattle.flt_bpf.specs.declared.operation.Width.{Width, TheVariants.Word, TheVariants.HalfWord, TheVariants.Byte}
-use Rattle.flt_words.specs.declared.token.Operator.{Operator}
-use Rattle.flt_words.specs.declared.token.Operator.TheVariants.{Or, And, ShiftLeft, ShiftRight, Add, Subtract, Multiply, Divide, Remainder, ExclusiveOr}
-use Rattle.flt_words.specs.declared.token.Protocol.{Protocol}
+use Rattle.flt_words.specs.declared.token.{Operator.Operator, Protocol.Protocol}
 use Rattle.flt_words.specs.declared.token.Protocol.TheVariants.{Ether, Ip, Ip6, Arp, Rarp, Tcp, Udp, Icmp, Icmp6}
 use Rattle.flt_ast.specs.Tree.{NumberTree, literal, len, named, load, negated, applied}
 use Rattle.flt_gen.specs.Elementary.{with, header_at, kind_test, has_ip_proto, first_fragment}

@@ -1,23 +1,21 @@
 -- The table of primitives: each is a formula of elementary tests.
 use Rattle.std.specs.Prelude.{ℕ, ◌+◌, ◌-◌, ◌*◌, ◌/◌, ◌%◌, ◌^◌, ◌==◌, if◌then◌else◌, min, max, false, List, [], ◌∷◌, Option, Some, None}
+use Rattle.flt_gen.specs.Elementary.{with, is_at, compares_at, compares_under, has_type, kind_test, first_fragment, has_ip_proto, has_ip6_proto}
 use Rattle.cap_octet.specs.Assigned.{IPPROTO_ICMP, IPPROTO_TCP, IPPROTO_UDP, IPPROTO_ICMPV6}
 use Rattle.cap_octet.specs.{Link.network_offset, declared.link.Link.Link}
 use Rattle.flt_bpf.specs.declared.operation.Width.TheVariants.{Word, HalfWord, Byte}
-use Rattle.flt_words.specs.declared.token.Cast.{Cast, TheVariants.Broadcast, TheVariants.Multicast}
+use Rattle.flt_words.specs.declared.token.{Cast.Cast, Cast.TheVariants.Broadcast, Cast.TheVariants.Multicast, Size.Size}
 use Rattle.flt_words.specs.declared.token.Comparison.TheVariants.{NotEqual, AtMost, AtLeast, Equal}
-use Rattle.flt_words.specs.declared.token.Protocol.{Protocol}
-use Rattle.flt_words.specs.declared.token.{Side.TheVariants.Destination, Size.Size, ValueType.ValueType}
+use Rattle.flt_words.specs.declared.token.{Protocol.Protocol, Side.TheVariants.Destination, ValueType.ValueType}
 use Rattle.flt_words.specs.declared.token.ValueType.TheVariants.{Host, Net, Port, PortRange, Proto}
-use Rattle.flt_ast.specs.{Nets.first_bits, Nets.ip4_net, Tree.literal, Tree.len}
+use Rattle.flt_ast.specs.{Nets.first_bits, Nets.ip4_net, declared.value.Ip4Net.Ip4Net, declared.value.Value.Value}
+use Rattle.flt_ast.specs.Tree.{literal, len}
 use Rattle.flt_ast.specs.declared.qualifiers.{CompleteQualifiers.CompleteQualifiers, Direction.Direction}
-use Rattle.flt_ast.specs.declared.value.{Ip4Net.Ip4Net, Value.Value}
-use Rattle.flt_gen.specs.Elementary.{with, is_at, compares_at, compares_under, has_type, kind_test, first_fragment, has_ip_proto, has_ip6_proto}
 use Rattle.flt_gen.specs.Formula.{Formula, Single, Compare, Both, Either, all_of, sides}
-use Rattle.flt_gen.specs.declared.elementary.Elementary.{Elementary}
-use Rattle.flt_gen.specs.declared.elementary.{Elementary.TheVariants.Outcome, FrameKind.FrameKind}
+use Rattle.flt_gen.specs.declared.elementary.{Elementary.Elementary, Elementary.TheVariants.Outcome, Sides.Sides}
+use Rattle.flt_gen.specs.declared.{elementary.FrameKind.FrameKind, port.Transport.Transport}
 use Rattle.flt_gen.specs.declared.elementary.FrameKind.TheVariants.{Ethernet, Ip, Ip6, Arp, Rarp}
 use Rattle.flt_gen.specs.declared.elementary.Offset.{Offset, TheVariants.Fixed, TheVariants.AfterHeader}
-use Rattle.flt_gen.specs.declared.{elementary.Sides.Sides, port.Transport.Transport}
 
 -- a test, and then a formula
 abbrev pub after : Elementary → Formula → Formula
@@ -67,8 +65,7 @@ mac_tests at address =
 -- `ether host`: the source is at byte 6, the destination at byte 0
 abbrev pub ether_host : Link → Direction → ℕ → Formula
 ether_host link direction address =
-    after (kind_test link Ethernet)
-    (sides direction (mac_tests 6 address) (mac_tests 0 address))
+    after (kind_test link Ethernet) (sides direction (mac_tests 6 address) (mac_tests 0 address))
 
 -- the destination is a group of stations: the lowest bit of its first byte is set
 abbrev pub is_group_address : Elementary
@@ -175,11 +172,7 @@ port_between a b offset =
 -- where both ports after a header stand
 abbrev pub port_places : Transport → Sides
 port_places header =
-    record {
-      width = HalfWord;
-      source = header.source;
-      destination = header.destination;
-    }
+    record { width = HalfWord; source = header.source; destination = header.destination }
 
 -- the port of a source or a destination, as a direction asks for them, is this one
 abbrev pub is_port : Direction → ℕ → Sides → Formula

@@ -1,13 +1,12 @@
 -- What an expression says of a packet.
+use Rattle.flt_ast.specs.Tree.{TruthTree, check, cast, sized, bare, valued, qualified, compared, denied, joined, Expression, empty, truth}
 use Rattle.std.specs.Prelude.{ℕ, false, List, []}
 use Rattle.flt_words.specs.declared.token.Join.TheVariants.{And, Or}
-use Rattle.flt_ast.specs.Tree.{TruthTree, check, cast, sized, bare, valued, qualified, compared, denied, joined, Expression, empty, truth}
 use Rattle.cap_octet.specs.declared.link.Link.{Link}
-use Rattle.flt_gen.specs.Elementary.{MatchResult, Yes}
+use Rattle.flt_gen.specs.{Elementary.MatchResult, Elementary.Yes, declared.elementary.Elementary.TheVariants.Outcome}
 use Rattle.flt_gen.specs.Formula.{Formula, Single, Compare, Both, Either, Except, checked_formula, reads}
 use Rattle.flt_gen.specs.Numbers.{accessors}
 use Rattle.flt_gen.specs.Primitives.{check_formula, cast_formula, sized_formula, qualified_formula}
-use Rattle.flt_gen.specs.declared.elementary.Elementary.TheVariants.{Outcome}
 
 -- the formula of a truth; a value whose qualifiers aren't filled in yet is no
 abbrev pub formula : Link → TruthTree → Formula

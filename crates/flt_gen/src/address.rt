@@ -9,7 +9,7 @@ ghost use Rattle.flt_gen.specs.inside.Emitted.{is_idle, last_test, ip6_needed, w
 ghost use Rattle.flt_gen.specs.{inside.Emits.EmitsFormula};
 ghost use Rattle.flt_gen.specs.Primitives.{hosts_of_kind, hosts_formula, ip6_test, ip6_tests};
 
-use crate::code::{Code, Targets};
+use crate::code::{Code, Result, Targets};
 use crate::elementary::{
     Elementary, FieldTest, FrameKind, Offset, Sides, kind_test, network_offset,
 };
@@ -19,7 +19,7 @@ use cap_octet::Link;
 use flt_ast::{Direction, ip4_prefix_mask};
 use flt_bpf::operation::Width;
 use flt_words::{Comparison, Protocol};
-use std::alloc::{AllocError, Allocator};
+use std::alloc::Allocator;
 
 /// The mask of a word of 32 bits, or `None` if all of its bits count.
 pub fn partial_mask(mask: u32) -> Option<u32>
@@ -111,7 +111,7 @@ impl<A: Allocator> Code<A> {
         wanted: Wanted,
         numbers: &Numbers<'_>,
         to: Targets,
-    ) -> Result<usize, AllocError>
+    ) -> Result<usize>
         ensures { EmitsFormula link (hosts_of_kind link kind (wanted_formula link wanted numbers.now)) to
             self.old result self.new }
     {
@@ -128,10 +128,9 @@ impl<A: Allocator> Code<A> {
         wanted: Wanted,
         numbers: &Numbers<'_>,
         to: Targets,
-    ) -> Result<usize, AllocError>
-        ensures { EmitsFormula link
-            (hosts_formula link protocol (wanted_formula link wanted numbers.now)) to self.old result
-            self.new }
+    ) -> Result<usize>
+        ensures { EmitsFormula link (hosts_formula link protocol (wanted_formula link wanted
+            numbers.now)) to self.old result self.new }
     {
         let kind = match protocol {
             Some(Protocol::Ip) => FrameKind::Ip,
@@ -159,7 +158,7 @@ impl<A: Allocator> Code<A> {
         prefix: Option<u32>,
         address: u128,
         to: Targets,
-    ) -> Result<usize, AllocError>
+    ) -> Result<usize>
         ensures { EmitsFormula link (ip6_needed link direction prefix address) to self.old result
             self.new }
     {

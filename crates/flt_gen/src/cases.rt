@@ -3,20 +3,19 @@
 //! Addresses are on one side, or on either if all of their words but the last are the same. A test
 //! right below one of the same word, which halves the members, doesn't load it again.
 
-ghost use Rattle.std.specs.Prelude.{◌≡◌, ◌≤◌, ◌+◌, drop, length, OnOk, count_by, nat_lt};
 ghost use Rattle.flt_gen.specs.inside.Cases.{case_of, same_words, key_of, insert_case, case_front};
 ghost use Rattle.flt_gen.specs.inside.Cases.{case_tests, lowest, reach, word_test, keeps, all_keep};
 ghost use Rattle.flt_gen.specs.inside.Cases.{test_at, from_test, middle, is_parted, chain};
-ghost use Rattle.flt_gen.specs.inside.{Emits.Emits, Code.emit_all, Code.emit_formula, Code.emit_after};
-ghost use Rattle.flt_gen.specs.inside.Emitted.{needed_tests};
-ghost use Rattle.flt_gen.specs.inside.Cases.{decision, either_formula, few_of};
-ghost use Rattle.flt_gen.specs.inside.Cases.{list_formula, cases_formula};
-ghost use Rattle.flt_gen.specs.inside.Cases.{shares, are_either, mac_place, ip6_place};
+ghost use Rattle.flt_gen.specs.inside.Cases.{decision, either_formula, few_of, list_formula};
+ghost use Rattle.flt_gen.specs.inside.Cases.{cases_formula, shares, are_either, mac_place};
+ghost use Rattle.std.specs.Prelude.{◌≡◌, ◌≤◌, ◌+◌, drop, length, OnOk, count_by, nat_lt};
+ghost use Rattle.flt_gen.specs.inside.Cases.{ip6_place};
+ghost use Rattle.flt_gen.specs.inside.{Emits.Emits, Emits.EmitsFormula, Emitted.needed_tests};
+ghost use Rattle.flt_gen.specs.inside.Code.{emit_all, emit_formula, emit_after};
 ghost use Rattle.cap_octet.specs.Link.{longest_header, network_offset};
-ghost use Rattle.flt_gen.specs.inside.Emits.{EmitsFormula};
 
 use crate::address::{ip6_test, ip6_tests};
-use crate::code::{Code, Targets};
+use crate::code::{Code, Result, Targets};
 use crate::elementary::{
     Elementary, FieldPlace, FieldTest, FrameKind, has_ip_proto, has_ip6_proto, kind_test,
     network_offset,
@@ -27,7 +26,7 @@ use crate::relation::{Relation, relation_test};
 use cap_octet::Link;
 use flt_ast::{CompleteQualifiers, Direction, Value};
 use flt_words::{Comparison, Join, Protocol, Side, ValueType};
-use std::alloc::{AllocError, Allocator};
+use std::alloc::Allocator;
 
 /// How many cases of several words are compared one after the other, at most. Each half of more
 /// has 7 at least, of 3 instructions each, so the tests between halves make a list longer by 5 % at
@@ -138,7 +137,7 @@ pub fn key_of(case: Case) -> u128
 }
 
 /// Puts a case among others, so that they still ascend.
-pub fn put_case<A: Allocator>(cases: &mut Vec<Case, A>, new: Case) -> Result<(), AllocError>
+pub fn put_case<A: Allocator>(cases: &mut Vec<Case, A>, new: Case) -> Result<()>
     ensures { OnOk result (cases.new.items ≡ insert_case new cases.old.items) }
 {
     let key = key_of(new);
@@ -148,10 +147,7 @@ pub fn put_case<A: Allocator>(cases: &mut Vec<Case, A>, new: Case) -> Result<(),
             at += 1;
         }
     }
-    match cases.insert(at, new) {
-        Ok(()) => Ok(()),
-        Err(_) => Err(AllocError),
-    }
+    Ok(cases.insert(at, new)?)
 }
 
 /// The place of a side's address in an Ethernet frame.
@@ -329,12 +325,7 @@ fn few_of(one: Case, count: usize) -> usize
 impl<A: Allocator> Code<A> {
     /// Emits the tests of words from one on, which all have to hold, without those that decide
     /// nothing. Returns the place where they begin; for no test that is `to.yes`.
-    fn emit_words(
-        &mut self,
-        word: usize,
-        tests: &[Elementary],
-        to: Targets,
-    ) -> Result<usize, AllocError>
+    fn emit_words(&mut self, word: usize, tests: &[Elementary], to: Targets) -> Result<usize>
         ensures { Emits result
             (emit_all (needed_tests (drop word tests.now)) to.yes to.no self.old) self.new }
     {
@@ -352,10 +343,9 @@ impl<A: Allocator> Code<A> {
         word: usize,
         case: Case,
         to: Targets,
-    ) -> Result<usize, AllocError>
-        ensures { Emits result
-            (emit_all (needed_tests (drop word (case_tests link direction case))) to.yes to.no
-            self.old) self.new }
+    ) -> Result<usize>
+        ensures { Emits result (emit_all (needed_tests (drop word (case_tests link direction case)))
+            to.yes to.no self.old) self.new }
     {
         match case {
             Case::Mac(address) => {
@@ -380,7 +370,7 @@ impl<A: Allocator> Code<A> {
         word: usize,
         cases: &[Case],
         to: Targets,
-    ) -> Result<usize, AllocError>
+    ) -> Result<usize>
         ensures { Emits result (emit_formula link (chain (case_tests link direction) word cases.now)
             to.yes to.no self.old) self.new }
     {
@@ -405,10 +395,9 @@ impl<A: Allocator> Code<A> {
         word: usize,
         cases: &[Case],
         to: Targets,
-    ) -> Result<usize, AllocError>
-        ensures { Emits result
-            (emit_after held link (decision few most (case_tests link direction) word cases.now)
-            to.yes to.no self.old) self.new }
+    ) -> Result<usize>
+        ensures { Emits result (emit_after held link (decision few most (case_tests link direction)
+            word cases.now) to.yes to.no self.old) self.new }
     {
         if most == 0 || cases.len() <= few {
             return self.emit_cases_in_turn(link, direction, word, cases, to);
@@ -418,19 +407,11 @@ impl<A: Allocator> Code<A> {
             let Some(test) = test else {
                 return Ok(to.no);
             };
-            if test_at(link, direction, word + 1, cases, 0).is_none() {
+            let next = word + 1;
+            if test_at(link, direction, next, cases, 0).is_none() {
                 return self.emit_elementary(test, to);
             }
-            let yes = self.emit_decision(
-                None,
-                most - 1,
-                few,
-                link,
-                direction,
-                word + 1,
-                cases,
-                to,
-            )?;
+            let yes = self.emit_decision(None, most - 1, few, link, direction, next, cases, to)?;
             return self.emit_elementary(test, Targets { yes, no: to.no });
         }
         let at = middle(link, direction, word, cases);
@@ -447,7 +428,7 @@ impl<A: Allocator> Code<A> {
 
     /// Emits the tests in front of cases with the words of this one: the frames they may be in,
     /// or the tests that an accessor needs.
-    fn emit_front(&mut self, link: Link, case: Case, to: Targets) -> Result<usize, AllocError>
+    fn emit_front(&mut self, link: Link, case: Case, to: Targets) -> Result<usize>
         ensures { Emits result (emit_all (case_front link case) to.yes to.no self.old) self.new }
     {
         let kind = match case {
@@ -472,7 +453,7 @@ impl<A: Allocator> Code<A> {
         first: Case,
         cases: &[Case],
         to: Targets,
-    ) -> Result<usize, AllocError>
+    ) -> Result<usize>
         ensures { EmitsFormula link (either_formula link few first cases.now) to self.old result
             self.new }
     {
@@ -494,7 +475,7 @@ impl<A: Allocator> Code<A> {
         first: Case,
         cases: &[Case],
         to: Targets,
-    ) -> Result<usize, AllocError>
+    ) -> Result<usize>
         ensures { EmitsFormula link (list_formula (are_either direction first) link direction first
             cases.now) to self.old result self.new }
     {
@@ -515,7 +496,7 @@ impl<A: Allocator> Code<A> {
         first: Case,
         cases: &[Case],
         to: Targets,
-    ) -> Result<usize, AllocError>
+    ) -> Result<usize>
         ensures { EmitsFormula link (cases_formula link direction first cases.now) to self.old
             result self.new }
     {

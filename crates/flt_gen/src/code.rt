@@ -8,6 +8,9 @@ use flt_bpf::operation::{Operand, Operation, Test};
 use std::alloc::{AllocError, Allocator};
 use std::marker::Model;
 
+/// The result of a call that fails only if it can't allocate, or has no room for a number.
+pub type Result<T> = std::result::Result<T, AllocError>;
+
 /// The code from some place to the end, kept last instruction first. A place is the number of
 /// instructions from it to the end, which doesn't change when code is put in front:
 ///
@@ -70,43 +73,28 @@ impl<A: Allocator> Code<A> {
 
     /// The number of instructions in front of a place: a test that is put in front and goes on there
     /// skips as many. An error is a number of more than 32 bits: such code counts as out of memory.
-    fn distance(&self, place: usize) -> Result<u32, AllocError>
+    fn distance(&self, place: usize) -> Result<u32>
         ensures { IfOk result (λ skipped. skipped ≡ length self.now - place) }
     {
-        match u32::try_from(self.top().saturating_sub(place)) {
-            Ok(skipped) => Ok(skipped),
-            Err(_) => Err(AllocError),
-        }
+        u32::try_from(self.top().saturating_sub(place)).map_err(|_| AllocError)
     }
 
     /// Puts an instruction in front that isn't a test, with the number `k`.
-    pub fn emit_plain(&mut self, operation: Operation, k: u32) -> Result<(), AllocError>
+    pub fn emit_plain(&mut self, operation: Operation, k: u32) -> Result<()>
         ensures { OnOk result (self.new ≡ plain operation k ∷ self.old) }
     {
         let code = operation.code();
         let (yes, no) = (0, 0);
-        match self.backwards.push(Wide { code, yes, no, k }) {
-            Ok(()) => Ok(()),
-            Err(_) => Err(AllocError),
-        }
+        Ok(self.backwards.push(Wide { code, yes, no, k })?)
     }
 
     /// Puts a test of A and an operand in front, which goes on at one of two places.
-    pub fn emit_branch(
-        &mut self,
-        test: Test,
-        operand: Operand,
-        k: u32,
-        to: Targets,
-    ) -> Result<(), AllocError>
+    pub fn emit_branch(&mut self, test: Test, operand: Operand, k: u32, to: Targets) -> Result<()>
         ensures { OnOk result (self.new ≡ emit_branch test operand k to.yes to.no self.old) }
     {
         let (yes, no) = (self.distance(to.yes)?, self.distance(to.no)?);
         let code = Operation::JumpIf(test, operand).code();
-        match self.backwards.push(Wide { code, yes, no, k }) {
-            Ok(()) => Ok(()),
-            Err(_) => Err(AllocError),
-        }
+        Ok(self.backwards.push(Wide { code, yes, no, k })?)
     }
 
     /// The instructions from the place `entry` on, in their order: what stands in front of it goes.

@@ -9,16 +9,16 @@ ghost use Rattle.flt_gen.specs.inside.Emitted.{needed_tests};
 ghost use Rattle.cap_octet.specs.declared.link.Link.{Link};
 
 use crate::address::{is_idle, last_test};
-use crate::code::{Code, Targets};
+use crate::code::{Code, Result, Targets};
 use crate::elementary::{Elementary, FieldPlace, Offset, is_loaded};
 use flt_ast::Direction;
 use flt_bpf::operation::{AluOperation, Operand, Operation, Register, Source, Test, Width};
 use flt_words::{Comparison, Join, Side, Size};
-use std::alloc::{AllocError, Allocator};
+use std::alloc::Allocator;
 
 impl<A: Allocator> Code<A> {
     /// Emits the load of a field into A. Before a load after a header or at X, X is set.
-    pub fn emit_field(&mut self, offset: Offset, width: Width) -> Result<(), AllocError>
+    pub fn emit_field(&mut self, offset: Offset, width: Width) -> Result<()>
         ensures { OnOk result (self.new ≡ emit_field offset width self.old) }
     {
         match offset {
@@ -35,7 +35,7 @@ impl<A: Allocator> Code<A> {
     }
 
     /// Emits the mask of A, if there is one: only its bits are left.
-    pub fn emit_mask(&mut self, mask: Option<u32>) -> Result<(), AllocError>
+    pub fn emit_mask(&mut self, mask: Option<u32>) -> Result<()>
         ensures { OnOk result (self.new ≡ emit_mask mask self.old) }
     {
         match mask {
@@ -55,7 +55,7 @@ impl<A: Allocator> Code<A> {
         operand: Operand,
         k: u32,
         to: Targets,
-    ) -> Result<(), AllocError>
+    ) -> Result<()>
         ensures { OnOk result
             (self.new ≡ emit_comparison comparison operand k to.yes to.no self.old) }
     {
@@ -80,10 +80,9 @@ impl<A: Allocator> Code<A> {
         comparison: Comparison,
         number: u32,
         to: Targets,
-    ) -> Result<usize, AllocError>
-        ensures { Emits result
-            (emit_test (held_if is_held field) (field_test field comparison number) to.yes to.no
-            self.old) self.new }
+    ) -> Result<usize>
+        ensures { Emits result (emit_test (held_if is_held field) (field_test field comparison
+            number) to.yes to.no self.old) self.new }
     {
         self.emit_comparison(comparison, Operand::Constant, number, to)?;
         if !is_held {
@@ -101,7 +100,7 @@ impl<A: Allocator> Code<A> {
         held: Option<FieldPlace>,
         test: Elementary,
         to: Targets,
-    ) -> Result<usize, AllocError>
+    ) -> Result<usize>
         ensures { Emits result (emit_test held test to.yes to.no self.old) self.new }
     {
         match test {
@@ -119,7 +118,7 @@ impl<A: Allocator> Code<A> {
     }
 
     /// Emits one test, as `emit_test`, of a field that A doesn't hold.
-    pub fn emit_elementary(&mut self, test: Elementary, to: Targets) -> Result<usize, AllocError>
+    pub fn emit_elementary(&mut self, test: Elementary, to: Targets) -> Result<usize>
         ensures { Emits result (emit_elementary test to.yes to.no self.old) self.new }
     {
         self.emit_test(None, test, to)
@@ -136,7 +135,7 @@ impl<A: Allocator> Code<A> {
         are_words: bool,
         tests: &[Elementary],
         to: Targets,
-    ) -> Result<usize, AllocError>
+    ) -> Result<usize>
         ensures { Emits result (emit_all (if are_words then needed_tests tests.now else tests.now)
             to.yes to.no self.old) self.new }
     {
@@ -163,11 +162,10 @@ impl<A: Allocator> Code<A> {
         source: &[Elementary],
         destination: &[Elementary],
         to: Targets,
-    ) -> Result<usize, AllocError>
-        ensures { (link : Link) → EmitsFormula link
-            (sides direction (if are_words then needed_tests source.now else source.now)
-            (if are_words then needed_tests destination.now else destination.now)) to self.old
-            result self.new }
+    ) -> Result<usize>
+        ensures { (link : Link) → EmitsFormula link (sides direction (if are_words then needed_tests
+            source.now else source.now) (if are_words then needed_tests destination.now else
+            destination.now)) to self.old result self.new }
     {
         match direction {
             Direction::One(Side::Source) => self.emit_tests(are_words, source, to),
@@ -184,12 +182,7 @@ impl<A: Allocator> Code<A> {
     }
 
     /// Emits `less N` and `greater N`: the original length is compared with a number.
-    pub fn emit_length_test(
-        &mut self,
-        size: Size,
-        number: u32,
-        to: Targets,
-    ) -> Result<usize, AllocError>
+    pub fn emit_length_test(&mut self, size: Size, number: u32, to: Targets) -> Result<usize>
         ensures { (link : Link) → EmitsFormula link (sized_formula size number) to self.old result
             self.new }
     {

@@ -4,10 +4,11 @@
 
 ghost use Rattle.std.specs.Option.{IfSome};
 ghost use Rattle.std.specs.Prelude.{◌≡◌, [], fold, reverse, OnOk, IfOk};
-ghost use Rattle.flt_gen.specs.inside.Folding.{node_constant, applied_constant, with_negation};
+ghost use Rattle.flt_gen.specs.inside.Folding.{with_negation};
 ghost use Rattle.flt_gen.specs.inside.Folding.{with_operator, with_folded, and_operands, hold};
 ghost use Rattle.flt_gen.specs.inside.Folding.{put_back, with_held, with_conjunction};
 
+use crate::code::Result;
 use crate::number::alu_operation;
 use crate::stack::Stack;
 use flt_ast::Node;
@@ -15,40 +16,16 @@ use flt_bpf::compute;
 use flt_words::{Join, Operator};
 use std::alloc::{AllocError, Allocator};
 
-/// The number that a node is, or `None` for other nodes. No names are left of the nodes before.
-fn node_constant(node: Node) -> Option<u32>
-    ensures { result ≡ node_constant node }
-{
-    match node {
-        Node::Literal(number) => Some(number),
-        _ => None,
-    }
-}
-
-/// The number that an operator makes of two, if both are there; `None` also for a division or a
-/// remainder by 0.
-#[tactic(auto, using(crate::proofs::Numbers::computed))]
-fn applied_constant(operator: Operator, left: Option<u32>, right: Option<u32>) -> Option<u32>
-    ensures { result ≡ applied_constant operator left right }
-{
-    match (left, right) {
-        (Some(left), Some(right)) => compute(alu_operation(operator), left, right),
-        _ => None,
-    }
-}
-
 /// Pushes a negation: if the latest node is a number, which then is its operand, the negative
 /// number, modulo 2^32, replaces it.
-fn push_negation<A: Allocator>(nodes: &mut Stack<Node, A>) -> Result<(), AllocError>
+fn push_negation<A: Allocator>(nodes: &mut Stack<Node, A>) -> Result<()>
     ensures { OnOk result (nodes.new ≡ with_negation nodes.old) }
 {
-    let Some(operand) = nodes.pop() else {
+    match nodes.pop() {
         // In no tree: there a negation has an operand.
-        return nodes.push(Node::Negate);
-    };
-    match node_constant(operand) {
-        Some(number) => nodes.push(Node::Literal(number.wrapping_neg())),
-        None => {
+        None => nodes.push(Node::Negate),
+        Some(Node::Literal(number)) => nodes.push(Node::Literal(number.wrapping_neg())),
+        Some(operand) => {
             nodes.push(operand)?;
             nodes.push(Node::Negate)
         }
@@ -57,27 +34,23 @@ fn push_negation<A: Allocator>(nodes: &mut Stack<Node, A>) -> Result<(), AllocEr
 
 /// Pushes an operator: if the two latest nodes are numbers, which then are its operands, the number
 /// that it makes of them replaces both, unless it divides by 0. In a tree each has two operands.
-fn push_operator<A: Allocator>(
-    nodes: &mut Stack<Node, A>,
-    operator: Operator,
-) -> Result<(), AllocError>
+#[tactic(auto, using(crate::proofs::Numbers::computed))]
+fn push_operator<A: Allocator>(nodes: &mut Stack<Node, A>, operator: Operator) -> Result<()>
     ensures { OnOk result (nodes.new ≡ with_operator operator nodes.old) }
 {
-    let Some(right) = nodes.pop() else {
-        return nodes.push(Node::Apply(operator));
-    };
-    let Some(left) = nodes.pop() else {
-        nodes.push(right)?;
-        return nodes.push(Node::Apply(operator));
-    };
-    match applied_constant(operator, node_constant(left), node_constant(right)) {
-        Some(number) => nodes.push(Node::Literal(number)),
-        None => {
-            nodes.push(left)?;
-            nodes.push(right)?;
-            nodes.push(Node::Apply(operator))
+    let (right, left) = (nodes.pop(), nodes.pop());
+    if let (Some(Node::Literal(left)), Some(Node::Literal(right))) = (left, right) {
+        if let Some(number) = compute(alu_operation(operator), left, right) {
+            return nodes.push(Node::Literal(number));
         }
     }
+    if let Some(left) = left {
+        nodes.push(left)?;
+    }
+    if let Some(right) = right {
+        nodes.push(right)?;
+    }
+    nodes.push(Node::Apply(operator))
 }
 
 /// The number of trees that are needed: `need`, and the operands of a node. `None`: too many.
@@ -95,12 +68,8 @@ fn and_operands(node: Node, need: usize) -> Option<usize>
 /// Moves the latest tree out of the nodes; what was held before goes. An error is a failed
 /// allocation, or that too many operands are looked for.
 #[tactic(auto, using(crate::proofs::Held::none_held, std::proofs::lemmas::Grind::common_steps))]
-fn hold_latest<A: Allocator>(
-    nodes: &mut Stack<Node, A>,
-    held: &mut Stack<Node, A>,
-) -> Result<(), AllocError>
-    ensures { OnOk result
-        (hold 1 [] nodes.old ≡ record { held = held.new; rest = nodes.new }) }
+fn hold_latest<A: Allocator>(nodes: &mut Stack<Node, A>, held: &mut Stack<Node, A>) -> Result<()>
+    ensures { OnOk result (hold 1 [] nodes.old ≡ record { held = held.new; rest = nodes.new }) }
 {
     held.clear();
     let mut need: usize = 1;
@@ -119,10 +88,7 @@ fn hold_latest<A: Allocator>(
 }
 
 /// Puts nodes back that are held.
-fn put_back<A: Allocator>(
-    nodes: &mut Stack<Node, A>,
-    held: &mut Stack<Node, A>,
-) -> Result<(), AllocError>
+fn put_back<A: Allocator>(nodes: &mut Stack<Node, A>, held: &mut Stack<Node, A>) -> Result<()>
     ensures { OnOk result (nodes.new ≡ put_back held.old nodes.old) }
 {
     // The label names the loop in its proof.
@@ -137,7 +103,7 @@ fn put_back<A: Allocator>(
 fn push_after_negation<A: Allocator>(
     nodes: &mut Stack<Node, A>,
     held: &mut Stack<Node, A>,
-) -> Result<(), AllocError>
+) -> Result<()>
     ensures { OnOk result (nodes.new ≡ with_held held.old nodes.old) }
 {
     let latest = nodes.pop();
@@ -171,7 +137,7 @@ fn push_after_negation<A: Allocator>(
 fn push_conjunction<A: Allocator>(
     nodes: &mut Stack<Node, A>,
     held: &mut Stack<Node, A>,
-) -> Result<(), AllocError>
+) -> Result<()>
     ensures { OnOk result (nodes.new ≡ with_conjunction nodes.old) }
 {
     match nodes.pop() {
@@ -193,7 +159,7 @@ fn push_folded<A: Allocator>(
     nodes: &mut Stack<Node, A>,
     held: &mut Stack<Node, A>,
     node: Node,
-) -> Result<(), AllocError>
+) -> Result<()>
     ensures { OnOk result (nodes.new ≡ with_folded nodes.old node) }
 {
     match node {
@@ -209,12 +175,8 @@ fn push_folded<A: Allocator>(
 /// b` becomes `not (a or b)`. An error is a failed allocation, or an allocator that cannot be
 /// cloned.
 #[tactic(auto, using(std::proofs::lemmas::Grind::common_steps))]
-pub fn folded_nodes<A: Allocator + Clone>(
-    alloc: A,
-    nodes: &[Node],
-) -> Result<Vec<Node, A>, AllocError>
-    ensures { IfOk result
-        (λ folded. reverse folded.items ≡ fold with_folded [] nodes.now) }
+pub fn folded_nodes<A: Allocator + Clone>(alloc: A, nodes: &[Node]) -> Result<Vec<Node, A>>
+    ensures { IfOk result (λ folded. reverse folded.items ≡ fold with_folded [] nodes.now) }
 {
     let mut folded = Stack::new(alloc.clone()?);
     let mut held = Stack::new(alloc);

@@ -1,22 +1,19 @@
 //! Groups of addresses, ports, protocols or relations, which one search or decision tree looks for
-//! together.
-//! The walk adds the members from the last one in the expression to the first.
+//! together. The walk adds the members from the last one in the expression to the first.
 
 ghost use Rattle.std.specs.Prelude.{◌≡◌, ◌≤◌, [], if◌then◌else◌, Some, None, length, IfOk, OnOk};
-ghost use Rattle.std.specs.{List.insert, Prelude.reverse};
 ghost use Rattle.flt_gen.specs.inside.Group.{no_group, same_type, same_protocol, same_direction};
 ghost use Rattle.flt_gen.specs.inside.Group.{goes_with, is_prefix, net_member, member_of, is_empty};
 ghost use Rattle.flt_gen.specs.inside.Group.{larger_group, is_searched, group_formula};
-ghost use Rattle.flt_gen.specs.inside.Group.{rows_formula, several_formula};
-ghost use Rattle.flt_gen.specs.inside.{Cases.case_of, Emits.EmitsFormula};
-ghost use Rattle.flt_gen.specs.inside.Intervals.{insert_ascending};
-ghost use Rattle.flt_gen.specs.inside.Group.{has_addresses, has_networks};
-ghost use Rattle.flt_gen.specs.inside.Group.{case_goes_with, with_case};
-ghost use Rattle.flt_gen.specs.inside.Group.{larger_by, entry_formula, fewest_either};
+ghost use Rattle.flt_gen.specs.inside.Group.{rows_formula, several_formula, has_addresses};
+ghost use Rattle.flt_gen.specs.inside.Group.{has_networks, case_goes_with, with_case, larger_by};
+ghost use Rattle.std.specs.{Prelude.reverse, List.insert};
+ghost use Rattle.flt_gen.specs.inside.{Group.entry_formula, Group.fewest_either, Cases.case_of};
+ghost use Rattle.flt_gen.specs.inside.{Emits.EmitsFormula, Intervals.insert_ascending};
 
 use crate::among::most_in_turn;
 use crate::cases::{Case, are_either, case_of, put_case, same_words};
-use crate::code::{Code, Targets};
+use crate::code::{Code, Result, Targets};
 use crate::elementary::Interval;
 use crate::intervals::{Numbers, Room};
 use crate::number::emit_protocol_tests;
@@ -26,7 +23,7 @@ use crate::wanted::Wanted;
 use cap_octet::Link;
 use flt_ast::{CompleteQualifiers, Direction, Value};
 use flt_words::{Join, Protocol, Side, ValueType};
-use std::alloc::{AllocError, Allocator};
+use std::alloc::Allocator;
 use std::marker::Model;
 
 /// The most members of a group. Each is inserted in order among the others, so a group takes time
@@ -246,12 +243,7 @@ impl<A: Allocator> Group<A> {
 
     /// Adds a case, if it goes with the members. Returns `false` if it isn't added.
     #[tactic(auto, using(std::proofs::lemmas::Grind::common_steps))]
-    fn add_case(
-        &mut self,
-        qualifiers: CompleteQualifiers,
-        entry: Entry,
-        case: Case,
-    ) -> Result<bool, AllocError>
+    fn add_case(&mut self, qualifiers: CompleteQualifiers, entry: Entry, case: Case) -> Result<bool>
         ensures taken { IfOk result (λ taken. larger_by qualifiers entry case self.old
             ≡ (if taken then Some self.new else None)) }
         ensures same { IfOk result (λ taken. self.new ≡ (if taken then self.new else self.old)) }
@@ -268,7 +260,7 @@ impl<A: Allocator> Group<A> {
 
     /// Adds an entry, which comes before the members in the expression, if it can be a member and
     /// goes with them. Returns `false` if it isn't added.
-    pub fn add(&mut self, entry: Entry) -> Result<bool, AllocError>
+    pub fn add(&mut self, entry: Entry) -> Result<bool>
         ensures taken { IfOk result (λ taken. larger_group entry self.old
             ≡ (if taken then Some self.new else None)) }
         ensures same { IfOk result (λ taken. self.new ≡ (if taken then self.new else self.old)) }
@@ -318,7 +310,7 @@ impl<A: Allocator> Group<A> {
     }
 
     /// Emits the code that looks for the members. Returns the place where it begins.
-    pub fn emit(&mut self, link: Link, code: &mut Code<A>, to: Targets) -> Result<usize, AllocError>
+    pub fn emit(&mut self, link: Link, code: &mut Code<A>, to: Targets) -> Result<usize>
         ensures { EmitsFormula link (group_formula link self.old) to code.old result code.new }
     {
         if !self.is_searched() {
@@ -341,10 +333,9 @@ impl<A: Allocator> Code<A> {
         qualifiers: CompleteQualifiers,
         numbers: &Numbers<'_>,
         to: Targets,
-    ) -> Result<usize, AllocError>
-        ensures { EmitsFormula link
-            (several_formula link qualifiers (has_addresses qualifiers.value_type) numbers.now) to
-            self.old result self.new }
+    ) -> Result<usize>
+        ensures { EmitsFormula link (several_formula link qualifiers (has_addresses
+            qualifiers.value_type) numbers.now) to self.old result self.new }
     {
         let (protocol, direction) = (qualifiers.protocol, qualifiers.direction);
         if has_addresses(qualifiers.value_type) {
@@ -355,7 +346,7 @@ impl<A: Allocator> Code<A> {
     }
 
     /// Emits members one after the other, the last of the expression first.
-    fn emit_rows(&mut self, link: Link, entries: &[Entry], to: Targets) -> Result<usize, AllocError>
+    fn emit_rows(&mut self, link: Link, entries: &[Entry], to: Targets) -> Result<usize>
         ensures { EmitsFormula link (rows_formula link (reverse entries.now)) to self.old result
             self.new }
     {
@@ -368,7 +359,7 @@ impl<A: Allocator> Code<A> {
     }
 
     /// Emits a member by itself.
-    pub fn emit_entry(&mut self, link: Link, entry: Entry, to: Targets) -> Result<usize, AllocError>
+    pub fn emit_entry(&mut self, link: Link, entry: Entry, to: Targets) -> Result<usize>
         ensures { EmitsFormula link (entry_formula link entry) to self.old result self.new }
     {
         match entry {
@@ -392,7 +383,7 @@ impl<A: Allocator + Clone> Group<A> {
     /// A group without members, which any value may join that can be a member at all. An error is
     /// an allocator that cannot be cloned.
     #[tactic(auto, using(std::proofs::lemmas::Grind::common_steps))]
-    pub fn new(alloc: A) -> Result<Self, AllocError>
+    pub fn new(alloc: A) -> Result<Self>
         ensures { IfOk result (λ group. group ≡ no_group) }
     {
         Ok(Group {

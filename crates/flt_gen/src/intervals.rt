@@ -5,9 +5,11 @@ ghost use Rattle.std.specs.List.{list_all};
 ghost use Rattle.std.specs.Prelude.{◌≡◌, ◌≤◌, [], map, count_by, OnOk, IfOk};
 ghost use Rattle.flt_gen.specs.inside.Intervals.{joined_all, sought, is_aligned, idle_bits};
 ghost use Rattle.flt_gen.specs.inside.Intervals.{is_block, left_out, high_mask, cut, without};
+ghost use Rattle.flt_gen.specs.inside.Intervals.{no_interval};
 
+use crate::code::Result;
 use crate::elementary::Interval;
-use std::alloc::{AllocError, Allocator};
+use std::alloc::Allocator;
 use std::marker::Model;
 
 /// The numbers that are looked for, under a mask if not all bits decide: the ones that come first
@@ -36,11 +38,7 @@ impl<'a> Model for Numbers<'a> {
 impl<'a> Numbers<'a> {
     /// No number is looked for.
     pub fn none() -> Self
-        ensures all { result.all ≡ [] }
-        ensures others { result.others ≡ [] }
-        ensures mask { result.mask ≡ None }
-        ensures low { result.first.low ≡ 0 }
-        ensures high { result.first.high ≡ 0 }
+        ensures { result ≡ record { mask = None; first = no_interval; all = []; others = [] } }
     {
         Numbers {
             mask: None,
@@ -54,10 +52,7 @@ impl<'a> Numbers<'a> {
 /// Puts intervals, which ascend by their beginnings, into a list, in which none touches the next
 /// one. What was in the list goes.
 #[tactic(auto, using(std::proofs::lemmas::Grind::common_steps))]
-fn join_touching<A: Allocator>(
-    numbers: &[Interval],
-    joined: &mut Vec<Interval, A>,
-) -> Result<(), AllocError>
+fn join_touching<A: Allocator>(numbers: &[Interval], joined: &mut Vec<Interval, A>) -> Result<()>
     ensures { OnOk result (joined.new.items ≡ joined_all numbers.now) }
 {
     joined.clear();
@@ -74,10 +69,7 @@ fn join_touching<A: Allocator>(
             last.high = last.high.max(next.high);
         }
     }
-    match joined.push(last) {
-        Ok(()) => Ok(()),
-        Err(_) => Err(AllocError),
-    }
+    Ok(joined.push(last)?)
 }
 
 /// Whether an interval is a row of blocks, if each number is in a block with those that differ from
@@ -101,7 +93,7 @@ fn are_aligned(last: u32, items: &[Interval]) -> bool
 }
 
 /// The longest last bits, at most this many, that don't decide which numbers are in intervals.
-#[tactic(auto, using(crate::proofs::IdleBits::none_left, crate::proofs::IdleBits::one_less))]
+#[tactic(auto, using(crate::proofs::Prefixes::none_left, crate::proofs::Prefixes::one_less))]
 fn idle_bits(bits: u32, first: Interval, items: &[Interval]) -> u32
     requires { bits ≤ 31 }
     ensures { result ≡ idle_bits bits first items.now }
@@ -174,10 +166,9 @@ fn put_cut<A: Allocator>(
     items: &[Interval],
     all: &mut Vec<Interval, A>,
     others: &mut Vec<Interval, A>,
-) -> Result<(), AllocError>
+) -> Result<()>
     ensures all { OnOk result (all.new.items ≡ map (cut last) items.now) }
-    ensures others { OnOk result
-        (others.new.items ≡ without first (map (cut last) items.now)) }
+    ensures others { OnOk result (others.new.items ≡ without first (map (cut last) items.now)) }
 {
     all.clear();
     others.clear();
@@ -208,7 +199,7 @@ impl<A: Allocator> Room<A> {
         is_masked: bool,
         first: Interval,
         all: &[Interval],
-    ) -> Result<Numbers<'_>, AllocError>
+    ) -> Result<Numbers<'_>>
         ensures { IfOk result (λ numbers. numbers ≡ sought is_masked first all.now) }
     {
         join_touching(all, &mut self.joined)?;
@@ -227,7 +218,7 @@ impl<A: Allocator> Room<A> {
 impl<A: Allocator + Clone> Room<A> {
     /// Room for the numbers of one group after the other. An error is an allocator that cannot be
     /// cloned.
-    pub fn new(alloc: A) -> Result<Self, AllocError> {
+    pub fn new(alloc: A) -> Result<Self> {
         Ok(Room {
             joined: Vec::new(alloc.clone()?),
             all: Vec::new(alloc.clone()?),

@@ -14,7 +14,7 @@ ghost use Rattle.flt_gen.specs.{inside.Emits.Emits, Numbers.accessor_tests, Numb
 ghost use Rattle.flt_gen.specs.inside.ProgramCode.{emit_accessor_tests};
 ghost use Rattle.flt_gen.specs.inside.Code.{takes_constant, emit_operands, emit_all};
 
-use crate::code::{Code, Targets};
+use crate::code::{Code, Result, Targets};
 use crate::elementary::{
     FrameKind, Offset, first_fragment, has_ip_proto, kind_test, network_offset,
 };
@@ -23,7 +23,7 @@ use cap_octet::assigned::{IPPROTO_ICMP, IPPROTO_TCP, IPPROTO_UDP};
 use flt_bpf::constant_fault;
 use flt_bpf::operation::{AluOperation, Operand, Operation, Register, Source, Width};
 use flt_words::{Operator, Protocol};
-use std::alloc::{AllocError, Allocator};
+use std::alloc::Allocator;
 
 /// The machine's operator for one of an expression.
 pub fn alu_operation(operator: Operator) -> AluOperation
@@ -71,7 +71,7 @@ pub fn width_of(size: u32) -> Width
 }
 
 /// Emits that the right operand goes from A into X, and the left one from its word into A.
-pub fn emit_operands<A: Allocator>(code: &mut Code<A>, slot: u32) -> Result<(), AllocError>
+pub fn emit_operands<A: Allocator>(code: &mut Code<A>, slot: u32) -> Result<()>
     ensures { OnOk result (code.new ≡ emit_operands slot code.old) }
 {
     code.emit_plain(Operation::Load(Register::Accumulator, Source::Memory), slot)?;
@@ -80,7 +80,7 @@ pub fn emit_operands<A: Allocator>(code: &mut Code<A>, slot: u32) -> Result<(), 
 
 /// Emits A = the field A bytes past the place `at`, the start of the frame or of the network
 /// header: X = A, then a load at X + `at`.
-fn emit_base<A: Allocator>(code: &mut Code<A>, at: u32, width: Width) -> Result<(), AllocError>
+fn emit_base<A: Allocator>(code: &mut Code<A>, at: u32, width: Width) -> Result<()>
     ensures { OnOk result (code.new ≡ emit_base at width code.old) }
 {
     code.emit_plain(Operation::LoadIndirect(width), at)?;
@@ -89,11 +89,7 @@ fn emit_base<A: Allocator>(code: &mut Code<A>, at: u32, width: Width) -> Result<
 
 /// Emits A = the field A bytes past the IPv4 header: X = the header's length, A = A + X, then the
 /// field A bytes past the header's place.
-fn emit_transport<A: Allocator>(
-    code: &mut Code<A>,
-    link: Link,
-    width: Width,
-) -> Result<(), AllocError>
+fn emit_transport<A: Allocator>(code: &mut Code<A>, link: Link, width: Width) -> Result<()>
     ensures { OnOk result (code.new ≡ emit_transport link width code.old) }
 {
     let start = network_offset(link);
@@ -122,7 +118,7 @@ pub fn emit_accessor<A: Allocator>(
     link: Link,
     protocol: Protocol,
     width: Width,
-) -> Result<(), AllocError>
+) -> Result<()>
     ensures { OnOk result (code.new ≡ emit_accessor link protocol width code.old) }
 {
     match protocol {
@@ -139,7 +135,7 @@ pub fn emit_protocol_tests<A: Allocator>(
     link: Link,
     protocol: Protocol,
     to: Targets,
-) -> Result<usize, AllocError>
+) -> Result<usize>
     ensures { Emits result (emit_all (accessor_tests link protocol) to.yes to.no code.old)
         code.new }
 {
@@ -165,13 +161,13 @@ pub fn emit_protocol_tests<A: Allocator>(
 /// Emits the tests of accessors' protocols. The first of `protocols` is that of the rightmost
 /// accessor, whose tests are the last of the code. Returns the place where they begin; for no
 /// protocol that is `to.yes`.
-#[tactic(auto, using(crate::proofs::Accessors::one_more))]
+#[tactic(auto, using(crate::proofs::Turned::one_more))]
 pub fn emit_accessor_tests<A: Allocator>(
     code: &mut Code<A>,
     link: Link,
     protocols: &[Protocol],
     to: Targets,
-) -> Result<usize, AllocError>
+) -> Result<usize>
     ensures { Emits result (emit_accessor_tests link (reverse protocols.now) to.yes to.no code.old)
         code.new }
 {

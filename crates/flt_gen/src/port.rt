@@ -8,7 +8,7 @@ ghost use Rattle.flt_gen.specs.{Elementary.kind_test, inside.Emits.EmitsFormula}
 ghost use Rattle.flt_gen.specs.Primitives.{port_formula, after, port_places};
 ghost use Rattle.flt_gen.specs.inside.Emitted.{wanted_formula};
 
-use crate::code::{Code, Targets};
+use crate::code::{Code, Result, Targets};
 use crate::elementary::{
     Elementary, FrameKind, Offset, Sides, first_fragment, has_ip_proto, has_ip6_proto, kind_test,
     network_offset,
@@ -19,7 +19,7 @@ use cap_octet::Link;
 use cap_octet::assigned::{IPPROTO_TCP, IPPROTO_UDP};
 use flt_bpf::operation::Width;
 use flt_words::Protocol;
-use std::alloc::{AllocError, Allocator};
+use std::alloc::Allocator;
 
 /// The transport header after a network header: the tests of TCP and UDP, the test that the packet
 /// isn't a later fragment, which has no ports, and the places of both ports.
@@ -85,10 +85,9 @@ impl<A: Allocator> Code<A> {
         wanted: Wanted,
         numbers: &Numbers<'_>,
         to: Targets,
-    ) -> Result<usize, AllocError>
-        ensures { EmitsFormula link
-            (transport_ports header protocol (wanted_formula link wanted numbers.now)) to self.old
-            result self.new }
+    ) -> Result<usize>
+        ensures { EmitsFormula link (transport_ports header protocol (wanted_formula link wanted
+            numbers.now)) to self.old result self.new }
     {
         let (first, last) = match protocol {
             Some(Protocol::Tcp) => (None, header.tcp),
@@ -117,10 +116,9 @@ impl<A: Allocator> Code<A> {
         wanted: Wanted,
         numbers: &Numbers<'_>,
         to: Targets,
-    ) -> Result<usize, AllocError>
-        ensures { EmitsFormula link (after (kind_test link kind)
-            (transport_ports header protocol (wanted_formula link wanted numbers.now))) to self.old
-            result self.new }
+    ) -> Result<usize>
+        ensures { EmitsFormula link (after (kind_test link kind) (transport_ports header protocol
+            (wanted_formula link wanted numbers.now))) to self.old result self.new }
     {
         let yes = self.emit_transport_ports(link, header, protocol, wanted, numbers, to)?;
         self.emit_elementary(kind_test(link, kind), Targets { yes, no: to.no })
@@ -134,7 +132,7 @@ impl<A: Allocator> Code<A> {
         wanted: Wanted,
         numbers: &Numbers<'_>,
         to: Targets,
-    ) -> Result<usize, AllocError>
+    ) -> Result<usize>
         ensures { EmitsFormula link (port_formula link protocol (wanted_formula link wanted numbers.now))
             to self.old result self.new }
     {

@@ -5,7 +5,7 @@ ghost use Rattle.flt_gen.specs.Primitives.{after, check_formula, proto_formula, 
 ghost use Rattle.flt_gen.specs.Primitives.{mac_tests, cast_formula};
 ghost use Rattle.flt_gen.specs.{Formula.Single, Elementary.kind_test, inside.Emits.EmitsFormula};
 
-use crate::code::{Code, Targets};
+use crate::code::{Code, Result, Targets};
 use crate::elementary::{
     Elementary, FrameKind, Offset, compares_at, compares_under, has_ip_proto, has_ip6_proto,
     has_type, is_at, kind_test, network_offset,
@@ -15,7 +15,7 @@ use cap_octet::assigned::{IPPROTO_ICMP, IPPROTO_ICMPV6, IPPROTO_TCP, IPPROTO_UDP
 use flt_ast::Direction;
 use flt_bpf::operation::Width;
 use flt_words::{Cast, Comparison, Protocol, Side};
-use std::alloc::{AllocError, Allocator};
+use std::alloc::Allocator;
 
 /// The tests for a MAC address of 48 bits in the six bytes from a place on: one for the first four
 /// bytes, one for the last two.
@@ -39,7 +39,7 @@ impl<A: Allocator> Code<A> {
         kind: FrameKind,
         test: Elementary,
         to: Targets,
-    ) -> Result<usize, AllocError>
+    ) -> Result<usize>
         ensures { EmitsFormula link (after (kind_test link kind) (Single test)) to self.old result
             self.new }
     {
@@ -48,12 +48,7 @@ impl<A: Allocator> Code<A> {
     }
 
     /// Emits a protocol's keyword by itself, such as `tcp` or `arp`.
-    pub fn emit_check(
-        &mut self,
-        link: Link,
-        protocol: Protocol,
-        to: Targets,
-    ) -> Result<usize, AllocError>
+    pub fn emit_check(&mut self, link: Link, protocol: Protocol, to: Targets) -> Result<usize>
         ensures { EmitsFormula link (check_formula link protocol) to self.old result self.new }
     {
         let kind = match protocol {
@@ -83,7 +78,7 @@ impl<A: Allocator> Code<A> {
         below: Option<Protocol>,
         protocol: u32,
         to: Targets,
-    ) -> Result<usize, AllocError>
+    ) -> Result<usize>
         ensures { EmitsFormula link (proto_formula link below protocol) to self.old result
             self.new }
     {
@@ -107,7 +102,7 @@ impl<A: Allocator> Code<A> {
         direction: Direction,
         address: u64,
         to: Targets,
-    ) -> Result<usize, AllocError>
+    ) -> Result<usize>
         ensures { EmitsFormula link (ether_host link direction address) to self.old result
             self.new }
     {
@@ -126,7 +121,7 @@ impl<A: Allocator> Code<A> {
         protocol: Option<Protocol>,
         cast: Cast,
         to: Targets,
-    ) -> Result<usize, AllocError>
+    ) -> Result<usize>
         ensures { EmitsFormula link (cast_formula link protocol cast) to self.old result self.new }
     {
         let (kind, is_group) = match (cast, protocol) {

@@ -33,10 +33,7 @@ impl<T: Drop, A: Allocator> Stack<T, A> {
     pub fn push(&mut self, entry: T) -> Result<(), AllocError>
         ensures { OnOk result (self.new ≡ entry ∷ self.old) }
     {
-        match self.entries.push(entry) {
-            Ok(()) => Ok(()),
-            Err(_) => Err(AllocError),
-        }
+        Ok(self.entries.push(entry)?)
     }
 
     /// Takes the latest entry out; `None` if there is none.

@@ -8,13 +8,13 @@
 ghost use Rattle.flt_gen.specs.inside.{Emits.EmitsFormula, Emitted.qualified_needed};
 
 use crate::address::partial_mask;
-use crate::code::{Code, Targets};
+use crate::code::{Code, Result, Targets};
 use crate::intervals::Numbers;
 use crate::wanted::Wanted;
 use cap_octet::Link;
 use flt_ast::{CompleteQualifiers, Value};
 use flt_words::ValueType;
-use std::alloc::{AllocError, Allocator};
+use std::alloc::Allocator;
 
 impl<A: Allocator> Code<A> {
     /// Emits the test of one value, such as that of `tcp dst port 80`, by the table's row for its
@@ -25,7 +25,7 @@ impl<A: Allocator> Code<A> {
         qualifiers: CompleteQualifiers,
         value: Value,
         to: Targets,
-    ) -> Result<usize, AllocError>
+    ) -> Result<usize>
         ensures { EmitsFormula link (qualified_needed link qualifiers value) to self.old result
             self.new }
     {

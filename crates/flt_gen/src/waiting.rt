@@ -6,10 +6,10 @@
 ghost use Rattle.std.specs.Prelude.{◌≡◌, OnOk};
 ghost use Rattle.flt_gen.specs.inside.Emitted.{without_protocol, with_accessor};
 
-use crate::code::Targets;
+use crate::code::{Result, Targets};
 use crate::stack::Stack;
 use flt_words::{Join, Protocol};
-use std::alloc::{AllocError, Allocator};
+use std::alloc::Allocator;
 
 /// The left operand of `and` or `or`, which comes after the right one, and the targets of the
 /// whole.
@@ -40,10 +40,7 @@ pub enum Pending {
 
 /// Removes a protocol from the list. It calls itself for each entry: they are few, since the list
 /// has each protocol once.
-fn leave_out<A: Allocator>(
-    protocols: &mut Stack<Protocol, A>,
-    protocol: Protocol,
-) -> Result<(), AllocError>
+fn leave_out<A: Allocator>(protocols: &mut Stack<Protocol, A>, protocol: Protocol) -> Result<()>
     ensures { OnOk result (protocols.new ≡ without_protocol protocol protocols.old) }
 {
     let Some(latest) = protocols.pop() else {
@@ -62,7 +59,7 @@ fn leave_out<A: Allocator>(
 pub fn add_accessor<A: Allocator>(
     protocols: &mut Stack<Protocol, A>,
     protocol: Protocol,
-) -> Result<(), AllocError>
+) -> Result<()>
     ensures { OnOk result (protocols.new ≡ with_accessor protocol protocols.old) }
 {
     leave_out(protocols, protocol)?;

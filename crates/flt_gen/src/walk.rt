@@ -29,7 +29,7 @@ ghost use Rattle.flt_gen.specs.inside.{Code.block, Walk.finish_relation, Group.e
 ghost use Rattle.flt_gen.specs.inside.Group.{no_group, larger_group, group_formula};
 ghost use Rattle.cap_octet.specs.declared.link.Link.{Link};
 
-use crate::code::{Code, Targets};
+use crate::code::{Code, Result, Targets};
 use crate::group::{Entry, Group};
 use crate::number::{
     accessor_offset, computation, emit_accessor, emit_accessor_tests, emit_operands,
@@ -93,7 +93,7 @@ impl<A: Allocator + Clone> Walk<A> {
     /// A walk before its first node: the code is the two returns, one that keeps a packet and one
     /// that doesn't. An error is a failed allocation, or an allocator that cannot be cloned.
     #[tactic(auto, using(std::proofs::lemmas::Grind::common_steps))]
-    pub fn new(alloc: A) -> Result<Self, AllocError>
+    pub fn new(alloc: A) -> Result<Self>
         ensures { IfOk result (λ walk. walk ≡ start_walk) }
     {
         let mut code = Code::new(alloc.clone()?);
@@ -113,7 +113,7 @@ impl<A: Allocator + Clone> Walk<A> {
 
     /// Emits the code of all nodes of a tree, from the last to the first.
     #[tactic(auto, using(crate::proofs::Turned::node_steps))]
-    pub fn emit_nodes(&mut self, link: Link, nodes: &[Node]) -> Result<(), AllocError>
+    pub fn emit_nodes(&mut self, link: Link, nodes: &[Node]) -> Result<()>
         ensures { OnOk result (self.new ≡ emit_nodes link self.old (reverse nodes.now)) }
     {
         let mut left = nodes.len();
@@ -138,7 +138,7 @@ impl<A: Allocator + Clone> Walk<A> {
 
     /// Emits a node and the one before it at once, if that is its right operand or its index, and a
     /// constant that its instruction may have. `false`: it isn't, and nothing is emitted.
-    fn emit_both_nodes(&mut self, link: Link, node: &Node, right: &Node) -> Result<bool, AllocError>
+    fn emit_both_nodes(&mut self, link: Link, node: &Node, right: &Node) -> Result<bool>
         ensures emits { IfOk result (λ fits. emit_both_nodes link self.old node.now right.now
             ≡ (if fits then Some self.new else None)) }
         ensures same { IfOk result (λ fits. self.new ≡ (if fits then self.new else self.old)) }
@@ -175,7 +175,7 @@ impl<A: Allocator + Clone> Walk<A> {
     /// Emits one more node, the one before those that were emitted. A group that waits is emitted
     /// first, unless the node is a value or an `or`, which may go on with it, or arithmetic, of
     /// which the comparison did so. The value of arithmetic is in A then.
-    fn emit_node(&mut self, link: Link, node: &Node) -> Result<(), AllocError>
+    fn emit_node(&mut self, link: Link, node: &Node) -> Result<()>
         ensures { OnOk result (self.new ≡ emit_node link self.old node.now) }
     {
         match node {
@@ -203,7 +203,7 @@ impl<A: Allocator + Clone> Walk<A> {
     }
 
     /// Emits `and` or `or`, which has no code of its own: it sets what its operands go on to.
-    fn emit_join(&mut self, link: Link, join: Join) -> Result<(), AllocError>
+    fn emit_join(&mut self, link: Link, join: Join) -> Result<()>
         ensures { OnOk result (self.new ≡ emit_join link join self.old) }
     {
         match join {
@@ -221,8 +221,8 @@ impl<A: Allocator + Clone> Walk<A> {
 
     /// Emits a value or a relation. One that stands alone is never put into the group, which costs
     /// allocations.
-    #[tactic(auto, using(crate::proofs::Alone::alone_emitted))]
-    fn emit_entry(&mut self, link: Link, entry: Entry) -> Result<(), AllocError>
+    #[tactic(auto, using(crate::proofs::Walking::alone_emitted))]
+    fn emit_entry(&mut self, link: Link, entry: Entry) -> Result<()>
         ensures { OnOk result (self.new ≡ emit_entry link entry self.old
             (larger_group entry self.old.group)) }
     {
@@ -239,7 +239,7 @@ impl<A: Allocator + Clone> Walk<A> {
     /// operand of an `or` it waits there for one more; else the group is emitted. Any other comes
     /// after the group that waits: as the right operand of an `or` it begins a new one if it may be
     /// a member, and else it is emitted by itself.
-    fn emit_listed(&mut self, link: Link, entry: Entry) -> Result<(), AllocError>
+    fn emit_listed(&mut self, link: Link, entry: Entry) -> Result<()>
         ensures { OnOk result (self.new ≡ emit_entry link entry self.old
             (larger_group entry self.old.group)) }
     {
@@ -256,7 +256,7 @@ impl<A: Allocator + Clone> Walk<A> {
     }
 
     /// Adds an entry to the group, if it goes with the members. Returns `false` if it isn't added.
-    fn add(&mut self, entry: Entry) -> Result<bool, AllocError>
+    fn add(&mut self, entry: Entry) -> Result<bool>
         ensures taken { IfOk result (λ taken. larger_group entry self.old.group
             ≡ (if taken then Some self.new.group else None)) }
         ensures same { IfOk result (λ taken. self.new
@@ -267,7 +267,7 @@ impl<A: Allocator + Clone> Walk<A> {
 
     /// Emits a value or a relation that doesn't go with the group after it, whose code is complete
     /// by now.
-    fn emit_apart(&mut self, link: Link, pending: Pending, entry: Entry) -> Result<(), AllocError>
+    fn emit_apart(&mut self, link: Link, pending: Pending, entry: Entry) -> Result<()>
         ensures { OnOk result (self.new ≡ emit_apart link entry self.old pending
             (larger_group entry self.old.group)) }
     {
@@ -285,7 +285,7 @@ impl<A: Allocator + Clone> Walk<A> {
     }
 
     /// Emits a value or a relation by itself.
-    fn emit_alone(&mut self, link: Link, entry: Entry) -> Result<(), AllocError>
+    fn emit_alone(&mut self, link: Link, entry: Entry) -> Result<()>
         ensures { OnOk result (self.new ≡ finish_formula link (entry_formula link entry) self.old) }
     {
         let place = self.code.emit_entry(link, entry, self.to)?;
@@ -295,7 +295,7 @@ impl<A: Allocator + Clone> Walk<A> {
 
     /// Emits a primitive, a negation or a comparison. Any other node matches no packet, as a value
     /// whose qualifiers aren't filled in; a `Checked` expression has none.
-    fn emit_truth_node(&mut self, link: Link, node: &Node) -> Result<(), AllocError>
+    fn emit_truth_node(&mut self, link: Link, node: &Node) -> Result<()>
         ensures { OnOk result (self.new ≡ emit_truth_node link self.old node.now) }
     {
         let entry = match node {
@@ -319,7 +319,7 @@ impl<A: Allocator + Clone> Walk<A> {
 
     /// If an `or` was the last node, its right operand isn't looked for together with the left one,
     /// which waits then. Else nothing changes.
-    fn begin_right(&mut self) -> Result<(), AllocError>
+    fn begin_right(&mut self) -> Result<()>
         ensures { OnOk result (self.new ≡ begin_right self.old.pending self.old) }
     {
         match self.pending {
@@ -332,7 +332,7 @@ impl<A: Allocator + Clone> Walk<A> {
     }
 
     /// The left operand waits for the right one of a join, which is next.
-    fn begin_left(&mut self, join: Join) -> Result<(), AllocError>
+    fn begin_left(&mut self, join: Join) -> Result<()>
         ensures { OnOk result (self.new ≡ begin_left join self.old) }
     {
         let to = self.to;
@@ -340,10 +340,9 @@ impl<A: Allocator + Clone> Walk<A> {
     }
 
     /// Emits the code of the group that waits, if it has members: another operand of an `or` stands
-    /// in front of it. That operand is next, and goes on at the group's code if it doesn't
-    /// match. Before that, if the last node was an `or`, its left operand begins to wait
-    /// (`begin_right`).
-    fn flush_group(&mut self, link: Link) -> Result<(), AllocError>
+    /// in front of it. That operand is next, and goes on at the group's code if it doesn't match.
+    /// Before that, if the last node was an `or`, its left operand begins to wait (`begin_right`).
+    fn flush_group(&mut self, link: Link) -> Result<()>
         ensures { OnOk result (self.new ≡ flush_group link self.old) }
     {
         self.begin_right()?;
@@ -356,7 +355,7 @@ impl<A: Allocator + Clone> Walk<A> {
     }
 
     /// Emits the code of the group, which has members, and empties it.
-    fn emit_group(&mut self, link: Link) -> Result<(), AllocError>
+    fn emit_group(&mut self, link: Link) -> Result<()>
         ensures { OnOk result (self.new ≡ finish_formula link (group_formula link self.old.group)
             (record self.old { group = no_group })) }
     {
@@ -382,7 +381,7 @@ impl<A: Allocator + Clone> Walk<A> {
     }
 
     /// Emits the load of a number, or of the packet's original length, into A.
-    fn emit_leaf(&mut self, link: Link, source: Source, number: u32) -> Result<(), AllocError>
+    fn emit_leaf(&mut self, link: Link, source: Source, number: u32) -> Result<()>
         ensures { OnOk result (self.new ≡ emit_leaf link source number self.old) }
     {
         self.code
@@ -394,7 +393,7 @@ impl<A: Allocator + Clone> Walk<A> {
     /// in A and the right one in X. The right one is next, and the left one, which goes into the
     /// word `slot`, waits. An error is a failed allocation, or a word that no number of 32 bits
     /// names.
-    fn begin_operands(&mut self, slot: u32) -> Result<(), AllocError>
+    fn begin_operands(&mut self, slot: u32) -> Result<()>
         ensures { OnOk result (self.new ≡ begin_operands slot self.old.code self.old) }
     {
         emit_operands(&mut self.code, slot)?;
@@ -404,7 +403,7 @@ impl<A: Allocator + Clone> Walk<A> {
 
     /// A number's code is emitted: the accessors whose index it is are complete, and then the left
     /// operand that waits is next. If none waits, the relation is complete.
-    fn finish_number(&mut self, link: Link) -> Result<(), AllocError>
+    fn finish_number(&mut self, link: Link) -> Result<()>
         ensures { OnOk result (self.new ≡ finish_number link self.old.numbers self.old) }
     {
         // The label names the loop in its proof.
@@ -425,7 +424,7 @@ impl<A: Allocator + Clone> Walk<A> {
     }
 
     /// The operands of a relation are emitted: the tests of its accessors stand in front of them.
-    fn finish_relation(&mut self, link: Link) -> Result<(), AllocError>
+    fn finish_relation(&mut self, link: Link) -> Result<()>
         ensures { OnOk result (self.new ≡ finish_relation link self.old) }
     {
         let yes = self.code.top();

@@ -5,14 +5,14 @@ ghost use Rattle.std.specs.Prelude.{◌≡◌};
 ghost use Rattle.flt_gen.specs.Primitives.{address_test, port_is, port_between};
 ghost use Rattle.flt_gen.specs.inside.{Emits.EmitsFormula, Emitted.wanted_formula};
 
-use crate::code::{Code, Targets};
+use crate::code::{Code, Result, Targets};
 use crate::elementary::{Elementary, Offset, Sides, compares_at, compares_under};
 use crate::intervals::Numbers;
 use cap_octet::Link;
 use flt_ast::Direction;
 use flt_bpf::operation::Width;
 use flt_words::Comparison;
-use std::alloc::{AllocError, Allocator};
+use std::alloc::Allocator;
 
 /// What is looked for, on the sides of a direction.
 #[derive(Clone, Copy)]
@@ -60,7 +60,7 @@ impl<A: Allocator> Code<A> {
         wanted: Wanted,
         numbers: &Numbers<'_>,
         to: Targets,
-    ) -> Result<usize, AllocError>
+    ) -> Result<usize>
         ensures { EmitsFormula link (wanted_formula link wanted numbers.now at) to self.old result
             self.new }
     {

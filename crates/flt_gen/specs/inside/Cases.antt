@@ -1,25 +1,21 @@
 -- Lists of MAC addresses, of addresses and networks of IPv6, of protocol numbers, and of relations of
 -- one accessor, as decision trees: the first words are compared by halves, and then the next ones.
-use Rattle.std.specs.List.{list_all, insert}
 use Rattle.std.specs.Prelude.{ℕ, zero, suc, ◌+◌, ◌-◌, ◌/◌, ◌^◌, ◌==◌, ◌&&◌, nat_lt, nat_le, min, Bool, true, false, if◌then◌else◌, List, [], ◌∷◌, length, take, drop, slice_get, count_by, is_none, Option, Some, None}
-use Rattle.flt_words.specs.declared.token.{Comparison.TheVariants.AtLeast, Protocol.Protocol}
-use Rattle.flt_words.specs.declared.token.ValueType.{ValueType}
-use Rattle.flt_words.specs.declared.token.Join.TheVariants.{And, Or}
+use Rattle.std.specs.List.{list_all, insert}
+use Rattle.flt_words.specs.declared.token.{Comparison.TheVariants.AtLeast, Join.TheVariants.And, Join.TheVariants.Or}
+use Rattle.flt_words.specs.declared.token.Protocol.{Protocol}
+use Rattle.flt_words.specs.declared.token.ValueType.{ValueType, TheVariants.Host, TheVariants.Net, TheVariants.Proto}
 use Rattle.flt_words.specs.declared.token.Side.{Side, TheVariants.Source, TheVariants.Destination}
-use Rattle.flt_words.specs.declared.token.ValueType.TheVariants.{Host, Net, Proto}
 use Rattle.flt_ast.specs.declared.{qualifiers.Direction.Direction, value.Value.Value}
 use Rattle.cap_octet.specs.{Link.network_offset, declared.link.Link.Link}
 use Rattle.flt_gen.specs.Elementary.{with, kind_test, has_ip_proto, has_ip6_proto}
 use Rattle.flt_gen.specs.Formula.{Formula, Single, Both, Either, Split, all_of, guarded_formula}
-use Rattle.flt_gen.specs.{Numbers.accessor_tests, Primitives.mac_tests, Primitives.ip6_tests}
+use Rattle.flt_gen.specs.{Numbers.accessor_tests, declared.cases.Case.Case, declared.elementary.FrameKind.FrameKind}
+use Rattle.flt_gen.specs.Primitives.{mac_tests, ip6_tests}
 use Rattle.flt_gen.specs.inside.{Emitted.equals, Emitted.needed_tests, Relations.relation_test}
-use Rattle.flt_gen.specs.declared.cases.Bound.{Bound}
-use Rattle.flt_gen.specs.declared.cases.Bound.TheVariants.{Below, From, Exactly}
-use Rattle.flt_gen.specs.declared.cases.Case.{Case}
+use Rattle.flt_gen.specs.declared.cases.Bound.{Bound, TheVariants.Below, TheVariants.From, TheVariants.Exactly}
 use Rattle.flt_gen.specs.declared.cases.Case.TheVariants.{Mac, Ip6, IpProto, Ip6Proto}
-use Rattle.flt_gen.specs.declared.elementary.Elementary.{Elementary}
-use Rattle.flt_gen.specs.declared.elementary.Elementary.TheVariants.{Outcome, Field}
-use Rattle.flt_gen.specs.declared.elementary.FrameKind.{FrameKind}
+use Rattle.flt_gen.specs.declared.elementary.Elementary.{Elementary, TheVariants.Outcome, TheVariants.Field}
 
 -- a value as a case, or none: an address of one side or of either, a network of one side, or a
 -- protocol of IPv4 or of IPv6
@@ -40,8 +36,7 @@ shares _ same = true
 -- both are compared in the same words, of which on either side all but the last are the same
 abbrev pub same_words : Direction → Case → Case → Bool
 same_words d (Mac a) (Mac b) = shares d (a / 2 ^ 16 == b / 2 ^ 16)
-same_words d (Ip6 m a) (Ip6 n b) =
-    shares d ((is_none m && is_none n) && a / 2 ^ 32 == b / 2 ^ 32)
+same_words d (Ip6 m a) (Ip6 n b) = shares d ((is_none m && is_none n) && a / 2 ^ 32 == b / 2 ^ 32)
 same_words d (IpProto a) (IpProto b) = true
 same_words d (Ip6Proto a) (Ip6Proto b) = true
 same_words d (Case.Relation a) (Case.Relation b) =
@@ -149,27 +144,12 @@ is_parted tests word cs at =
     nat_lt 0 at && (nat_lt at (length cs)
     && (all_keep tests word (Below n) (take at cs) && all_keep tests word (From n) (drop at cs)))
 
--- how many cases of several words are compared one after the other, at most
-abbrev pub MOST_OF_WORDS : ℕ
-MOST_OF_WORDS = 13
-
--- how many MAC addresses of a long list are, at most
-abbrev pub MOST_OF_LONG : ℕ
-MOST_OF_LONG = 4
-
--- how many MAC addresses make a list long
-abbrev pub LONG_LIST : ℕ
-LONG_LIST = 40
-
--- how many cases of one word are, at most
-abbrev pub MOST_IN_TURN : ℕ
-MOST_IN_TURN = 40
-
--- how many of n cases with the words of one are, at most
+-- how many of n cases with the words of one are compared one after the other, at most: fewer of
+-- several words than of one, and fewest MAC addresses of a long list
 abbrev pub few_of : Case → ℕ → ℕ
-few_of (Mac a) n = if nat_le LONG_LIST n then MOST_OF_LONG else min (n - n / 2) MOST_OF_WORDS
-few_of (Ip6 m a) n = min (n - n / 2) MOST_OF_WORDS
-few_of c n = min (n - n / 2) MOST_IN_TURN
+few_of (Mac a) n = if nat_le 40 n then 4 else min (n - n / 2) 13
+few_of (Ip6 m a) n = min (n - n / 2) 13
+few_of c n = min (n - n / 2) 40
 
 -- all cases have a test, if there is one, and then what follows it, if they have another test
 abbrev pub same_word : Option Elementary → Option Elementary → Formula → Formula

@@ -1,25 +1,21 @@
 -- The code of a formula, which is emitted in front of the code that is present.
-use Rattle.std.specs.Option.{is_none}
 use Rattle.std.specs.Prelude.{ℕ, ◌+◌, ◌-◌, ◌%◌, ◌^◌, true, false, ◌==◌, ◌&&◌, if◌then◌else◌, Bool, List, [], ◌∷◌, length, Option, Some, None}
-use Rattle.flt_bpf.specs.{Check.constant_fault, Instructions.code_of}
-use Rattle.flt_bpf.specs.declared.{insn.Insn.Insn, operation.AluOperation.AluOperation}
-use Rattle.flt_bpf.specs.declared.operation.Operand.{Operand, TheVariants.Constant, TheVariants.IndexRegister}
-use Rattle.flt_bpf.specs.declared.operation.Operation.{Operation}
 use Rattle.flt_bpf.specs.declared.operation.Operation.TheVariants.{LoadAbsolute, LoadIndirect, Load, LoadHeaderLength, Store, Compute, Negate, JumpIf, CopyToIndex}
+use Rattle.flt_bpf.specs.declared.operation.{Test.Test, Width.Width, Width.TheVariants.Word, Width.TheVariants.HalfWord, Width.TheVariants.Byte}
+use Rattle.flt_words.specs.declared.token.Operator.TheVariants.{Or, And, ShiftLeft, ShiftRight, Add, Subtract, Multiply, Divide, Remainder, ExclusiveOr}
+use Rattle.std.specs.Option.{is_none, option_map_or}
+use Rattle.flt_bpf.specs.{Check.constant_fault, Instructions.code_of}
+use Rattle.flt_bpf.specs.declared.{insn.Insn.Insn, operation.AluOperation.AluOperation, operation.Operation.Operation}
+use Rattle.flt_bpf.specs.declared.operation.Operand.{Operand, TheVariants.Constant, TheVariants.IndexRegister}
 use Rattle.flt_bpf.specs.declared.operation.Register.TheVariants.{Accumulator, Index}
 use Rattle.flt_bpf.specs.declared.operation.Source.TheVariants.{Immediate, Memory, Length}
-use Rattle.flt_bpf.specs.declared.operation.{Test.Test, Width.Width, Width.TheVariants.Word, Width.TheVariants.HalfWord, Width.TheVariants.Byte}
-use Rattle.flt_words.specs.declared.token.Comparison.{Comparison}
+use Rattle.flt_words.specs.declared.token.{Comparison.Comparison, Operator.Operator, Protocol.Protocol}
 use Rattle.flt_words.specs.declared.token.Comparison.TheVariants.{Equal, NotEqual, Less, AtMost, Greater, AtLeast}
-use Rattle.flt_words.specs.declared.token.Operator.{Operator}
-use Rattle.flt_words.specs.declared.token.Operator.TheVariants.{Or, And, ShiftLeft, ShiftRight, Add, Subtract, Multiply, Divide, Remainder, ExclusiveOr}
-use Rattle.flt_words.specs.declared.token.Protocol.{Protocol}
 use Rattle.flt_words.specs.declared.token.Protocol.TheVariants.{Ether, Tcp, Udp, Icmp}
 use Rattle.flt_ast.specs.Tree.{NumberTree, literal, len, named, load, negated, applied}
 use Rattle.cap_octet.specs.{Link.network_offset, declared.link.Link.Link}
-use Rattle.flt_gen.specs.Elementary.{with}
+use Rattle.flt_gen.specs.{Elementary.with, Numbers.width_of}
 use Rattle.flt_gen.specs.Formula.{Formula, Single, Compare, Both, Either, Except, Split}
-use Rattle.flt_gen.specs.Numbers.{width_of}
 use Rattle.flt_gen.specs.declared.elementary.Elementary.{Elementary, TheVariants.Outcome, TheVariants.Field}
 use Rattle.flt_gen.specs.declared.elementary.{FieldPlace.FieldPlace, FieldTest.FieldTest, Offset.Offset}
 use Rattle.flt_gen.specs.declared.elementary.Offset.TheVariants.{Fixed, AfterHeader, AtIndex}
@@ -123,12 +119,6 @@ accessor_offset link Udp k = AfterHeader (network_offset link) ((network_offset 
 accessor_offset link Icmp k = AfterHeader (network_offset link) ((network_offset link + k) % 2 ^ 32)
 accessor_offset link _ k = Fixed ((network_offset link + k) % 2 ^ 32)
 
--- the code of an instruction with a constant operand or index in it, or else, if there is none, the
--- code that computes that
-abbrev pub constant_or : Option ℕ → (ℕ → List Insn) → List Insn → List Insn
-constant_or (Some k) short long = short k
-constant_or None short long = long
-
 -- the right operand, which is in A, goes into X, and the left one comes back into A from its word
 abbrev pub emit_operands : ℕ → List Insn → List Insn
 emit_operands slot c = plain CopyToIndex 0 ∷ plain (Load Accumulator Memory) slot ∷ c
@@ -140,22 +130,20 @@ emit_number link (literal k) slot c = plain (Load Accumulator Immediate) k ∷ c
 emit_number link (named k) slot c = plain (Load Accumulator Immediate) k ∷ c
 emit_number link len slot c = plain (Load Accumulator Length) 0 ∷ c
 emit_number link (load protocol size i) slot c =
-    constant_or (constant i) (λ k. emit_field (accessor_offset link protocol k) (width_of size) c)
+    option_map_or (λ k. emit_field (accessor_offset link protocol k) (width_of size) c) (constant i)
     (emit_number link i slot (emit_accessor link protocol (width_of size) c))
 emit_number link (negated a) slot c = emit_number link a slot (plain Negate 0 ∷ c)
 emit_number link (applied operator l r) slot c =
-    emit_number link l slot (constant_or (constant_operand operator r)
-    (λ k. plain (computation operator Constant) k ∷ c)
-    (plain (Store Accumulator) slot ∷ emit_number link r (slot + 1)
+    emit_number link l slot (option_map_or (λ k. plain (computation operator Constant) k ∷ c)
+    (constant_operand operator r) (plain (Store Accumulator) slot ∷ emit_number link r (slot + 1)
     (emit_operands slot (plain (computation operator IndexRegister) 0 ∷ c))))
 
 -- two numbers are computed and compared, and the code goes on at one of two places
 abbrev pub emit_relation : Link → Comparison → NumberTree → NumberTree → ℕ → ℕ → List Insn
     → List Insn
 emit_relation link comparison l r hit miss c =
-    emit_number link l 0 (constant_or (constant r)
-    (λ k. emit_comparison comparison Constant k hit miss c)
-    (plain (Store Accumulator) 0 ∷ emit_number link r 1 (emit_operands 0
+    emit_number link l 0 (option_map_or (λ k. emit_comparison comparison Constant k hit miss c)
+    (constant r) (plain (Store Accumulator) 0 ∷ emit_number link r 1 (emit_operands 0
     (emit_comparison comparison IndexRegister 0 hit miss c))))
 
 -- code, and the place at which it is entered

@@ -1,12 +1,11 @@
 -- How many words of memory, nodes of arithmetic, tests and loads a formula has.
 use Rattle.std.specs.Prelude.{ℕ, ◌+◌, ◌*◌, ◌==◌, max, nat_le, if◌then◌else◌, List, [], ◌∷◌, length, Option, Some, None}
-use Rattle.flt_ast.specs.Counts.{number_words, number_size}
-use Rattle.flt_ast.specs.declared.qualifiers.Direction.{Direction}
+use Rattle.flt_ast.specs.{Counts.number_words, Counts.number_size, declared.qualifiers.Direction.Direction}
 use Rattle.flt_words.specs.declared.token.Join.TheVariants.{And, Or}
 use Rattle.flt_gen.specs.Formula.{Formula, Single, Compare, Both, Either, Except, Split}
 use Rattle.flt_gen.specs.declared.elementary.Elementary.{Elementary, TheVariants.Outcome, TheVariants.Field}
-use Rattle.flt_gen.specs.declared.elementary.{FieldPlace.FieldPlace, FieldTest.FieldTest, Interval.Interval}
-use Rattle.flt_gen.specs.declared.elementary.{Offset.Offset, Offset.TheVariants.Fixed}
+use Rattle.flt_gen.specs.declared.elementary.{FieldPlace.FieldPlace, Offset.Offset, Offset.TheVariants.Fixed}
+use Rattle.flt_gen.specs.declared.elementary.{FieldTest.FieldTest, Interval.Interval}
 use Rattle.flt_gen.specs.inside.{Code.is_loaded, Code.left_by, Search.Numbers}
 
 -- how many words of memory the code of a formula needs at most
@@ -36,8 +35,7 @@ first_ends (i ∷ is) = if i.low == i.high then 0 else 1
 -- two; on either side twice as many, and one to three more for those of the first member
 abbrev pub sought_tests : Direction → Numbers → ℕ
 sought_tests (Direction.Both Or) numbers =
-    2 * max 1 (length numbers.all)
-    + max (first_ends numbers.all) (first_ends (numbers.first ∷ []))
+    2 * max 1 (length numbers.all) + max (first_ends numbers.all) (first_ends (numbers.first ∷ []))
     + (if nat_le 5 (length numbers.all) then 3 else 1)
 sought_tests (Direction.Both And) numbers = 1
 sought_tests _ numbers = max 1 (length numbers.all) + first_ends numbers.all

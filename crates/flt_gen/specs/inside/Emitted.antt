@@ -1,19 +1,15 @@
 -- Formulas of which code is emitted, if they aren't those of the table: they read the same.
 use Rattle.std.specs.Prelude.{ℕ, ◌+◌, ◌==◌, ◌&&◌, Bool, true, false, if◌then◌else◌, List, [], ◌∷◌, Option, Some, None}
-use Rattle.flt_words.specs.declared.token.Comparison.{Comparison, TheVariants.AtLeast}
-use Rattle.flt_words.specs.declared.token.Protocol.{Protocol}
+use Rattle.flt_words.specs.declared.token.{Comparison.Comparison, Comparison.TheVariants.AtLeast, Protocol.Protocol}
 use Rattle.flt_words.specs.declared.token.Protocol.TheVariants.{Ether, Ip, Ip6, Arp, Rarp, Tcp, Udp, Icmp, Icmp6}
 use Rattle.flt_words.specs.declared.token.ValueType.{ValueType, TheVariants.Net}
-use Rattle.flt_ast.specs.Tree.{NumberTree, load, negated, applied}
-use Rattle.flt_ast.specs.declared.qualifiers.CompleteQualifiers.{CompleteQualifiers}
-use Rattle.flt_ast.specs.declared.{qualifiers.Direction.Direction, value.Value.Value}
+use Rattle.flt_ast.specs.{Tree.NumberTree, Tree.load, Tree.negated, Tree.applied, declared.value.Value.Value}
+use Rattle.flt_ast.specs.declared.qualifiers.{CompleteQualifiers.CompleteQualifiers, Direction.Direction}
 use Rattle.cap_octet.specs.{Link.network_offset, declared.link.Link.Link}
-use Rattle.flt_gen.specs.Elementary.{kind_test}
+use Rattle.flt_gen.specs.{Elementary.kind_test, inside.Search.Numbers, inside.Search.sought_formula}
 use Rattle.flt_gen.specs.Formula.{Formula, Compare, checked_formula, sides}
-use Rattle.flt_gen.specs.inside.Search.{Numbers, sought_formula}
 use Rattle.flt_gen.specs.Primitives.{after, ip6_tests, value_formula, in_net, is_port, in_range}
-use Rattle.flt_gen.specs.declared.elementary.Elementary.{Elementary}
-use Rattle.flt_gen.specs.declared.elementary.Elementary.TheVariants.{Outcome, Field}
+use Rattle.flt_gen.specs.declared.elementary.Elementary.{Elementary, TheVariants.Outcome, TheVariants.Field}
 use Rattle.flt_gen.specs.declared.{elementary.FrameKind.FrameKind, elementary.Sides.Sides, wanted.Wanted.Wanted}
 
 -- ---- the tests of a protocol's accessors stand once in front of a comparison
@@ -83,8 +79,7 @@ last_test t = if is_idle t then capture_test t else t
 abbrev pub needed_tests : List Elementary → List Elementary
 needed_tests [] = []
 needed_tests (t ∷ []) = last_test t ∷ []
-needed_tests (t ∷ u ∷ ts) =
-    if is_idle t then needed_tests (u ∷ ts) else t ∷ needed_tests (u ∷ ts)
+needed_tests (t ∷ u ∷ ts) = if is_idle t then needed_tests (u ∷ ts) else t ∷ needed_tests (u ∷ ts)
 
 -- the tests that decide of the words of both sides, as a direction asks for them
 abbrev pub needed_sides : Direction → List Elementary → List Elementary → Formula

@@ -1,9 +1,10 @@
 -- Arithmetic of only numbers is one number, if it has a value.
-use Rattle.std.specs.Prelude.{ℕ, zero, suc, ◌-◌, ◌%◌, ◌^◌, List, [], ◌∷◌, Option, Some, None}
+use Rattle.std.specs.Prelude.{ℕ, zero, suc, ◌-◌, ◌%◌, ◌^◌, List, [], ◌∷◌, Option, Some}
 use Rattle.flt_words.specs.declared.token.{Join.Join, Join.TheVariants.And, Join.TheVariants.Or, Operator.Operator}
 use Rattle.flt_ast.specs.Tree.{NumberTree, literal, named, load, negated, applied, TruthTree, compared, denied, joined, Expression, empty, truth}
 use Rattle.flt_ast.specs.declared.node.Node.{Node}
 use Rattle.flt_gen.specs.{Elementary.with, Numbers.result_of, inside.Code.constant}
+use Rattle.std.specs.Option.{option_map_or}
 
 -- the negative of a number, modulo 2^32, or none if there is no number
 abbrev pub negated_constant : Option ℕ → Option ℕ
@@ -15,19 +16,14 @@ applied_constant operator a b = with b (λ y. with a (λ x. result_of operator x
 
 -- ---- trees
 
--- this constant as a tree, or else the other tree
-abbrev pub number_or : Option ℕ → NumberTree → NumberTree
-number_or (Some k) a = literal k
-number_or None a = a
-
 -- a negation, or the number that it gives if its operand is one
 abbrev pub negated_number : NumberTree → NumberTree
-negated_number a = number_or (negated_constant (constant a)) (negated a)
+negated_number a = option_map_or literal (negated_constant (constant a)) (negated a)
 
 -- an operator between two numbers, or the number that it gives where both are constants
 abbrev pub applied_number : Operator → NumberTree → NumberTree → NumberTree
 applied_number operator a b =
-    number_or (applied_constant operator (constant a) (constant b)) (applied operator a b)
+    option_map_or literal (applied_constant operator (constant a) (constant b)) (applied operator a b)
 
 -- arithmetic in which a name, and each part of only numbers that has a value, is one number
 abbrev pub folded_number : NumberTree → NumberTree
@@ -63,35 +59,17 @@ folded_expression (truth a) = truth (folded_truth a)
 
 -- ---- the same of nodes, of which the latest comes first
 
--- the number that a node is, or none for other nodes; no names are left of the nodes before
-abbrev pub node_constant : Node → Option ℕ
-node_constant (Node.Literal k) = Some k
-node_constant _ = None
-
--- the number that the latest node is, or none if it isn't a number
-abbrev pub latest_constant : List Node → Option ℕ
-latest_constant [] = None
-latest_constant (n ∷ ns) = node_constant n
-
--- the nodes before the latest one
-abbrev pub earlier : List Node → List Node
-earlier [] = []
-earlier (n ∷ ns) = ns
-
--- this constant as a node after the nodes `before`, or else the other nodes
-abbrev pub node_or : Option ℕ → List Node → List Node → List Node
-node_or (Some k) before nodes = Node.Literal k ∷ before
-node_or None before nodes = nodes
-
 -- appends a negation, or replaces a constant by its negative
 abbrev pub with_negation : List Node → List Node
-with_negation ns = node_or (negated_constant (latest_constant ns)) (earlier ns) (Node.Negate ∷ ns)
+with_negation (Node.Literal k ∷ ns) = Node.Literal ((2 ^ 32 - k) % 2 ^ 32) ∷ ns
+with_negation ns = Node.Negate ∷ ns
 
--- appends an operator, or replaces two constants by its result
+-- appends an operator, or replaces two constants by its result, if there is one
 abbrev pub with_operator : Operator → List Node → List Node
-with_operator operator ns =
-    node_or (applied_constant operator (latest_constant (earlier ns)) (latest_constant ns))
-    (earlier (earlier ns)) (Node.Apply operator ∷ ns)
+with_operator operator (Node.Literal y ∷ Node.Literal x ∷ ns) =
+    option_map_or (λ k. Node.Literal k ∷ ns) (result_of operator x y)
+    (Node.Apply operator ∷ Node.Literal y ∷ Node.Literal x ∷ ns)
+with_operator operator ns = Node.Apply operator ∷ ns
 
 -- the number of trees still needed once this node is read
 abbrev pub and_operands : Node → ℕ → ℕ

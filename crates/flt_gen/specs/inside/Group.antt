@@ -1,29 +1,22 @@
 -- Addresses, ports, protocols or relations that are looked for together, since they stand one after
 -- the other with `or` between them.
 use Rattle.std.specs.Prelude.{ℕ, ◌+◌, ◌-◌, ◌^◌, ◌==◌, nat_lt, nat_le, min, max, bit_and, not, Bool, true, false, ◌&&◌, if◌then◌else◌, List, [], ◌∷◌, length, is_none, Option, Some, None}
-use Rattle.flt_words.specs.declared.token.Join.TheVariants.{And, Or}
-use Rattle.flt_words.specs.declared.token.Protocol.{Protocol}
-use Rattle.flt_words.specs.declared.token.Side.TheVariants.{Source, Destination}
-use Rattle.flt_words.specs.declared.token.ValueType.{ValueType}
+use Rattle.flt_words.specs.declared.token.{Join.TheVariants.And, Join.TheVariants.Or, Protocol.Protocol}
+use Rattle.flt_words.specs.declared.token.{Side.TheVariants.Source, Side.TheVariants.Destination, ValueType.ValueType}
 use Rattle.flt_words.specs.declared.token.ValueType.TheVariants.{Host, Net, Port, PortRange}
-use Rattle.flt_ast.specs.Nets.{ip4_net}
-use Rattle.std.specs.Prelude.{count_ones}
-use Rattle.flt_ast.specs.Tree.{TruthTree, qualified, compared, denied, joined}
-use Rattle.flt_ast.specs.declared.qualifiers.CompleteQualifiers.{CompleteQualifiers}
-use Rattle.flt_ast.specs.declared.qualifiers.Direction.{Direction}
+use Rattle.flt_ast.specs.{Nets.ip4_net, Tree.TruthTree, Tree.qualified, Tree.compared, Tree.denied, Tree.joined}
+use Rattle.std.specs.{Prelude.count_ones, Option.option_map_or}
+use Rattle.flt_ast.specs.declared.qualifiers.{CompleteQualifiers.CompleteQualifiers, Direction.Direction}
 use Rattle.flt_ast.specs.declared.value.{Ip4Net.Ip4Net, Value.Value}
 use Rattle.cap_octet.specs.declared.link.Link.{Link}
-use Rattle.flt_gen.specs.Elementary.{with}
+use Rattle.flt_gen.specs.{Elementary.with, Numbers.accessor_tests, declared.cases.Case.Case, declared.group.Entry.Entry}
 use Rattle.flt_gen.specs.Formula.{Formula, Single, Both, Either, Except, guarded_formula}
-use Rattle.flt_gen.specs.inside.Search.{Numbers, sought_formula, most_in_turn}
-use Rattle.flt_gen.specs.Primitives.{hosts_formula, port_formula}
-use Rattle.flt_gen.specs.{Numbers.accessor_tests, Reading.formula, declared.cases.Case.Case}
+use Rattle.flt_gen.specs.inside.{Search.Numbers, Search.sought_formula, Search.most_in_turn, Relations.relation_of, Relations.relation_test}
+use Rattle.flt_gen.specs.{Primitives.hosts_formula, Primitives.port_formula, Reading.formula}
 use Rattle.flt_gen.specs.declared.elementary.{Elementary.TheVariants.Outcome, Interval.Interval}
-use Rattle.flt_gen.specs.declared.group.Entry.{Entry}
 use Rattle.flt_gen.specs.inside.Cases.{case_of, same_words, insert_case, are_either, cases_formula}
 use Rattle.flt_gen.specs.inside.Emitted.{equals, relation_formula, qualified_needed}
 use Rattle.flt_gen.specs.inside.Intervals.{no_interval, insert_ascending, sought}
-use Rattle.flt_gen.specs.inside.Relations.{relation_of, relation_test}
 
 -- the qualifiers of the member that stands first, whether each member is one number, the numbers of
 -- the first and of all, which ascend, or the first and all members as cases, and the members, in the
@@ -53,10 +46,6 @@ no_group = record {
 abbrev pub interval : ℕ → ℕ → Interval
 interval low high = record { low = low; high = high }
 
--- a value as a member, with its qualifiers
-abbrev pub entry : CompleteQualifiers → Value → Entry
-entry q v = Entry.Value q v
-
 -- no members
 abbrev pub is_empty : List Entry → Bool
 is_empty [] = true
@@ -69,7 +58,7 @@ with_member q v i group = record group {
   is_plain = i.low == i.high && group.is_plain;
   first = i;
   all = insert_ascending i group.all;
-  entries = entry q v ∷ group.entries;
+  entries = Entry.Value q v ∷ group.entries;
 }
 
 -- a group with one more member in front, which is compared word by word
@@ -169,7 +158,7 @@ larger_by q e c group =
 -- a group with one more value, as a case, or else by its numbers
 abbrev pub larger_with : CompleteQualifiers → Value → Group → Option Case → Option Group
 larger_with q v group None = group_and q v group (member_of q.value_type v)
-larger_with q v group (Some c) = larger_by q (entry q v) c group
+larger_with q v group (Some c) = larger_by q (Entry.Value q v) c group
 
 -- the group with one more in front, or none if the entry does not go with it
 abbrev pub larger_group : Entry → Group → Option Group
@@ -182,24 +171,16 @@ larger_group (Entry.Relation r) group =
 abbrev pub FEWEST_RANGES : ℕ
 FEWEST_RANGES = 3
 
--- how many cases are decided together at least: fewer are shorter one after the other
-abbrev pub FEWEST_CASES : ℕ
-FEWEST_CASES = 8
-
--- how many addresses and networks of IPv6 on one side are
-abbrev pub FEWEST_ADDRESSES : ℕ
-FEWEST_ADDRESSES = 20
-
 -- how many addresses with the words of one on either side are: the code of fewer might be longer
 -- than their bound allows
 abbrev pub fewest_either : Case → ℕ
 fewest_either (Case.Mac a) = 4
 fewest_either c = 3
 
--- how many cases as one are, on one side or without one
+-- how many cases as one are, on one side or without one: fewer are shorter one after the other
 abbrev pub fewest_as : Case → ℕ
-fewest_as (Case.Ip6 n a) = FEWEST_ADDRESSES
-fewest_as c = FEWEST_CASES
+fewest_as (Case.Ip6 n a) = 20
+fewest_as c = 8
 
 -- how many members with a direction are looked for together at least: as cases, or as numbers, which
 -- may be one each
@@ -244,8 +225,7 @@ rows_formula link (e ∷ f ∷ es) = Either (entry_formula link e) (rows_formula
 abbrev pub together_formula : Link → Group → Option Case → Formula
 together_formula link group None =
     several_formula link group.qualifiers (has_addresses group.qualifiers.value_type) (numbers_of group)
-together_formula link group (Some c) =
-    cases_formula link group.qualifiers.direction c group.cases
+together_formula link group (Some c) = cases_formula link group.qualifiers.direction c group.cases
 
 -- a packet has one of the members
 abbrev pub group_formula : Link → Group → Formula
@@ -264,7 +244,7 @@ or_group link f group = or_any f (group_formula link group) group.entries
 
 -- a truth as an entry, or none if it can be none
 abbrev pub entry_of : TruthTree → Option Entry
-entry_of (qualified q v) = Some (entry q v)
+entry_of (qualified q v) = Some (Entry.Value q v)
 entry_of (compared c l r) = relation_of c l r
 entry_of _ = None
 
@@ -272,30 +252,26 @@ entry_of _ = None
 abbrev pub truth_member : TruthTree → Group → Option Group
 truth_member a group = with (entry_of a) (λ e. larger_group e group)
 
--- the formula by a group, if there is one, or else another
-abbrev pub choice : Option Group → (Group → Formula) → Formula → Formula
-choice None f g = g
-choice (Some group) f g = f group
-
 -- an entry, or else one of the group after it; the same of a formula, if there is no entry
 abbrev pub leaf_formula : Link → Option Entry → Formula → Group → Formula
 leaf_formula link None f group = or_group link f group
 leaf_formula link (Some e) f group =
-    choice (larger_group e group) (group_formula link) (or_group link (entry_formula link e) group)
+    option_map_or (group_formula link) (larger_group e group)
+    (or_group link (entry_formula link e) group)
 
 -- the formula of a truth, or else one of the group after it: the members at its end are looked for
 -- together with it, or with one another if they don't go with it
 abbrev pub grouped_formula : Link → Group → TruthTree → Formula
 grouped_formula link group (joined Or a b) =
-    choice (truth_member b group) (λ more. grouped_formula link more a)
-    (choice (truth_member b no_group) (λ new. or_group link (grouped_formula link new a) group)
+    option_map_or (λ more. grouped_formula link more a) (truth_member b group)
+    (option_map_or (λ new. or_group link (grouped_formula link new a) group) (truth_member b no_group)
     (Either (grouped_formula link no_group a) (grouped_formula link group b)))
 grouped_formula link group (joined And a b) =
     or_group link (Both (grouped_formula link no_group a) (grouped_formula link no_group b)) group
 grouped_formula link group (denied a) =
     or_group link (Except (grouped_formula link no_group a)) group
 grouped_formula link group (qualified q v) =
-    leaf_formula link (Some (entry q v)) (qualified_needed link q v) group
+    leaf_formula link (Some (Entry.Value q v)) (qualified_needed link q v) group
 grouped_formula link group (compared c l r) =
     leaf_formula link (relation_of c l r) (relation_formula link c l r) group
 grouped_formula link group a = or_group link (formula link a) group

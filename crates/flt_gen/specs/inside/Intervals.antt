@@ -12,18 +12,15 @@ abbrev pub insert_ascending : Interval → List Interval → List Interval
 insert_ascending i [] = i ∷ []
 insert_ascending i (j ∷ js) = if nat_lt j.low i.low then j ∷ insert_ascending i js else i ∷ j ∷ js
 
--- there is a number between two intervals, the second of which doesn't begin first
-abbrev pub is_gap : Interval → Interval → Bool
-is_gap i j = nat_lt 1 (j.low - i.high)
-
 -- an interval that goes on as far as another one, if that ends later
 abbrev pub extended : Interval → Interval → Interval
 extended i j = record { low = i.low; high = max i.high j.high }
 
--- an interval and those after it, of which those that touch are joined
+-- an interval and those after it, of which those that touch are joined: there is no number between
 abbrev pub joined_from : Interval → List Interval → List Interval
 joined_from i [] = i ∷ []
-joined_from i (j ∷ js) = if is_gap i j then i ∷ joined_from j js else joined_from (extended i j) js
+joined_from i (j ∷ js) =
+    if nat_lt 1 (j.low - i.high) then i ∷ joined_from j js else joined_from (extended i j) js
 
 -- intervals, of which those that touch are joined
 abbrev pub joined_all : List Interval → List Interval
@@ -61,25 +58,18 @@ high_mask last = if last == 0 then None else Some (2 ^ 32 - 1 - last)
 abbrev pub cut : ℕ → Interval → Interval
 cut last i = record { low = i.low; high = i.high - last }
 
--- two intervals are the same
-abbrev pub same_interval : Interval → Interval → Bool
-same_interval i j = i.low == j.low && i.high == j.high
-
 -- intervals other than one
 abbrev pub without : Interval → List Interval → List Interval
 without i [] = []
-without i (j ∷ js) = if same_interval i j then without i js else j ∷ without i js
-
--- intervals as numbers that are looked for without their last bits
-abbrev pub numbers_by : ℕ → Interval → List Interval → Numbers
-numbers_by last first is = record {
-  mask = high_mask last;
-  first = cut last first;
-  all = map (cut last) is;
-  others = without (cut last first) (map (cut last) is);
-}
+without i (j ∷ js) = if i.low == j.low && i.high == j.high then without i js else j ∷ without i js
 
 -- the numbers that are looked for, by the first member's and all; last bits may be left out
 abbrev pub sought : Bool → Interval → List Interval → Numbers
 sought is_masked first all =
-    let is = joined_all all in numbers_by (left_out is_masked first is) first is
+    let is = joined_all all in
+    let last = left_out is_masked first is in record {
+      mask = high_mask last;
+      first = cut last first;
+      all = map (cut last) is;
+      others = without (cut last first) (map (cut last) is);
+    }

@@ -4,9 +4,8 @@ use Rattle.flt_bpf.specs.declared.{insn.Insn.Insn, operation.Operation.TheVarian
 use Rattle.flt_words.specs.declared.token.Protocol.{Protocol}
 use Rattle.flt_ast.specs.Tree.{Expression, empty, truth}
 use Rattle.cap_octet.specs.declared.link.Link.{Link}
-use Rattle.flt_gen.specs.Numbers.{accessor_tests}
+use Rattle.flt_gen.specs.{Numbers.accessor_tests, inside.Group.no_group, inside.Group.grouped_formula}
 use Rattle.flt_gen.specs.inside.Code.{plain, Block, emit_formula, emit_all}
-use Rattle.flt_gen.specs.inside.Group.{no_group, grouped_formula}
 
 -- the tests of accessors, from the last to the first
 abbrev pub emit_accessor_tests : Link → List Protocol → ℕ → ℕ → List Insn → Block

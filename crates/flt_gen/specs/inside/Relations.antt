@@ -1,13 +1,10 @@
 -- Comparisons of an accessor with a constant by `=`, which may be members of a list.
 use Rattle.std.specs.Prelude.{ℕ, List, ◌∷◌, Option, Some, None}
 use Rattle.flt_words.specs.declared.token.{Comparison.Comparison, Comparison.TheVariants.Equal, Protocol.Protocol}
-use Rattle.flt_ast.specs.Tree.{NumberTree, literal, load}
-use Rattle.flt_ast.specs.declared.node.Node.{Node}
+use Rattle.flt_ast.specs.{Tree.NumberTree, Tree.literal, Tree.load, declared.node.Node.Node}
 use Rattle.cap_octet.specs.declared.link.Link.{Link}
-use Rattle.flt_gen.specs.Elementary.{compares_at}
-use Rattle.flt_gen.specs.Numbers.{width_of}
-use Rattle.flt_gen.specs.declared.{elementary.Elementary.Elementary, group.Entry.Entry, relation.Relation.Relation}
-use Rattle.flt_gen.specs.inside.Code.{accessor_offset}
+use Rattle.flt_gen.specs.{Elementary.compares_at, inside.Code.accessor_offset, Numbers.width_of}
+use Rattle.flt_gen.specs.declared.{elementary.Elementary.Elementary, relation.Relation.Relation, group.Entry.Entry}
 
 -- the accessor with this protocol, size and index is a number
 abbrev pub relation : Protocol → ℕ → ℕ → ℕ → Entry

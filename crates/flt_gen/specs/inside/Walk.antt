@@ -1,24 +1,21 @@
 -- The walk over the nodes of an expression, from the last to the first.
+use Rattle.flt_words.specs.declared.token.{Comparison.TheVariants.Equal, Join.Join, Join.TheVariants.And, Join.TheVariants.Or}
+use Rattle.flt_gen.specs.inside.Code.{plain, emit_comparison, emit_field, accessor_offset, emit_accessor, computation, takes_constant, emit_operands, Block, block, emit_formula}
 use Rattle.std.specs.Prelude.{ℕ, ◌+◌, List, [], ◌∷◌, length, drop, ◌-◌, if◌then◌else◌, Bool, Option, Some, None}
-use Rattle.flt_bpf.specs.declared.insn.Insn.{Insn}
+use Rattle.flt_bpf.specs.declared.{insn.Insn.Insn, operation.Register.TheVariants.Accumulator}
 use Rattle.flt_bpf.specs.declared.operation.Operand.TheVariants.{Constant, IndexRegister}
 use Rattle.flt_bpf.specs.declared.operation.Operation.TheVariants.{Load, Store, Negate}
-use Rattle.flt_bpf.specs.declared.operation.{Register.TheVariants.Accumulator, Source.Source}
-use Rattle.flt_bpf.specs.declared.operation.Source.TheVariants.{Immediate, Length}
-use Rattle.flt_words.specs.declared.token.{Comparison.TheVariants.Equal, Join.Join, Join.TheVariants.And, Join.TheVariants.Or}
+use Rattle.flt_bpf.specs.declared.operation.Source.{Source, TheVariants.Immediate, TheVariants.Length}
 use Rattle.flt_words.specs.declared.token.Protocol.{Protocol}
-use Rattle.flt_ast.specs.declared.{node.Node.Node}
+use Rattle.flt_ast.specs.declared.node.Node.{Node}
 use Rattle.cap_octet.specs.declared.link.Link.{Link}
-use Rattle.flt_gen.specs.{Formula.Formula, Numbers.width_of}
-use Rattle.flt_gen.specs.Primitives.{check_formula, cast_formula, sized_formula}
-use Rattle.flt_gen.specs.declared.{code.Targets.Targets, group.Entry.Entry}
-use Rattle.flt_gen.specs.declared.waiting.{LeftTruth.LeftTruth, Pending.Pending, Waiting.Waiting}
-use Rattle.flt_gen.specs.declared.waiting.Waiting.TheVariants.{Index, Left}
-use Rattle.flt_gen.specs.inside.Code.{plain, emit_comparison, emit_field, accessor_offset, emit_accessor, computation, takes_constant, emit_operands, Block, block, emit_formula}
-use Rattle.flt_gen.specs.inside.Emitted.{with_accessor}
-use Rattle.flt_gen.specs.inside.Group.{Group, no_group, is_empty, entry, entry_formula, larger_group, group_formula}
-use Rattle.flt_gen.specs.inside.ProgramCode.{emit_accessor_tests, returns_code}
-use Rattle.flt_gen.specs.inside.Relations.{relation}
+use Rattle.flt_gen.specs.{Formula.Formula, declared.group.Entry.Entry, inside.Relations.relation}
+use Rattle.flt_gen.specs.{Numbers.width_of, Primitives.check_formula, Primitives.cast_formula, Primitives.sized_formula}
+use Rattle.flt_gen.specs.declared.{code.Targets.Targets, waiting.LeftTruth.LeftTruth, waiting.Pending.Pending}
+use Rattle.flt_gen.specs.declared.waiting.Waiting.{Waiting, TheVariants.Index, TheVariants.Left}
+use Rattle.flt_gen.specs.inside.{Emitted.with_accessor, ProgramCode.emit_accessor_tests, ProgramCode.returns_code}
+use Rattle.flt_gen.specs.inside.Group.{Group, no_group, is_empty, entry_formula, larger_group, group_formula}
+use Rattle.std.specs.Option.{unwrap_or}
 
 -- how far the walk has come: the code so far, the targets of the next truth, the word for the next
 -- left operand; what waits, latest first; and the protocols of the relation's accessors, each once,
@@ -165,7 +162,7 @@ emit_leaf link source n w =
 -- one more node, the one before those that were emitted
 abbrev pub emit_node : Link → Walk → Node → Walk
 emit_node link w (Node.Join join) = emit_join link join w
-emit_node link w (Node.Qualified q v) = emit_member link (entry q v) w
+emit_node link w (Node.Qualified q v) = emit_member link (Entry.Value q v) w
 emit_node link w (Node.Literal n) = emit_leaf link Immediate n w
 emit_node link w (Node.Named n) = emit_leaf link Immediate n w
 emit_node link w Node.Len = emit_leaf link Length 0 w
@@ -206,15 +203,10 @@ start_walk = record {
   pending = Pending.Nothing;
 }
 
--- this walk, if there is one, or else the other
-abbrev pub or_walk : Option Walk → Walk → Walk
-or_walk (Some v) w = v
-or_walk None w = w
-
 -- two nodes, at once or one after the other
 abbrev pub emit_pair : Link → Walk → Node → Node → Walk
 emit_pair link w n right =
-    or_walk (emit_both_nodes link w n right) (emit_node link (emit_node link w n) right)
+    unwrap_or (emit_both_nodes link w n right) (emit_node link (emit_node link w n) right)
 
 -- the walk over nodes, the last first
 abbrev pub emit_nodes : Link → Walk → List Node → Walk

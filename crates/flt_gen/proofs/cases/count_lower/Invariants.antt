@@ -1,6 +1,5 @@
 -- The cases so far are counted.
-use Rattle.std.proofs.Common.{◌≡◌, ◌≤◌, count_by, take}
-use Rattle.std.specs.Prelude.{nat_lt}
+use Rattle.std.{proofs.Common.◌≡◌, proofs.Common.◌≤◌, proofs.Common.count_by, proofs.Common.take, specs.Prelude.nat_lt}
 use Rattle.flt_gen.specs.inside.Cases.{case_tests, word_test, lowest}
 use Rattle.flt_gen.proofs.cases.count_lower.Given as goal
 

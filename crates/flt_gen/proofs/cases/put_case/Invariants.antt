@@ -1,6 +1,5 @@
 -- The cases so far that ascend before the new one are counted.
-use Rattle.std.proofs.Common.{◌≡◌, ◌≤◌, count_by, take}
-use Rattle.std.specs.Prelude.{nat_lt}
+use Rattle.std.{proofs.Common.◌≡◌, proofs.Common.◌≤◌, proofs.Common.count_by, proofs.Common.take, specs.Prelude.nat_lt}
 use Rattle.flt_gen.specs.inside.Cases.{key_of}
 use Rattle.flt_gen.proofs.cases.put_case.Given as goal
 

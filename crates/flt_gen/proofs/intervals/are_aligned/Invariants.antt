@@ -1,6 +1,5 @@
 -- The intervals so far are.
-use Rattle.std.proofs.Common.{◌≡◌, true, take}
-use Rattle.std.specs.List.{list_all}
+use Rattle.std.{proofs.Common.◌≡◌, proofs.Common.true, proofs.Common.take, specs.List.list_all}
 use Rattle.flt_gen.specs.inside.Intervals.{is_aligned}
 use Rattle.flt_gen.proofs.intervals.are_aligned.Given as goal
 

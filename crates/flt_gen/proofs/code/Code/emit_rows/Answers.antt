@@ -1,5 +1,5 @@
 -- One more comes in front.
-use Rattle.flt_gen.proofs.Accessors.{one_more_row}
+use Rattle.flt_gen.proofs.Turned.{one_more_row}
 use Rattle.flt_gen.proofs.code.Code.emit_rows.Goals as goal
 
 pub loop-entry-preserved : goal.loop-entry-preserved

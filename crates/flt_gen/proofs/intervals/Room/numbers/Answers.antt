@@ -4,8 +4,7 @@ use Rattle.flt_gen.proofs.intervals.Room.numbers.Goals as goal
 
 pub returns : goal.returns
 returns g c =
-    let a = c.args in
-    let last = c.left_out-last.ensures ∙ ap (λ is. left_out a.is_masked a.first is) (c.deref.ensures.value ∙ c.in_ok-join_touching.ensures) in
+    let a = c.args in let last = c.left_out-last.ensures ∙ ap (λ is. left_out a.is_masked a.first is) (c.deref.ensures.value ∙ c.in_ok-join_touching.ensures) in
     let joined = c.deref-2.ensures.value ∙ c.in_ok-join_touching.ensures in
     let all = c.in_ok-put_cut.ensures.all ∙ ap (λ is. map (cut c.left_out-last.result) is) joined in
     let others = c.in_ok-put_cut.ensures.others ∙ ap (λ is. without c.cut-first.result (map (cut c.left_out-last.result) is)) joined in
