@@ -3,8 +3,8 @@ use Rattle.std.proofs.Common.{◌≡◌, ℕ, ◌+◌, ◌-◌, ◌<◌, ◌≤�
 use Rattle.std.proofs.Common.{length-append, ne_eqb, ◌%◌, ◌==◌, false, true}
 use Rattle.std.proofs.lemmas.List.{append-nil, drop_at, length-replicate, replicate-append-replicate, take_all}
 use Rattle.cap_pcapng.proofs.Common.{little_bytes, padded_length}
-use Rattle.cap_pcapng.specs.Encoding.{block_text, comment_text, end_text, interface_body, interface_header, interface_text, name_text, packet_body}
-use Rattle.cap_pcapng.specs.Encoding.{packet_header, packet_block, resolution_text}
+use Rattle.cap_pcapng.specs.Encoding.{block_text, comment_text, end_text, interface_body, interface_text, name_text, packet_body, packet_block, resolution_text}
+use Rattle.cap_pcapng.specs.inside.Headers.{interface_header, packet_header}
 use Rattle.{std.proofs.lemmas.Bool.false≢true, cap_octet.specs.Packet.Captured}
 
 -- the last zeros before other bytes, and these

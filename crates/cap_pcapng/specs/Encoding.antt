@@ -48,12 +48,6 @@ interface_body link snap name =
 abbrev pub interface_text : (link snap : ℕ) → (name : List ℕ) → List ℕ
 interface_text link snap name = block_text 1 (interface_body link snap name)
 
--- the bytes before the options in an interface description block of this total length
-abbrev pub interface_header : (size link snap : ℕ) → List ℕ
-interface_header size link snap =
-    little_bytes 4 1 ++ little_bytes 4 size ++ little_bytes 2 link ++ little_bytes 2 0
-    ++ little_bytes 4 snap
-
 -- the option opt_comment and the end of the options; nothing for an empty comment
 abbrev pub comment_text : List ℕ → List ℕ
 comment_text [] = []
@@ -70,13 +64,6 @@ packet_body number p =
 -- an enhanced packet block of a packet whose interface has this number
 abbrev pub packet_block : (number : ℕ) → Captured → List ℕ
 packet_block number p = block_text 6 (packet_body number p)
-
--- the bytes before the data in an enhanced packet block of this total length
-abbrev pub packet_header : (size number : ℕ) → Captured → List ℕ
-packet_header size number p =
-    little_bytes 4 6 ++ little_bytes 4 size ++ little_bytes 4 number
-    ++ little_bytes 4 (p.time / 2 ^ 32)
-    ++ little_bytes 4 (p.time % 2 ^ 32) ++ little_bytes 4 (length p.bytes) ++ little_bytes 4 p.orig
 
 -- the check before a packet is written: its block isn't longer than the longest that is read
 abbrev pub block_fit_checks : Captured → List (Bool × Fault)

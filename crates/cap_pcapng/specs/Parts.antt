@@ -7,13 +7,13 @@ abbrev pub LentParts : Type 0
 LentParts = Bor (List (Bor (List ℕ)))
 
 -- the bytes of all parts, one part after another
-abbrev pub joined : LentParts → List ℕ
-joined parts = flat_map (λ part. part.now) parts.now
+abbrev pub joined_bytes : LentParts → List ℕ
+joined_bytes parts = flat_map (λ part. part.now) parts.now
 
 -- a function may be called with any parts of these bytes, and their length
 abbrev pub TakesParts : {T : Type 0} → (MutBor T → LentParts → ℕ → Type 0) → List ℕ → Type 0
 TakesParts {T} pre text =
-    (target : MutBor T) (parts : LentParts) (size : ℕ) → joined parts ≡ text → size ≡ length text
+    (target : MutBor T) (parts : LentParts) (size : ℕ) → joined_bytes parts ≡ text → size ≡ length text
     → pre target parts size
 
 -- a function was called with some parts of these bytes, and their length, and left this result and
@@ -23,7 +23,7 @@ pub record PutsParts {T R : Type 0} (post : MutBor T → LentParts → ℕ → R
   pub shown : MutBor T
   pub shows : shown.now ≡ old
   pub parts : LentParts
-  pub joins : joined parts ≡ text
+  pub joins : joined_bytes parts ≡ text
   pub size : ℕ
   pub sized : size ≡ length text
   pub left : MutBor T

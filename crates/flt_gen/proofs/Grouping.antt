@@ -8,7 +8,8 @@ use Rattle.flt_gen.proofs.Ascending.{if_case, Each, each_is, Searchable, Reached
 use Rattle.flt_gen.proofs.Common.{◌≡◌, ℕ, ◌+◌, ◌-◌, ◌*◌, ◌<◌, ◌≤◌, max, List, [], ◌∷◌, length, Bool, true, false, Option, Some, None, refl, sym, ap, ap₂, ◌∙◌}
 use Rattle.flt_gen.proofs.Common.{subst, arith, ◌==◌, ◌||◌, ◌&&◌, nat_lt, nat_le, if◌then◌else◌, suc-mul, nat_tests, and_parts, or_parts, Protocol, And, Or}
 use Rattle.flt_gen.proofs.Common.{ValueType, Direction, CompleteQualifiers, Value, Interval, index_of, Sides, FrameKind, network_offset, not, map, and-false}
-use Rattle.flt_gen.proofs.Common.{inl, inr, sought_formula, most_in_turn, sought_tests, has_addresses, joined_all, left_out, high_mask, cut, address_places, port_places}
+use Rattle.flt_gen.proofs.Common.{inl, inr, sought_formula, sought_tests, has_addresses, joined_all, left_out, high_mask, cut, address_places}
+use Rattle.flt_gen.proofs.Common.{most_in_turn, port_places}
 use Rattle.flt_gen.proofs.Common.{ip_transport, ip6_transport, sought, Entry, TruthTree, check, cast, sized, bare, valued, qualified, compared, denied, joined}
 use Rattle.flt_gen.proofs.Common.{is_unfilled, any_primitive, Link, Formula, Both, Either, Except, both, either, negation, Numbers, reads, check_formula}
 use Rattle.flt_gen.proofs.Common.{cast_formula, sized_formula, hosts_formula, port_formula, relation_formula, qualified_needed, formula, first_ends, Group}
@@ -116,13 +117,15 @@ address_reached : (link : Link) (k : FrameKind) (mask : Option ℕ) → let at =
 address_reached link k mask = grind (arith, offset_few)
 
 module _ (link : Link) (q : CompleteQualifiers) (numbers : Numbers) (n : ℕ) (h : Numbered numbers n) (two : 2 ≤ n) where
-  sought_bare : (few : ℕ) (at : Sides) → Ready link at numbers → Bare (sought_formula few link q.direction at numbers) (n * count.side_tests q.direction 1 + (n - 1))
+  sought_bare : (few : ℕ) (at : Sides) → Ready link at numbers → Bare (sought_formula few link q.direction at numbers)
+      (n * count.side_tests q.direction 1 + (n - 1))
   sought_bare few at r = bare_within _ (sought_few q.direction numbers n h two) (bare_sought link at numbers r few q.direction)
 
   abbrev asked : ℕ → Sides → Formula
   asked few at = sought_formula few link q.direction at numbers
 
-  hosts_bare : ((f : FrameKind) → Ready link (address_places link f) numbers) → Bare (hosts_formula link q.protocol (asked (most_in_turn q.protocol numbers.first)))
+  hosts_bare : ((f : FrameKind) → Ready link (address_places link f) numbers) → Bare (hosts_formula link q.protocol
+      (asked (most_in_turn q.protocol numbers.first)))
       (n * count.ip4_tests q.protocol q.direction)
   hosts_bare r = bare_within _ (several_hosts_few q.protocol q.direction n (n - 1) (omega arith))
       (bare_hosts link q.protocol (asked _) _ (omega arith) (λ f. bare_after (sought_bare _ _ (r f))))

@@ -12,7 +12,8 @@ use Rattle.flt_gen.proofs.Common.{loads, test_loads, place_loads, mask_loads, no
 use Rattle.flt_gen.proofs.Counted.{Bare, bare_within, bare_some, place_few, mask_few}
 use Rattle.flt_gen.proofs.Firsts.{exact, or_yes, by_first}
 use Rattle.flt_gen.proofs.{Exclusive.or_no, Runs.one_number}
-use Rattle.flt_gen.specs.inside.Search.{held_if, chain_of, search, MOST_HALVINGS, few_formula, many_formula, are_at_index, sides_at_index, at_index, index_of, never, always}
+use Rattle.flt_gen.specs.inside.Search.{held_if, chain_of, search, MOST_HALVINGS, few_formula, many_formula, are_at_index, sides_at_index, at_index}
+use Rattle.flt_gen.specs.inside.Search.{index_of, never, always}
 use Rattle.std.proofs.Math.Nat.{mod-eq_of_lt}
 
 -- ---- the code
@@ -20,7 +21,8 @@ use Rattle.std.proofs.Math.Nat.{mod-eq_of_lt}
 if_is : {A : Type 0} (b c : Bool) (x y : A) → b ≡ c → (if b then x else y) ≡ (if c then x else y)
 if_is b c x y e = ap (λ d. if d then x else y) e
 
-pub search_none : (held : Option FieldPlace) (link : Link) (few : ℕ) (f : FieldPlace) (k : ℕ) (from : Bool) (is : List Interval) (hit miss : ℕ) (c : List Insn) → k ≡ 0
+pub search_none : (held : Option FieldPlace) (link : Link) (few : ℕ) (f : FieldPlace) (k : ℕ) (from : Bool) (is : List Interval) (hit miss : ℕ) (c : List Insn)
+    → k ≡ 0
     → emit_after held link (search few f k from is) hit miss c ≡ emit_after held link (chain_of f from is) hit miss c
 unfolding search
 search_none held link few f k from is hit miss c e = grind arith
@@ -40,7 +42,8 @@ halved held link few f k from low high hit miss c =
     let yes = emit_after (held_if true f) link (search few f k from low) hit miss no.code in
     emit_test held (field_test f Less (low_of high)) yes.entry no.entry yes.code
 
-pub search_put : (held : Option FieldPlace) (link : Link) (few : ℕ) (f : FieldPlace) (halvings : ℕ) (from : Bool) (is : List Interval) (hit miss : ℕ) (c : List Insn)
+pub search_put : (held : Option FieldPlace) (link : Link) (few : ℕ) (f : FieldPlace) (halvings : ℕ) (from : Bool) (is : List Interval) (hit miss : ℕ)
+    (c : List Insn)
     → 0 < halvings → are_few few is ≡ false → emit_after held link (search few f halvings from is) hit miss c ≡ halved held link few f (halvings - 1) from
     (take (length is / 2) is) (take (length is - length is / 2) (drop (length is / 2) is)) hit miss c
 unfolding search
@@ -174,7 +177,8 @@ module _ (link : Link) (p : List ℕ) (n : ℕ) (at : Sides) (numbers : Numbers)
   abbrev destination : Option ℕ
   destination = field_at at.destination at.width p
 
-  all_read : (few : ℕ) (offset : Offset) → reads link (within_formula few numbers.mask numbers.all offset at.width) p n ≡ read_by (field_at offset at.width p) of_all
+  all_read : (few : ℕ) (offset : Offset) → reads link (within_formula few numbers.mask numbers.all offset at.width) p n
+      ≡ read_by (field_at offset at.width p) of_all
   all_read few offset = search_reads link p n (place offset) few numbers.all r.all
 
   first_read : (few : ℕ) (offset : Offset) → reads link (within_formula few numbers.mask (numbers.first ∷ []) offset at.width) p n ≡ read_by
@@ -205,7 +209,8 @@ module _ (link : Link) (p : List ℕ) (n : ℕ) (at : Sides) (numbers : Numbers)
   many_read : reads link (many_formula (sides_at_index link at) numbers) p n ≡ either_side
   many_read = grind (arith, counted, all_read, first_read, nat_tests, or_yes)
 
-  pub sought_read : (few : ℕ) (d : Direction) → Merged d → reads link (sought_formula few link d at numbers) p n ≡ sides_read d source destination of_first of_all
+  pub sought_read : (few : ℕ) (d : Direction) → Merged d → reads link (sought_formula few link d at numbers) p n
+      ≡ sides_read d source destination of_first of_all
   sought_read few d m = grind (arith, all_read, many_read, few_read)
 
 -- ---- the counts

@@ -3,7 +3,8 @@ use Rattle.flt_gen.proofs.Common.{◌≡◌, ℕ, ◌+◌, ◌*◌, ◌^◌, ◌
 use Rattle.flt_gen.proofs.Common.{arith, inl, inr, ◌==◌, ◌||◌, ◌&&◌, nat_le, min, max, bit_and, nat_tests, and_parts, or-false, Protocol, Ip, Tcp, Udp}
 use Rattle.flt_gen.proofs.Common.{ValueType, Numbers, Host, Net, Port, PortRange, Source, Destination, And, Or, Direction, CompleteQualifiers, Value}
 use Rattle.flt_gen.proofs.Common.{first_bits, HalfWord, Offset, Link, FrameKind, Elementary, Interval, Sides, Transport, MatchResult, Yes, No, field_at}
-use Rattle.flt_gen.proofs.Common.{under_mask, kind_test, elementary_reads, Formula, sought_formula, most_in_turn, both, either, all_of, sides, reads, address_places}
+use Rattle.flt_gen.proofs.Common.{under_mask, kind_test, elementary_reads, Formula, sought_formula, both, either, all_of, sides, reads, address_places}
+use Rattle.flt_gen.proofs.Common.{most_in_turn}
 use Rattle.flt_gen.proofs.Common.{partial_mask, port_is, port_between, port_places, in_net, hosts_formula, ip_transport, ip6_transport, port_formula}
 use Rattle.flt_gen.proofs.Ascending.{if_case, Each, Ordered, within_joined, is_in, is_within, Ready}
 use Rattle.flt_gen.proofs.Common.{value_formula, joined_all, left_out, high_mask, cut, sought, has_addresses, net_numbers, member_of, several_formula}
@@ -163,7 +164,8 @@ module _ (link : Link) (p : List ℕ) (n : ℕ) where
     abbrev asked : ℕ → Sides → Formula
     asked few at = sought_formula few link q.direction at (sought b m all)
 
-    sides_are : (few : ℕ) (at : Sides) → Fitting b at → Ready link at (sought b m all) → told_at (asked few) at ≡ sides_read q.direction (source_of at) (destination_of at)
+    sides_are : (few : ℕ) (at : Sides) → Fitting b at → Ready link at (sought b m all) → told_at (asked few) at
+        ≡ sides_read q.direction (source_of at) (destination_of at)
         (hit m) (λ x. is_within x (m ∷ ms))
     sides_are few at fit ready =
         let last = left_out b m (joined_all all) in let idle = idle_sought b m (joined_all all) in let u : ℕ → ℕ = λ x. under_mask (high_mask last) x in

@@ -71,4 +71,4 @@ pub sound_laid : (wide : List Insn) → IsValidUnlessLong wide → IsValidUnless
 sound_laid wide h = record { faultless = faultless_laid wide h.faultless; ends = ends_laid wide h.ends }
 
 -- what holds of wide code that is laid out
-pub ruleset laid = (same_answers, at_least, at_most, laid_needed, short_stays, sound_laid, valid_if_short)
+pub ruleset placed_rules = (same_answers, at_least, at_most, laid_needed, short_stays, sound_laid, valid_if_short)

@@ -215,7 +215,7 @@ fn join_facts(facts: &mut [Fact], others: &[Fact])
     }
 }
 
-/// Whether two values of A are the same value of the packet. Of two `Unknown` nothing is known.
+/// Whether two values of A are the same value of the packet: not known of two that are `Unknown`.
 pub fn same_held(one: &Held, other: &Held) -> bool
     ensures { result ≡ same_held one.now other.now }
 {

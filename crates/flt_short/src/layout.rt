@@ -241,7 +241,7 @@ impl<A: Allocator + Clone> Layout<A> {
 /// except that on the length: it may have grown.
 ///
 /// An error is a failed allocation, or an allocator that cannot be cloned.
-#[tactic(auto, using(crate::proofs::PlacedFaults::laid))]
+#[tactic(auto, using(crate::proofs::PlacedFaults::placed_rules))]
 pub fn laid_out<A: Allocator + Clone>(alloc: A, wide: &[Wide]) -> Result<Vec<Insn, A>, AllocError>
     requires { length wide.now < 2 ^ 30 }
     ensures answers { IfOk result (λ code. (p : List ℕ) (n : ℕ)
