@@ -1,23 +1,21 @@
 -- The steps that decide the current packet, and what they write.
 use Rattle.cap_tools.proofs.Coming.{carries-decided, true-wholes, true-fit, true-fits, get-at, At, stands-split, stands-join, rests-join, come-on}
-use Rattle.cap_tools.proofs.Common.{◌≡◌, ◌⊎◌, inl, inr, ℕ, ◌+◌, ◌<◌, ◌≤◌, Bool, true, List, [], ◌∷◌, ◌++◌, length, map, Option, None, Some, Result, Ok}
-use Rattle.cap_tools.proofs.Common.{Err, refl, sym, ◌∙◌, ap, arith, subst, append-nil, map-append, slice_get, slice_set, Stops, Captured, Fault}
-use Rattle.cap_tools.proofs.Common.{NoMemory, WriteFailed, Placed, IsAt, IsAt-decided, Tally, InputItems, Event, Packet, SequenceEnd, Complete, FaultIn}
-use Rattle.cap_tools.proofs.Common.{Sequence, sequence_of, with_front, PacketOrder, Policy, SelectorState, Verdict, Pass, PassLast, PassesAs, Skip}
-use Rattle.cap_tools.proofs.Common.{judge, IsWithin, PolicyState, GrowsByOne, IsVerdict, Form, JobProgress, IsNextEvent, decide, unless_refused}
-use Rattle.cap_tools.proofs.Common.{apply_verdict, apply_event, final_progress, form_refuses, end_with, final_text, first_link, output_text, Target}
-use Rattle.cap_tools.proofs.Common.{Capture, Text, Lines, HasWrittenTo, form_to, written_to, failures_to, PutsIntoOutput, InputView, Future, InputPast}
-use Rattle.cap_tools.proofs.Common.{AreInputsAfter, AreSettled, IsInput, input_after_decided, items_left, inputs_left, sequence_left, actual_future}
-use Rattle.cap_tools.proofs.Common.{most_steps, JobEnd, BreaksAt, JobState, Meets, a_packet, PacketsDecided, GoesOn, EndLeaves, StepLeaves, progress_of}
-use Rattle.cap_tools.proofs.Common.{progress_over, wholes_of, work_of, DecidesPacket, Offers, end_after, end_of_failed_write, sieve, drained-text}
-use Rattle.cap_tools.proofs.Common.{PutOk, put-ok, unput, closing-some, course-stop, greatest-decided, same-input, set-among, next-is-of, Next}
-use Rattle.cap_tools.proofs.Common.{form_takes_memory, packet_bytes, Report}
+use Rattle.cap_tools.proofs.Common.{◌≡◌, ◌⊎◌, inl, inr, ℕ, ◌+◌, ◌<◌, ◌≤◌, Bool, true, List, [], ◌∷◌, ◌++◌, length, map, Option, None, Some, Result, Ok, Err}
+use Rattle.cap_tools.proofs.Common.{refl, sym, ◌∙◌, ap, arith, subst, append-nil, map-append, slice_get, slice_set, Stops, Captured, Fault, NoMemory}
+use Rattle.cap_tools.proofs.Common.{WriteFailed, Placed, IsAt, IsAt-decided, Tally, InputItems, Event, Packet, SequenceEnd, Complete, FaultIn, Sequence}
+use Rattle.cap_tools.proofs.Common.{sequence_of, with_front, PacketOrder, Policy, SelectorState, Verdict, Pass, PassLast, PassesAs, Skip, judge, IsWithin}
+use Rattle.cap_tools.proofs.Common.{PolicyState, GrowsByOne, Form, JobProgress, IsNextEvent, decide, unless_refused, apply_verdict, apply_event, final_progress}
+use Rattle.cap_tools.proofs.Common.{form_refuses, end_with, final_text, first_link, output_text, Target, Capture, Text, Lines, HasWrittenTo, form_to}
+use Rattle.cap_tools.proofs.Common.{written_to, failures_to, PutsIntoOutput, InputView, Future, InputPast, AreInputsAfter, AreSettled, IsInput}
+use Rattle.cap_tools.proofs.Common.{input_after_decided, items_left, inputs_left, sequence_left, actual_future, most_steps, JobEnd, BreaksAt, JobState, Meets}
+use Rattle.cap_tools.proofs.Common.{a_packet, PacketsDecided, GoesOn, EndLeaves, StepLeaves, progress_of, progress_over, wholes_of, work_of, DecidesPacket}
+use Rattle.cap_tools.proofs.Common.{Offers, end_after, end_of_failed_write, sieve, drained-text, PutOk, put-ok, unput, closing-some, course-stop}
+use Rattle.cap_tools.proofs.Common.{greatest-decided, same-input, set-among, next-is-of, Next, form_takes_memory, packet_bytes, Report}
+use Rattle.cap_process.specs.inside.Selector.{IsVerdict, FitsTally}
 use Rattle.cap_tools.proofs.Fetches.{mk, comes-broken, goes-one, inputs_at, past-of, so_far}
-use Rattle.cap_tools.proofs.Laws.{DecideLaws, DecideAt, decide-at}
-use Rattle.cap_tools.proofs.Nexts.{packet-answer, stops-at, once-nothing, once-packet}
-use Rattle.cap_process.specs.declared.selector.Verdict as code
-use Rattle.cap_process.specs.inside.Selector.{FitsTally}
+use Rattle.cap_tools.proofs.{Laws.DecideLaws, Laws.DecideAt, Laws.decide-at, Nexts.packet-answer, Nexts.stops-at, Nexts.once-nothing, Nexts.once-packet}
 use Rattle.cap_print.specs.Rendering.{printed_text}
+use Rattle.cap_process.specs.declared.selector.Verdict as code
 use Rattle.cap_process.specs.Outcome as course_spec
 use Rattle.cap_inputs.specs.inside.Inputs as input_spec
 use Rattle.cap_process.specs.declared.selector.Verdict.TheVariants as code_verdict

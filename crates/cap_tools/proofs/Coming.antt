@@ -1,13 +1,13 @@
 -- The events that have come after an input is read on, or its packet is decided.
 use Rattle.cap_tools.proofs.Common.{◌≡◌, ℕ, suc, ◌+◌, Bool, true, false, List, [], ◌∷◌, ◌++◌, length, drop, map, None, Some, Result, Ok, refl, sym, ◌∙◌, ap}
 use Rattle.cap_tools.proofs.Common.{arith, subst, add-zero, Option, option_to_list, append_assoc, append-nil, length-append, Captured, Fault, Declared, Placed}
-use Rattle.cap_tools.proofs.Common.{placed_at, Items, Ending, End, FaultAt, NoUnit, items, items_from, after_packets, no_items, front_of, kind_of, SourceView}
-use Rattle.cap_tools.proofs.Common.{Phase, Ended, FindsPacket, FindsEnd, Finds, Advances, IsAt, pending, IsAt-items, items-begin, Advances-sound, InputItems}
-use Rattle.cap_tools.proofs.Common.{Event, Packet, InputEnd, FaultIn, Sequence, sequence_of, sequence_in_turn, input_sequence, with_front, whole_input}
-use Rattle.cap_tools.proofs.Common.{PacketOrder, InputView, InputsView, Future, InputPast, AreInputsAfter, AreFutures, AreSettled, waiting_packets, input_items}
-use Rattle.cap_tools.proofs.Common.{inputs_with, items_left, inputs_left, sequence_left, no_future, input_after, input_after_decided, actual_future, wholes_of}
-use Rattle.cap_tools.proofs.Common.{ComeFirst, finish_at, slice_get}
-use Rattle.cap_io.proofs.Cuts.{items_from-stops}
+use Rattle.cap_tools.proofs.Common.{Items, FaultAt, items, after_packets, no_items, kind_of, SourceView, Phase, Ended, FindsPacket, FindsEnd, Finds, Advances}
+use Rattle.cap_tools.proofs.Common.{IsAt, pending, InputItems, Event, Packet, InputEnd, FaultIn, Sequence, sequence_of, sequence_in_turn, input_sequence}
+use Rattle.cap_tools.proofs.Common.{with_front, whole_input, PacketOrder, InputView, InputsView, Future, InputPast, AreInputsAfter, AreFutures, AreSettled}
+use Rattle.cap_tools.proofs.Common.{waiting_packets, input_items, inputs_with, items_left, inputs_left, sequence_left, no_future, input_after}
+use Rattle.cap_tools.proofs.Common.{input_after_decided, actual_future, wholes_of, ComeFirst, finish_at, slice_get}
+use Rattle.cap_io.specs.Capture.{placed_at, Ending, End, NoUnit, items_from, front_of}
+use Rattle.cap_io.proofs.{Standing.IsAt-items, Standing.items-begin, Standing.Advances-sound, Cuts.items_from-stops}
 
 abbrev pub At : InputPast → InputView → Type 0
 At s h = IsAt s.text s.done s.packets h.waiting h.source

@@ -1,22 +1,19 @@
 -- The job of each command, before its first step.
-use Rattle.cap_tools.proofs.Coming.{come-first}
-use Rattle.cap_tools.proofs.Common.{◌≡◌, inl, inr, ℕ, ◌+◌, ◌≤◌, Bool, true, List, [], map, length, None, Option, Result, Ok, Err, refl, sym, ap, arith}
-use Rattle.cap_tools.proofs.Common.{subst, ◌∙◌, nat_eq, nat_le, ◌&&◌, add-zero, DeviceFault, listing, Target, Capture, Text, Lines, target_at}
-use Rattle.cap_tools.proofs.Common.{written_to, failures_to, failures_by, Reports, is_text, written_by, MessagesView, is_proper, is_proper_edit}
-use Rattle.cap_tools.proofs.Common.{is_proper_print, most_inputs, IsCompiled, IsTold, Insn, Link, Turn, InTurn, Count, KeepAll, Call, JobView, JobEnd}
-use Rattle.cap_tools.proofs.Common.{first_job, state_at, end_message, end_of_write, end_status, fresh_inputs, nothing_done, InputsView, EndsList}
-use Rattle.cap_tools.proofs.Common.{ending, Assignment, Preparing, assignment, SelectorView, initial_state, CompileGives, DecidedBy, PreparesBy}
-use Rattle.cap_tools.proofs.Common.{PreparesOnly, RefusesStart, Refusal, refusal_status, IsReadyIf, IsSound, Some, spent_in, with_preparing, suc, ◌*◌}
-use Rattle.cap_tools.proofs.Common.{◌^◌, ◌<◌, ◌∷◌, drop, Writing, HasWrittenTo, append-nil, IsAt-start, HasPackets-none, InputItems, sequence_in_turn}
-use Rattle.cap_tools.proofs.Common.{sequence_by_time, PacketOrder, ByTime, Policy, FreshInput, fresh_view, Future, AreInputsAfter, KnowGreatest}
-use Rattle.cap_tools.proofs.Common.{AreFutures, AreSettled, ended_count, inputs_with, inputs_left, input_items, steps_left_in, steps_left, most_steps}
-use Rattle.cap_tools.proofs.Common.{reads_of, most_turns, steps_owed_in_all, owed_in, PacketsDecided, false, ap₂, All, is_some, option_map, Content}
-use Rattle.cap_tools.proofs.Common.{empty, truth, Rule, by_reading, by_answer, AreNew, preparing_of, MakesStep, Filter}
-use Rattle.cap_tools.proofs.Programs.{new-for}
+use Rattle.cap_tools.{proofs.Coming.come-first, proofs.Programs.new-for, specs.declared.start.Preparation.Preparation}
+use Rattle.cap_tools.proofs.Common.{◌≡◌, inl, inr, ℕ, ◌+◌, ◌≤◌, Bool, true, List, [], map, length, None, Option, Result, Ok, Err, refl, sym, ap, arith, subst}
+use Rattle.cap_tools.proofs.Common.{◌∙◌, nat_eq, nat_le, ◌&&◌, add-zero, DeviceFault, listing, Target, Capture, Text, Lines, target_at, written_to, failures_to}
+use Rattle.cap_tools.proofs.Common.{failures_by, Reports, is_text, written_by, MessagesView, most_inputs, IsCompiled, IsTold, Insn, Link, Turn, InTurn, Count}
+use Rattle.cap_tools.proofs.Common.{KeepAll, Call, JobView, JobEnd, first_job, state_at, end_message, end_of_write, end_status, fresh_inputs, nothing_done}
+use Rattle.cap_tools.proofs.Common.{InputsView, EndsList, ending, Assignment, Preparing, assignment, SelectorView, initial_state, CompileGives, DecidedBy}
+use Rattle.cap_tools.proofs.Common.{PreparesBy, PreparesOnly, RefusesStart, Refusal, refusal_status, IsReadyIf, IsSound, Some, spent_in, with_preparing, suc}
+use Rattle.cap_tools.proofs.Common.{◌*◌, ◌^◌, ◌<◌, ◌∷◌, drop, Writing, HasWrittenTo, append-nil, IsAt-start, HasPackets-none, InputItems, sequence_in_turn}
+use Rattle.cap_tools.proofs.Common.{sequence_by_time, PacketOrder, ByTime, Policy, FreshInput, fresh_view, Future, AreInputsAfter, KnowGreatest, AreFutures}
+use Rattle.cap_tools.proofs.Common.{AreSettled, ended_count, inputs_with, inputs_left, input_items, steps_left_in, steps_left, most_steps, reads_of, most_turns}
+use Rattle.cap_tools.proofs.Common.{steps_owed_in_all, owed_in, PacketsDecided, false, ap₂, All, is_some, option_map, Content, empty, truth, Rule, by_reading}
+use Rattle.cap_tools.proofs.Common.{by_answer, AreNew, preparing_of, MakesStep, Filter}
+use Rattle.cap_command.specs.{Command.is_proper, Command.is_proper_edit, Command.is_proper_print, declared.command.Command.Command}
 use Rattle.std.proofs.lemmas.Bool.{and_parts, eqb-true, leb-true}
 use Rattle.cap_octet.specs.Device.{AppendsOrStops, failures_of}
-use Rattle.cap_command.specs.declared.command.Command.{Command}
-use Rattle.cap_tools.specs.declared.start.Preparation.{Preparation}
 use Rattle.cap_tools.specs.inside.Jobs.{HasMadeNoStep, KeepsFirst, IsFresh}
 
 start-following : (os : List FreshInput) → AreInputsAfter (map nothing_done os) (map fresh_view os)

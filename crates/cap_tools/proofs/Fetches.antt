@@ -1,20 +1,21 @@
 -- The steps that read an input on.
-use Rattle.cap_tools.proofs.Coming.{carries-found, carries-closed, come-first, true-wholes, true-fits, finds, get-at, At, Fit, stands-split}
-use Rattle.cap_tools.proofs.Coming.{stands-join, stands-length, fits-join, wholes-join, rests-join, finish-here, come-on}
-use Rattle.cap_tools.proofs.Common.{length-map, map-append, texts, Captured, greatest_of, an_end, InputEnd, ◌≡◌, inl, inr, ℕ, ◌+◌, ◌<◌, ◌≤◌, Bool, true}
-use Rattle.cap_tools.proofs.Common.{false, List, [], ◌∷◌, ◌++◌, length, map, Option, None, Some, Result, Ok, Err, refl, sym, ◌∙◌, ap, arith, subst}
-use Rattle.cap_tools.proofs.Common.{append_assoc, append-nil, slice_set, HasGiven, Stops, DeviceFault, Fault, ReadFailed, Kind, Placed, Items, FaultAt}
-use Rattle.cap_tools.proofs.Common.{no_items, kind_of, after_packets, SourceView, Phase, Reading, Ended, Failed, Steps, FindsPacket, FindsEnd, Advances}
-use Rattle.cap_tools.proofs.Common.{IsAt, IsAt-found, IsAt-closed, IsAt-fault, JobEnd, Report, Tally, InputItems, Event, FaultIn, PacketOrder, InTurn}
-use Rattle.cap_tools.proofs.Common.{ByTime, Sequence, sequence_of, with_front, whole_input, Policy, Edit, Filter, KeepAll, Count, SelectorState}
-use Rattle.cap_tools.proofs.Common.{IsWithin, is_count, PolicyState, with_empty_tally, Form, JobProgress, cut_at, no_progress, apply_events}
-use Rattle.cap_tools.proofs.Common.{final_progress, end_with, final_text, output_text, first_link, Target, Capture, Text, Lines, HasWrittenTo, form_to}
-use Rattle.cap_tools.proofs.Common.{written_to, failures_to, Reports, InputView, InputsView, Future, InputPast, AreInputsAfter, AreSettled, ReadsInput}
-use Rattle.cap_tools.proofs.Common.{waiting_packets, input_after, input_items, inputs_with, inputs_left, limits_of, sequence_left, IsNext}
-use Rattle.cap_tools.proofs.Common.{actual_future, is_in_turn, report_text, JobState, AppendsOnce, PacketsDecided, GoesOn, CompletesOutput, WhyBroken}
-use Rattle.cap_tools.proofs.Common.{StopsWriting, StepLeaves, asks_report, progress_of, progress_over, output_form, failures_by, written_by, wholes_of}
-use Rattle.cap_tools.proofs.Common.{Closes, ClosesBy, unless_failed, sieve, report_at, drained-text, ReportOk, report-ok, progress-append, course-close}
-use Rattle.cap_tools.proofs.Common.{report_bytes, greatest-here, greatest-same, limits-at, limits-kept, same-input, set-among, set-here, next-is-of, Next}
+use Rattle.cap_tools.proofs.Coming.{carries-found, carries-closed, come-first, true-wholes, true-fits, finds, get-at, At, Fit, stands-split, stands-join}
+use Rattle.cap_tools.proofs.Coming.{stands-length, fits-join, wholes-join, rests-join, finish-here, come-on}
+use Rattle.cap_tools.proofs.Common.{length-map, map-append, texts, Captured, greatest_of, an_end, InputEnd, ◌≡◌, inl, inr, ℕ, ◌+◌, ◌<◌, ◌≤◌, Bool, true, false}
+use Rattle.cap_tools.proofs.Common.{List, [], ◌∷◌, ◌++◌, length, map, Option, None, Some, Result, Ok, Err, refl, sym, ◌∙◌, ap, arith, subst, append_assoc}
+use Rattle.cap_tools.proofs.Common.{append-nil, slice_set, HasGiven, Stops, DeviceFault, Fault, ReadFailed, Kind, Placed, Items, FaultAt, no_items, kind_of}
+use Rattle.cap_tools.proofs.Common.{after_packets, SourceView, Phase, Reading, Ended, Failed, Steps, FindsPacket, FindsEnd, Advances, IsAt, JobEnd, Report}
+use Rattle.cap_tools.proofs.Common.{Tally, InputItems, Event, FaultIn, PacketOrder, InTurn, ByTime, Sequence, sequence_of, with_front, whole_input, Policy}
+use Rattle.cap_tools.proofs.Common.{Edit, Filter, KeepAll, Count, SelectorState, IsWithin, is_count, PolicyState, with_empty_tally, Form, JobProgress, cut_at}
+use Rattle.cap_tools.proofs.Common.{no_progress, apply_events, final_progress, end_with, final_text, output_text, first_link, Target, Capture, Text, Lines}
+use Rattle.cap_tools.proofs.Common.{HasWrittenTo, form_to, written_to, failures_to, Reports, InputView, InputsView, Future, InputPast, AreInputsAfter}
+use Rattle.cap_tools.proofs.Common.{AreSettled, ReadsInput, waiting_packets, input_after, input_items, inputs_with, inputs_left, limits_of, sequence_left}
+use Rattle.cap_tools.proofs.Common.{IsNext, actual_future, is_in_turn, report_text, JobState, AppendsOnce, PacketsDecided, GoesOn, CompletesOutput, WhyBroken}
+use Rattle.cap_tools.proofs.Common.{StopsWriting, StepLeaves, asks_report, progress_of, progress_over, output_form, failures_by, written_by, wholes_of, Closes}
+use Rattle.cap_tools.proofs.Common.{ClosesBy, unless_failed, sieve, report_at, drained-text, ReportOk, report-ok, progress-append, course-close, report_bytes}
+use Rattle.cap_tools.proofs.Common.{same-input, set-among, next-is-of, Next}
+use Rattle.cap_io.proofs.Standing.{IsAt-found, IsAt-closed, IsAt-fault}
+use Rattle.cap_inputs.proofs.Cursors.{greatest-here, greatest-same, limits-at, limits-kept, set-here}
 use Rattle.cap_tools.proofs.Laws.{ReadLaws, ReadAt, closed_in, read-at}
 use Rattle.cap_tools.proofs.Nexts.{report-answer, stops-at, once-nothing, once-report}
 use Rattle.cap_process.specs.inside.Selector as selecting_inside

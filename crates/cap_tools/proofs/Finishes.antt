@@ -1,15 +1,14 @@
 -- The step that completes the output.
 use Rattle.cap_tools.proofs.Coming.{true-whole, true-wholes, true-fit, true-fits, At}
-use Rattle.cap_tools.proofs.Common.{None, all_ends, ◌≡◌, ℕ, ◌+◌, List, [], ◌∷◌, ◌++◌, map, Option, Some, Result, Ok, Err, refl, sym, ◌∙◌, ap, subst}
-use Rattle.cap_tools.proofs.Common.{add-zero, append-nil, option_or, Stops, Captured, DeviceFault, WriteFailed, first_link_of, items, SinkView}
-use Rattle.cap_tools.proofs.Common.{FinishesEmpty, link_or_ethernet, file_start, text, Ended, finish-none, finish-none-writes, finish-some, Report}
+use Rattle.cap_tools.proofs.Common.{None, all_ends, ◌≡◌, ℕ, ◌+◌, List, [], ◌∷◌, ◌++◌, map, Option, Some, Result, Ok, Err, refl, sym, ◌∙◌, ap, subst, add-zero}
+use Rattle.cap_tools.proofs.Common.{append-nil, option_or, Stops, Captured, DeviceFault, WriteFailed, first_link_of, items, file_start, text, Ended, Report}
 use Rattle.cap_tools.proofs.Common.{Event, InputItems, Complete, sequence_of, with_front, PacketOrder, Policy, SelectorState, JobProgress, closing_text}
-use Rattle.cap_tools.proofs.Common.{lines_text, end_with, final_text, first_link, Target, Capture, Text, Lines, HasWrittenTo, form_to, written_to}
-use Rattle.cap_tools.proofs.Common.{failures_to, EndsOutput, InputView, Future, InputPast, AreInputsAfter, IsNext, AllEnded, actual_future}
-use Rattle.cap_tools.proofs.Common.{first_declared_link, next-is-of, reports_text, JobState, PacketsDecided, EndLeaves, end_of_write, progress_at}
-use Rattle.cap_tools.proofs.Common.{progress_of, progress_over, wholes_of, Next}
-use Rattle.cap_tools.proofs.{Fetches.mk, Fetches.inputs_at, Laws.OverAt, Laws.over-at}
-use Rattle.cap_tools.proofs.Nexts.{all-course, stops-at, once-closing}
+use Rattle.cap_tools.proofs.Common.{lines_text, end_with, final_text, first_link, Target, Capture, Text, Lines, HasWrittenTo, form_to, written_to, failures_to}
+use Rattle.cap_tools.proofs.Common.{EndsOutput, InputView, Future, InputPast, AreInputsAfter, IsNext, AllEnded, actual_future, first_declared_link, next-is-of}
+use Rattle.cap_tools.proofs.Common.{reports_text, JobState, PacketsDecided, EndLeaves, end_of_write, progress_at, progress_of, progress_over, wholes_of, Next}
+use Rattle.cap_io.specs.Sink.{SinkView, FinishesEmpty, link_or_ethernet}
+use Rattle.cap_io.proofs.Texts.{finish-none, finish-none-writes, finish-some}
+use Rattle.cap_tools.proofs.{Fetches.mk, Fetches.inputs_at, Laws.OverAt, Laws.over-at, Nexts.all-course, Nexts.stops-at, Nexts.once-closing}
 
 declared-one : (s : InputPast) (h : InputView) → At s h → h.source.phase ≡ Ended → first_link_of (items s.text).declared ≡ first_link_of h.source.declared
 declared-one s h at e =

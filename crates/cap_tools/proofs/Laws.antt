@@ -3,11 +3,13 @@ use Rattle.cap_tools.proofs.Coming.{from_turn, left-decided, turn-closes, turn-b
 use Rattle.cap_tools.proofs.Common.{append-nil, ◌≡◌, inl, inr, ℕ, zero, suc, ◌+◌, ◌≤◌, Bool, true, false, cond, not, max, List, [], ◌∷◌, ◌++◌, length, drop}
 use Rattle.cap_tools.proofs.Common.{Option, None, Some, refl, sym, ◌∙◌, ap, arith, subst, Captured, Fault, Kind, Declared, Items, no_items, kind_of, IsAt}
 use Rattle.cap_tools.proofs.Common.{Phase, Ended, InputItems, Event, Packet, InputEnd, SequenceEnd, Complete, FaultIn, PacketOrder, InTurn, ByTime, with_front}
-use Rattle.cap_tools.proofs.Common.{sequence_in_turn, sequence_by_time, fault_without_packets, sequence_of_entries, sort_entries, all_entries, unless_fault}
-use Rattle.cap_tools.proofs.Common.{Policy, Form, JobProgress, apply_events, end_input, unless_ended, InputView, InputPast, Future, AreFutures, AreInputsAfter}
-use Rattle.cap_tools.proofs.Common.{IsInput, ended_count, input_after_decided, is_open, items_left, inputs_left, key_of, sequence_left, packet_time, AllEnded}
-use Rattle.cap_tools.proofs.Common.{AllReady, IsNextIn, IsOpen, IsReady, KeysFrom, NoneEnded, NoneWaits, count-open, count-all, merged-broken, Placed}
-use Rattle.cap_tools.proofs.Common.{after_packets, first_end, waiting_packets, no_future, IsFrom, end_at, AllFrom, merged-next, Next}
+use Rattle.cap_tools.proofs.Common.{sequence_in_turn, sequence_by_time, Policy, Form, JobProgress, apply_events, end_input, unless_ended, InputView, InputPast}
+use Rattle.cap_tools.proofs.Common.{Future, AreFutures, AreInputsAfter, IsInput, ended_count, input_after_decided, is_open, items_left, inputs_left, key_of}
+use Rattle.cap_tools.proofs.Common.{sequence_left, packet_time, AllEnded, IsNextIn, IsOpen, count-open, count-all, Placed, after_packets, waiting_packets}
+use Rattle.cap_tools.proofs.Common.{no_future, Next}
+use Rattle.cap_io.specs.Sequence.{fault_without_packets, sequence_of_entries, sort_entries, all_entries, unless_fault, first_end}
+use Rattle.cap_inputs.specs.inside.Inputs.{AllReady, IsReady, KeysFrom, NoneEnded, NoneWaits}
+use Rattle.cap_inputs.proofs.Order.{merged-broken, IsFrom, end_at, AllFrom, merged-next}
 
 -- a packet waits, whose greatest time so far is at least the key; or the input is at its clean end
 pub data InputFrom (k : ℕ) (h : InputView) : Type 0 where

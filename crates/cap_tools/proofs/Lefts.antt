@@ -1,11 +1,11 @@
 -- Each step decreases the bound of the remaining steps, and the bytes read account for it.
-use Rattle.cap_tools.proofs.Common.{◌≡◌, ℕ, ◌+◌, ◌*◌, ◌^◌, ◌<◌, ◌≤◌, suc, Bool, true, false, List, [], ◌∷◌, ◌++◌, length, Result, Ok, Err, refl, sym}
-use Rattle.cap_tools.proofs.Common.{◌∙◌, ap, arith, length-append, slice_set, Fault, SourceView, Phase, Reading, Ended, Failed, Steps, end_offset}
-use Rattle.cap_tools.proofs.Common.{phase_after, PacketOrder, InTurn, ByTime, InputView, InputsView, IsInput, MarksDecided, ReadSteps, input_after}
-use Rattle.cap_tools.proofs.Common.{input_after_decided, input_steps_left, is_packet_found, steps_left_in, steps_owed, with_cursor, owed_by, steps_left}
-use Rattle.cap_tools.proofs.Common.{IsNext, IsNextIn, IsOpen, decided-waits, same-input, set-among, most_turns, reads_of, IsPaid, steps_owed_in_all}
-use Rattle.cap_tools.proofs.Common.{owed_in, Option, None, Some, most_steps, HasFewTurns, OutputView, Preparing, JobView, StepReads, reads_on}
-use Rattle.cap_tools.proofs.Common.{decides_one, leaves_one, reads_nothing, Next, IsCounted}
+use Rattle.cap_tools.proofs.Common.{◌≡◌, ℕ, ◌+◌, ◌*◌, ◌^◌, ◌<◌, ◌≤◌, suc, Bool, true, false, List, [], ◌∷◌, ◌++◌, length, Result, Ok, Err, refl, sym, ◌∙◌, ap}
+use Rattle.cap_tools.proofs.Common.{arith, length-append, slice_set, Fault, SourceView, Phase, Reading, Ended, Failed, Steps, end_offset, phase_after}
+use Rattle.cap_tools.proofs.Common.{PacketOrder, InTurn, ByTime, InputView, InputsView, IsInput, MarksDecided, ReadSteps, input_after, input_after_decided}
+use Rattle.cap_tools.proofs.Common.{steps_left_in, with_cursor, owed_by, steps_left, IsNext, IsNextIn, IsOpen, decided-waits, same-input, set-among, most_turns}
+use Rattle.cap_tools.proofs.Common.{reads_of, IsPaid, steps_owed_in_all, owed_in, Option, None, Some, most_steps, HasFewTurns, OutputView, Preparing, JobView}
+use Rattle.cap_tools.proofs.Common.{StepReads, reads_on, decides_one, leaves_one, reads_nothing, Next, IsCounted}
+use Rattle.cap_inputs.specs.Inputs.{input_steps_left, is_packet_found, steps_owed}
 use Rattle.std.specs.Prelude.{OnOk}
 
 -- ---- one input for another

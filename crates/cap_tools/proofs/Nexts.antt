@@ -1,14 +1,14 @@
 -- The next action, as a step finds it, is that of the job's order.
-use Rattle.cap_tools.proofs.Common.{IsNextEvent, ap₂, append_assoc, append-nil, Stops, AsCapture, AsReports, AsLines, text, added_text, packets_text, text-more}
-use Rattle.cap_tools.proofs.Common.{lines_text, lines-more, report_text, reports_text, reports-more, Report, Sequence, sequence_of, no_progress, apply_events}
-use Rattle.cap_tools.proofs.Common.{end_with, final_text, output_text, text_at_end, Grows, course-grows, course-close, drained-text, StopsWriting}
-use Rattle.cap_tools.proofs.Common.{progress_over, failures_by, written_by, ◌≡◌, ℕ, ◌+◌, true, List, [], ◌∷◌, ◌++◌, Option, None, Some, refl, sym, ◌∙◌, ap}
-use Rattle.cap_tools.proofs.Common.{Captured, Fault, Kind, Placed, Event, Packet, InputEnd, Complete, PacketOrder, InTurn, ByTime, InputPast, Policy, Edit}
-use Rattle.cap_tools.proofs.Common.{Filter, KeepAll, Count, SelectorState, Verdict, Pass, PassLast, PassesAs, Skip, Refuse, judge, Form, JobProgress}
-use Rattle.cap_tools.proofs.Common.{IsNextAnswer, apply_event, apply_verdict, closing_text, decide, unless_refused, end_input, first_link, form_refuses}
-use Rattle.cap_tools.proofs.Common.{packet_bytes, report_bytes, text_of_progress, progress-next, JobState, Meets, PacketsDecided, asks_report, output_form}
-use Rattle.cap_tools.proofs.Common.{progress_of, wholes_of, work_of, Target, HasWrittenTo, form_to, written_to, AppendsOnce, nothing, packet, report, closes}
-use Rattle.cap_tools.proofs.Common.{lines-one}
+use Rattle.cap_tools.proofs.Common.{IsNextEvent, ap₂, append_assoc, append-nil, Stops, text, added_text, packets_text, text-more, lines_text, lines-more}
+use Rattle.cap_tools.proofs.Common.{report_text, reports_text, reports-more, Report, Sequence, sequence_of, no_progress, apply_events, end_with, final_text}
+use Rattle.cap_tools.proofs.Common.{output_text, Grows, course-grows, course-close, drained-text, StopsWriting, progress_over, failures_by, written_by, ◌≡◌, ℕ}
+use Rattle.cap_tools.proofs.Common.{◌+◌, true, List, [], ◌∷◌, ◌++◌, Option, None, Some, refl, sym, ◌∙◌, ap, Captured, Fault, Kind, Placed, Event, Packet}
+use Rattle.cap_tools.proofs.Common.{InputEnd, Complete, PacketOrder, InTurn, ByTime, InputPast, Policy, Edit, Filter, KeepAll, Count, SelectorState, Verdict}
+use Rattle.cap_tools.proofs.Common.{Pass, PassLast, PassesAs, Skip, Refuse, judge, Form, JobProgress, IsNextAnswer, apply_event, apply_verdict, closing_text}
+use Rattle.cap_tools.proofs.Common.{decide, unless_refused, end_input, first_link, form_refuses, packet_bytes, report_bytes, text_of_progress, progress-next}
+use Rattle.cap_tools.proofs.Common.{JobState, Meets, PacketsDecided, asks_report, output_form, progress_of, wholes_of, work_of, Target, HasWrittenTo, form_to}
+use Rattle.cap_tools.proofs.Common.{written_to, AppendsOnce, nothing, packet, report, closes, lines-one}
+use Rattle.cap_process.specs.Outcome.{AsCapture, AsReports, AsLines, text_at_end}
 use Rattle.cap_print.specs.Rendering.{printed_text}
 
 pub once-nothing : (form : Form) (link : Option ℕ) (far next : JobProgress) (old new : Target) → next.packets ≡ far.packets

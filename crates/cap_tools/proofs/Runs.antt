@@ -1,21 +1,21 @@
 -- A whole run of a job, in terms of its call.
 use Rattle.cap_tools.proofs.Common.{◌≡◌, ℕ, Bool, zero, suc, List, [], ◌∷◌, map, Option, None, Some, IsTrue, refl, sym, ◌∙◌, ap, subst, Placed, InputPast}
-use Rattle.cap_tools.proofs.Common.{DeviceLimits, FreshInput, fresh_view, nothing_done, device_limits, Writing, target_at, written_to, failures_to, form_to}
-use Rattle.cap_tools.proofs.Common.{room_to, failures_by, finish_at, texts, work_of, JobView, Decided, JobGives, StaysDecided, first_job, Policy, IsPolicy}
-use Rattle.cap_tools.proofs.Common.{IsWork, form_asked, Call, Content, Assignment, Preparing, ReadsFilter, Compiles, Filter, DecidedBy, PreparesBy, inl, inr}
-use Rattle.cap_tools.proofs.Common.{◌+◌, ◌-◌, ◌<◌, ◌≤◌, arith, false, ◌++◌, length, Ok, add-zero, append-nil, length-map, length-set, slice_get-map, slice_get}
-use Rattle.cap_tools.proofs.Common.{option_map, HasGiven, Stops, Fault, Declared, ReadFailsAt, given_in_all, decisive_length, Link, listing, Refusal}
-use Rattle.cap_tools.proofs.Common.{fault_message, refusal_message, write_failed_message, refusal_status, OutputView, IsTold, InputView, InputsView}
-use Rattle.cap_tools.proofs.Common.{input_after, limits_of, offset_of, offset_at, InputItems, Event, SequenceEnd, Complete, FaultIn, whole_input, RunResult}
+use Rattle.cap_tools.proofs.Common.{FreshInput, fresh_view, nothing_done, Writing, target_at, written_to, failures_to, form_to, room_to, failures_by, finish_at}
+use Rattle.cap_tools.proofs.Common.{texts, work_of, JobView, Decided, JobGives, StaysDecided, first_job, Policy, Call, Content, Assignment, Preparing}
+use Rattle.cap_tools.proofs.Common.{ReadsFilter, Compiles, Filter, DecidedBy, PreparesBy, inl, inr, ◌+◌, ◌-◌, ◌<◌, ◌≤◌, arith, false, ◌++◌, length, Ok}
+use Rattle.cap_tools.proofs.Common.{add-zero, append-nil, length-map, length-set, slice_get-map, slice_get, option_map, HasGiven, Stops, Fault, Declared}
+use Rattle.cap_tools.proofs.Common.{ReadFailsAt, given_in_all, decisive_length, Link, listing, Refusal, refusal_status, OutputView, IsTold, InputView}
+use Rattle.cap_tools.proofs.Common.{InputsView, input_after, limits_of, offset_of, InputItems, Event, SequenceEnd, Complete, FaultIn, whole_input, RunResult}
 use Rattle.cap_tools.proofs.Common.{NoMemory, EndsJob, end_status, end_message, JobEnd, SourceView, JobState, PacketsDecided, CompletesOutput, EndLeaves}
-use Rattle.cap_tools.proofs.Common.{EndsByCut, Meets, StopsWriting, WantsMemory, a_packet, all_ends, an_end, output_form, wholes_of, written_by, Outcome}
-use Rattle.cap_tools.proofs.Common.{JobProgress, Work, IsNextAnswer, NeedsMemory, cut_at, message, outcome, status, text_after, text_of_progress, name_at}
-use Rattle.cap_tools.proofs.Common.{CommandRuns, HasLeft, HasLostOutput, IsWhyRefused, ends, fault_outcome, listing_answer, listing_outcome, of_cut_input}
-use Rattle.cap_tools.proofs.Common.{of_events, of_listing, of_packets, of_refusal, output_failed, packets_answer, refusal_outcome, whole_inputs, ListsSome}
-use Rattle.cap_tools.proofs.Common.{RefusesStart, drained-text, Turn, MakesStep}
-use Rattle.cap_inputs.specs.inside.Fresh.{fresh_limits}
-use Rattle.flt_words.specs.declared.fault.ExprFault.{ExprFault}
-use Rattle.flt_bpf.specs.declared.fault.ListingFault.{ListingFault}
+use Rattle.cap_tools.proofs.Common.{EndsByCut, Meets, StopsWriting, WantsMemory, a_packet, all_ends, an_end, output_form, wholes_of, written_by, JobProgress}
+use Rattle.cap_tools.proofs.Common.{IsNextAnswer, cut_at, text_of_progress, name_at, CommandRuns, ends, fault_outcome, ListsSome, RefusesStart, drained-text}
+use Rattle.cap_tools.proofs.Common.{Turn, MakesStep}
+use Rattle.cap_inputs.specs.{Inputs.DeviceLimits, Inputs.device_limits, Inputs.offset_at, inside.Fresh.fresh_limits}
+use Rattle.cap_tools.specs.Run.{IsPolicy, IsWork, form_asked, HasLeft, HasLostOutput, IsWhyRefused, listing_answer, listing_outcome, of_cut_input, of_events}
+use Rattle.cap_tools.specs.Run.{of_listing, of_packets, of_refusal, output_failed, packets_answer, refusal_outcome, whole_inputs}
+use Rattle.cap_process.specs.Messages.{fault_message, refusal_message, write_failed_message}
+use Rattle.cap_process.specs.Outcome.{Outcome, Work, NeedsMemory, message, outcome, status, text_after}
+use Rattle.{flt_words.specs.declared.fault.ExprFault.ExprFault, flt_bpf.specs.declared.fault.ListingFault.ListingFault}
 
 -- A job goes on over the packets of a call: it does the work that is asked for, more bytes of the
 -- same inputs are done, and the output didn't fail.

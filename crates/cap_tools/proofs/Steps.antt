@@ -1,19 +1,17 @@
 -- The effect of a step on a job, by the parts that it changes. `old` is the job as its invariant
 -- describes it, and `now` the same job as contracts see it.
-use Rattle.cap_tools.proofs.{Answers.AnswerLeaves, Answers.answer-leaves, CommandStarts.ready-none}
-use Rattle.cap_tools.proofs.Common.{is_none, ◌≡◌, ℕ, ◌+◌, ◌<◌, ◌≤◌, Bool, true, false, IsTrue, List, Captured, Option, None, Some, Result, Ok, Err}
-use Rattle.cap_tools.proofs.Common.{◌&&◌, refl, sym, ◌∙◌, ap, arith, subst, All, Fault, InputView, InputsView, InputPast, IsInput, IsNext, IsSound}
-use Rattle.cap_tools.proofs.Common.{MarksDecided, ReadSteps, ReadsInput, steps_left, next-is-of, is_clean_end, input_after_decided, with_cursor}
-use Rattle.cap_tools.proofs.Common.{SelectorView, policy_state, GrowsByOne, HasFewMarks, HavePrograms, Spends, IsStep, JobEnd, JobState, JobView}
-use Rattle.cap_tools.proofs.Common.{PacketsDecided, StepGives, state_at, asks_report, end_after, sieve, DecidesPacket, StepReads, reads_on, decides_one}
-use Rattle.cap_tools.proofs.Common.{leaves_one, is_fault, IsPaid, IsSmall, Target, HasFewOutputInterfaces, room_by, room_to, Next, get-input}
-use Rattle.cap_tools.proofs.Common.{same-input}
-use Rattle.cap_tools.proofs.Fetches.{Follows, read_input-leaves}
+use Rattle.cap_tools.proofs.{Answers.AnswerLeaves, Answers.answer-leaves, CommandStarts.ready-none, Fetches.Follows, Fetches.read_input-leaves}
+use Rattle.cap_tools.proofs.Common.{is_none, ◌≡◌, ℕ, ◌+◌, ◌<◌, ◌≤◌, Bool, true, false, IsTrue, List, Captured, Option, None, Some, Result, Ok, Err, ◌&&◌, refl}
+use Rattle.cap_tools.proofs.Common.{sym, ◌∙◌, ap, arith, subst, All, Fault, InputView, InputsView, InputPast, IsInput, IsNext, IsSound, MarksDecided, ReadSteps}
+use Rattle.cap_tools.proofs.Common.{ReadsInput, steps_left, next-is-of, is_clean_end, input_after_decided, with_cursor, SelectorView, policy_state, GrowsByOne}
+use Rattle.cap_tools.proofs.Common.{HasFewMarks, HavePrograms, Spends, IsStep, JobEnd, JobState, JobView, PacketsDecided, StepGives, state_at, asks_report}
+use Rattle.cap_tools.proofs.Common.{end_after, sieve, DecidesPacket, StepReads, reads_on, decides_one, leaves_one, IsPaid, IsSmall, Target}
+use Rattle.cap_tools.proofs.Common.{HasFewOutputInterfaces, room_by, room_to, Next, get-input, same-input}
+use Rattle.cap_tools.specs.Bounds.{is_fault, JudgesOne}
 use Rattle.cap_tools.proofs.Lefts.{counted-kept, few-kept, Goes, decided-on, read-on}
 use Rattle.cap_tools.proofs.Weights.{is-light, mark_decided-small, read_input-small}
-use Rattle.cap_process.specs.declared.selector.Verdict as code
 use Rattle.cap_process.specs.inside.Selector.{FitsTally}
-use Rattle.cap_tools.specs.Bounds.{JudgesOne}
+use Rattle.cap_process.specs.declared.selector.Verdict as code
 
 -- the job with these inputs, this selector, this output, this count of packets and this status
 abbrev pub with_parts : JobView → InputsView → SelectorView → Target → ℕ → Option ℕ → JobView

@@ -2,12 +2,10 @@
 use Rattle.cap_tools.proofs.Common.{◌≡◌, ◌⊎◌, inl, inr, ℕ, ◌+◌, ◌≤◌, Bool, true, false, List, Option, None, Some, IsTrue, refl, sym, ◌∙◌, ap, arith, subst}
 use Rattle.cap_tools.proofs.Common.{OutputView, IsTold, InputsView, steps_left, next-is-of, Call, RunResult, CommandRuns, Assignment, JobEnd, JobState}
 use Rattle.cap_tools.proofs.Common.{StepGives, EndsJob, HavePrograms, Preparing, JobView, Turn, end_message, end_status, room_by, PreparesBy, StepReads}
-use Rattle.cap_tools.proofs.Common.{StepReadsBy, IsLight, reads_nothing, most_turns, HasFewTurns, IsCounted, IsSound, IsStep, ending, IsNext, next_of, Next}
-use Rattle.cap_tools.proofs.Common.{MakesStep, is_read, makes, rests}
-use Rattle.cap_tools.proofs.Lefts.{reads-kept}
-use Rattle.cap_tools.proofs.Runs.{IsFilled, IsLeft, under-done, Begun, Under, under-more}
-use Rattle.cap_tools.proofs.Weights.{is-light}
-use Rattle.cap_tools.specs.Commands.{preparing_left}
+use Rattle.cap_tools.proofs.Common.{IsLight, reads_nothing, most_turns, HasFewTurns, IsCounted, IsSound, IsStep, ending, IsNext, next_of, Next, MakesStep}
+use Rattle.cap_tools.proofs.Common.{is_read, makes, rests}
+use Rattle.cap_tools.specs.Commands.{StepReadsBy, preparing_left}
+use Rattle.cap_tools.proofs.{Lefts.reads-kept, Weights.is-light, Runs.IsFilled, Runs.IsLeft, Runs.under-done, Runs.Begun, Runs.Under, Runs.under-more}
 use Rattle.cap_tools.specs.inside.Jobs.{MakesSteps, MakesStepUnless, one_step, two_steps, IsUncounted, MayCount}
 
 -- ---- a step that was made may be counted

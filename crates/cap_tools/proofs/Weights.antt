@@ -1,9 +1,9 @@
 -- The memory that a job holds is bounded.
 use Rattle.cap_tools.proofs.Common.{◌≡◌, ℕ, ◌+◌, ◌*◌, ◌≤◌, List, [], ◌∷◌, ◌++◌, length, map, Bool, Result, arith, subst, All, Fault, Declared, Nothing}
 use Rattle.cap_tools.proofs.Common.{PcapFile, PcapngFile, most_in_unit, SourceView, Phase, Reading, Ended, Failed, SectionFits, Steps, Writing}
-use Rattle.cap_tools.proofs.Common.{HasFewOutputInterfaces, Target, Capture, Text, Lines, target_at, InputView, InputsView, IsInput, ReadSteps}
-use Rattle.cap_tools.proofs.Common.{MarksDecided, input_after, input_after_decided, HasFewMarks, FreshInput, fresh_view, JobState, IsBounded, IsLight}
-use Rattle.cap_tools.proofs.Common.{IsSmall, declared_weight, inputs_weight, names_weight, target_weight}
+use Rattle.cap_tools.proofs.Common.{HasFewOutputInterfaces, Target, Capture, Text, Lines, target_at, InputView, InputsView, IsInput, ReadSteps, MarksDecided}
+use Rattle.cap_tools.proofs.Common.{input_after, input_after_decided, HasFewMarks, FreshInput, fresh_view, JobState, IsLight, IsSmall}
+use Rattle.cap_tools.specs.Bounds.{IsBounded, declared_weight, inputs_weight, names_weight, target_weight}
 use Rattle.std.proofs.lemmas.List.Elements.{All-nil, All-cons, All-head, All-tail, All-set}
 
 -- ---- one input for another

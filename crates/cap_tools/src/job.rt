@@ -372,26 +372,10 @@ impl<I: Input, O: Output, E: Output, A: Allocator + Copy + Drop> Job<I, O, E, A>
         requires within { input < length self.old.state.inputs.cursors }
         ensures { IsStep I.tells O.tells self.old result self.new }
     {
-        if self.take_at_hand(input) {
+        if self.inputs.take_at_hand(input) {
             return None;
         }
         self.read_slowly(input)
-    }
-
-    /// Reads an input on, if its next packet is at hand, and returns whether it is; else nothing
-    /// changes.
-    #[inline(always)]
-    fn take_at_hand(&mut self, input: usize) -> bool
-        requires prepared { self.old.preparing ≡ None }
-        requires next { input_spec.IsNext self.old.state.inputs (Next.Read input) }
-        requires within { input < length self.old.state.inputs.cursors }
-        ensures taken { result ≡ true → IsStep I.tells O.tells self.old None self.new }
-        ensures nothing { result ≡ false → self.new ≡ self.old }
-    {
-        if !self.inputs.take_at_hand(input) {
-            return false;
-        }
-        true
     }
 
     /// Reads an input on, if a read may be needed. If somebody may be waiting for the output, and

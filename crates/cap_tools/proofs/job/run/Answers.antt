@@ -1,9 +1,8 @@
 -- The run makes turns until the job ends, and writes what the command defines.
-use Rattle.cap_tools.proofs.CommandStarts.{first-decided}
+use Rattle.cap_tools.proofs.{CommandStarts.first-decided, Runs.first-output, Runs.fresh}
 use Rattle.cap_tools.proofs.Common.{◌≡◌, [], map, refl, sym, ◌∙◌, ap, subst, string_bytes, arith, append-nil, IsTold, no_memory_message, OutputView}
 use Rattle.cap_tools.proofs.Common.{fresh_input, fresh_output, output_view, Assignment, Call, call_of, JobView, room_by, ends, fault_outcome, of_nothing}
 use Rattle.cap_tools.proofs.Common.{assignment}
-use Rattle.cap_tools.proofs.Runs.{first-output, fresh}
 use Rattle.cap_tools.proofs.Turns.{steps-done, steps-more, steps-room, steps-status, steps-undone}
 use Rattle.cap_tools.proofs.job.run.Goals as goal
 

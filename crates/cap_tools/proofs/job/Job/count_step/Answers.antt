@@ -1,7 +1,6 @@
 -- The step is counted, and the job goes on or ends.
 use Rattle.cap_tools.proofs.Common.{◌+◌, sym, subst, Option, JobEnd, JobView, Turn, MakesStep}
-use Rattle.cap_tools.proofs.Turns.{counted-more, counted-end}
-use Rattle.cap_tools.specs.inside.Jobs.{IsUncounted}
+use Rattle.cap_tools.{proofs.Turns.counted-more, proofs.Turns.counted-end, specs.inside.Jobs.IsUncounted}
 use Rattle.cap_tools.proofs.job.Job.count_step.Goals as goal
 
 pub returns-in-None : goal.returns-in-None

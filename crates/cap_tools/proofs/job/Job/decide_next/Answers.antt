@@ -1,8 +1,6 @@
 -- Deciding a packet is a step of the job, and keeps it sound.
-use Rattle.cap_tools.proofs.CommandStarts.{ready-none}
+use Rattle.cap_tools.proofs.{CommandStarts.ready-none, Programs.have-decided, Steps.decided-step, Steps.decides-move, Steps.failed-step, Steps.moves-sound}
 use Rattle.cap_tools.proofs.Common.{◌+◌, ◌∙◌, ap, arith, JobView, decided-waits}
-use Rattle.cap_tools.proofs.Programs.{have-decided}
-use Rattle.cap_tools.proofs.Steps.{decided-step, decides-move, failed-step, moves-sound}
 use Rattle.cap_tools.proofs.job.Job.decide_next.Goals as goal
 
 pub decide-requires : goal.decide-requires

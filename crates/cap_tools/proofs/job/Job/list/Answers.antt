@@ -1,7 +1,6 @@
 -- The listing is written, and ends the job.
-use Rattle.cap_tools.proofs.CommandStarts.{listed}
+use Rattle.cap_tools.proofs.{CommandStarts.listed, Weights.is-light}
 use Rattle.cap_tools.proofs.Common.{◌≡◌, true, subst, sym, arith, common_steps, JobView, IsLight, is_text, EndsList, Turn, end_of_write, end_status}
-use Rattle.cap_tools.proofs.Weights.{is-light}
 use Rattle.cap_tools.proofs.job.Job.list.Goals as goal
 
 pub list-requires : goal.list-requires

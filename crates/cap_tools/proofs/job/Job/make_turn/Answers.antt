@@ -1,7 +1,6 @@
 -- A turn is one step or two.
-use Rattle.cap_tools.proofs.CommandStarts.{none-before, some-before}
-use Rattle.cap_tools.proofs.{Common.◌∙◌, Common.sym, Common.ap, Common.JobView, Turns.after-end}
-use Rattle.cap_tools.specs.inside.Jobs.{one_step}
+use Rattle.cap_tools.{proofs.CommandStarts.none-before, proofs.CommandStarts.some-before, proofs.Turns.after-end, specs.inside.Jobs.one_step}
+use Rattle.cap_tools.proofs.Common.{◌∙◌, sym, ap, JobView}
 use Rattle.cap_tools.proofs.job.Job.make_turn.Goals as goal
 
 pub prepare-requires : goal.prepare-requires

@@ -1,9 +1,7 @@
 -- Reading an input is a step of the job, and keeps it sound.
-use Rattle.cap_tools.proofs.CommandStarts.{ready-none}
+use Rattle.cap_tools.proofs.{CommandStarts.ready-none, Programs.have-kept, Weights.read_input-small, Lefts.counted-turns, Lefts.read-on}
 use Rattle.cap_tools.proofs.Common.{◌≡◌, ◌∙◌, true, false, Ok, Err, refl, ap, arith, None, Some, InputsView, asks_report, JobView, JobEnd}
-use Rattle.cap_tools.proofs.{Lefts.counted-turns, Lefts.read-on, Programs.have-kept}
 use Rattle.cap_tools.proofs.Steps.{moves-sound, read-step, reads-move, same-kept}
-use Rattle.cap_tools.proofs.Weights.{read_input-small}
 use Rattle.cap_tools.proofs.job.Job.read_input.Goals as goal
 
 pub invariant_of-self : goal.invariant_of-self
