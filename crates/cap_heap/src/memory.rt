@@ -43,7 +43,7 @@ impl Memory {
         mem::replace(self, Memory::none())
     }
 
-    /// The size in bytes, and the memory again.
+    /// The size in bytes, and the memory again, which still owns its bytes.
     pub(crate) fn sized(self) -> (usize, Memory)
         ensures size { result.0 ≡ self.1 }
         ensures memory { result.1 ≡ self }

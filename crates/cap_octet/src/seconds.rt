@@ -26,8 +26,8 @@ pub fn time_below_end(nanos: u64) -> Option<u64>
     (nanos < TIME_END).then_some(nanos)
 }
 
-/// The nanoseconds of whole seconds and a fraction in nanoseconds. `None` where either is `None`,
-/// which isn't a number, and from 2^63 nanoseconds on.
+/// The nanoseconds of whole seconds and a fraction in nanoseconds, each `None` if its text isn't a
+/// number. `None` if either is, and from 2^63 nanoseconds on.
 fn duration_of_parts(seconds: Option<u64>, fraction: Option<u64>) -> Option<u64>
     ensures { result ≡ duration_of_parts seconds fraction }
 {

@@ -173,8 +173,8 @@ impl<A: Allocator + Clone> Walk<A> {
     }
 
     /// Emits one more node, the one before those that were emitted. A group that waits is emitted
-    /// first, unless the node is a value or an `or`, which may go on with it, or arithmetic, of
-    /// which the comparison did so. The value of arithmetic is in A then.
+    /// first, unless the node is a value or an `or`, which may go on with it, or a part of arithmetic:
+    /// its comparison came before, and emitted the group. Arithmetic leaves its value in A.
     fn emit_node(&mut self, link: Link, node: &Node) -> Result<()>
         ensures { OnOk result (self.new ≡ emit_node link self.old node.now) }
     {
