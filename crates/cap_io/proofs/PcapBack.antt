@@ -2,7 +2,7 @@
 use Rattle.std.proofs.Common.{rules, ◌≡◌, ℕ, ◌+◌, ◌*◌, ◌/◌, ◌%◌, ◌^◌, ◌<◌, ◌≤◌, Bool, List, [], ◌∷◌, ◌++◌, length, drop, None, refl, sym, ap, subst, ◌∙◌}
 use Rattle.std.proofs.Common.{lt-ltb, le-leb}
 use Rattle.cap_io.proofs.Common.{arith, AllByRecursion, flat_map, first_failing, u32_in, Captured, Fault, LinkTypesDiffer, Pcap, NsecPcap, Little, IsHeader}
-use Rattle.cap_io.proofs.Common.{Head, Resolution, Microseconds, Nanoseconds, Back, InRange, IsPlain, ReadsBack, number_in}
+use Rattle.cap_io.proofs.Common.{Head, Resolution, Microseconds, Nanoseconds, Back, InRange, IsPlain, ReadsBack}
 use Rattle.cap_pcap.specs.Record.{IsRecord, field_checks, most_captured, nanoseconds_of_part, record_packet, parts_of_second}
 use Rattle.cap_io.specs.Capture.{PcapFile, a_pcap_header, a_pcap_record}
 use Rattle.cap_io.specs.Text.{has_link, record_text, state_after}
@@ -10,6 +10,7 @@ use Rattle.cap_io.proofs.Backs.{Holds, each-following, holds-none, holds-unit, r
 use Rattle.cap_io.proofs.Texts.{bare_text, text-start}
 use Rattle.{cap_pcap.proofs.Records.record_fault-whole, cap_pcapng.proofs.Numerals.number_at}
 use Rattle.cap_pcap.specs.Encoding as pcap
+use Rattle.cap_octet.specs.Number.{number_in}
 
 -- ---- a record
 

@@ -3,7 +3,7 @@ use Rattle.std.proofs.Common.{rules, ◌≡◌, ℕ, Bool, true, false, ◌&&◌
 use Rattle.std.proofs.Common.{None, Some, refl, sym, ◌∙◌, ap, ◌==◌, nat_le, subst, eqb-true}
 use Rattle.cap_io.proofs.Common.{arith, append-nil, length-append, length-take-le, take-append-drop, take_at, Captured, Fault, Head, Resolution, Microseconds}
 use Rattle.cap_io.proofs.Common.{Nanoseconds, form_in, header_checks, header_fault, header_in, magic, IsHeader, u32_in, Little, Big, all_met, section_type}
-use Rattle.cap_io.proofs.Common.{block_size, Declared, PcapngFile, append_assoc, number_in}
+use Rattle.cap_io.proofs.Common.{block_size, Declared, PcapngFile, append_assoc}
 use Rattle.cap_pcap.specs.Record.{record_fault, record_size, record_packet, IsRecord}
 use Rattle.cap_pcap.proofs.Headers.{header_fault-append, header_fault-none, header_in-append}
 use Rattle.cap_pcap.proofs.Records.{IsRecord-front, IsRecord-take, passes}
@@ -14,6 +14,7 @@ use Rattle.cap_io.specs.Reading.{FitUnits, no_unit_fits, unit_fits, held_length}
 use Rattle.cap_io.proofs.Fronts.{block_unless, front_of_file, header_unless, record_unless, front_of-header, front_of-record, front_of-pcapng}
 use Rattle.cap_io.proofs.Fronts.{front_of-following, front_of_block-whole}
 use Rattle.cap_pcapng.proofs.Units as block
+use Rattle.cap_octet.specs.Number.{number_in}
 
 -- ---- which kind of file
 

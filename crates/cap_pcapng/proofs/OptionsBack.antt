@@ -2,11 +2,12 @@
 use Rattle.std.proofs.Common.{◌≡◌, ℕ, ◌+◌, ◌-◌, ◌^◌, ◌<◌, ◌≤◌, List, [], ◌∷◌, ◌++◌, length, take, drop, replicate, refl, sym, ap, ap₂, ◌∙◌, arith, append_assoc}
 use Rattle.std.proofs.Common.{length-append, None, Result, Ok, le-leb, unwrap_or}
 use Rattle.std.proofs.lemmas.List.{length-replicate, take_at, drop_at}
-use Rattle.cap_pcapng.proofs.Common.{little_bytes, first_failing, u16_in, Fault, Little, comment_code, first_value, fitting_options, padded_length, number_in}
+use Rattle.cap_pcapng.proofs.Common.{little_bytes, first_failing, u16_in, Fault, Little, comment_code, first_value, fitting_options, padded_length}
 use Rattle.cap_pcapng.specs.OptionList.{CodedValue, option_at, option_size, options_in, options_within}
 use Rattle.cap_pcapng.specs.Encoding.{comment_text, end_text, name_text, option_text, padded_text, resolution_text}
 use Rattle.cap_pcapng.specs.{Interface.described_by, Interface.described_in, Laws.written_interface, Comment.comment_in, InterfaceOptions.list_checks}
 use Rattle.cap_pcapng.proofs.{Numerals.number_at, OptionLists.goes_on, OptionLists.options_in-more, OptionLists.options_in-none}
+use Rattle.cap_octet.specs.Number.{number_in}
 
 length-option_text : (code : ℕ) (value : List ℕ) → length (option_text code value) ≡ padded_length (4 + length value)
 length-option_text code value = simp (length-append, length-replicate) (omega arith)

@@ -2,7 +2,7 @@
 use Rattle.std.proofs.Common.{◌≡◌, ℕ, ◌+◌, ◌-◌, ◌*◌, ◌/◌, ◌%◌, ◌^◌, ◌<◌, ◌≤◌, false, List, [], ◌∷◌, ◌++◌, length, take, drop, refl, sym, ap, ap₂, ◌∙◌, arith}
 use Rattle.std.proofs.Common.{append_assoc, length-append, Some, None, le-leb, leb-true, lt-ltb, eq-eqb, lit≤, pos, ◌==◌}
 use Rattle.std.proofs.lemmas.List.{length-replicate, take_at, drop_at}
-use Rattle.cap_pcapng.proofs.Common.{little_bytes, all_met, first_failing, u16_in, u32_in, Little, Described, padded_length, Frame, number_in}
+use Rattle.cap_pcapng.proofs.Common.{little_bytes, all_met, first_failing, u16_in, u32_in, Little, Described, padded_length, Frame}
 use Rattle.cap_pcapng.specs.Block.{EnhancedParts, InterfaceParts, Parts, block_checks, body_checks, body_in, parts_in, parts_in_body}
 use Rattle.cap_pcapng.specs.Frame.{frame_checks, frame_in, most_block, section_type, type_of_block}
 use Rattle.cap_pcapng.specs.Laws.{InterfaceBack, PacketBack, SectionBack, ReadsAs, written_interface, written_section}
@@ -14,6 +14,7 @@ use Rattle.cap_pcapng.specs.{Time.representable_time, Comment.comment_in, Interf
 use Rattle.cap_octet.specs.{Packet.Captured, Date.NANOS_PER_SECOND}
 use Rattle.std.specs.{List.slice_get, Option.option_to_list}
 use Rattle.cap_pcapng.proofs.{OptionsBack.comment_back, OptionsBack.options_describe, OptionsBack.options_pass, Numerals.number_at, Units.unit_fault-passes}
+use Rattle.cap_octet.specs.Number.{number_in}
 
 -- ---- a section header
 

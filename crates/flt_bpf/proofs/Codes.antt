@@ -1,10 +1,11 @@
 -- Operations and their codes are the same in both directions, and a word is its four bytes.
 use Rattle.std.proofs.Common.{◌≡◌, ℕ, List, [], ◌∷◌, Some, refl, arith, ◌+◌, ◌*◌, ◌<◌, zero, suc, All}
-use Rattle.flt_bpf.proofs.Common.{nat_tests, Operation, LoadAbsolute, LoadIndirect, Load, Store, Compute, JumpIf, Immediate, Constant, Equal, operation_of}
+use Rattle.flt_bpf.proofs.Common.{nat_tests, Operation, LoadAbsolute, LoadIndirect, Load, Store, Compute, JumpIf, Immediate, Constant, Equal}
 use Rattle.flt_bpf.specs.Instructions.{code_of, found, operations}
 use Rattle.std.proofs.lemmas.List.Elements.{All-head, All-tail}
 use Rattle.flt_bpf.specs.declared.operation.{Register.TheVariants.Accumulator, Register.TheVariants.Index, AluOperation.TheVariants.Add, Width.TheVariants.Word}
 use Rattle.{flt_bpf.specs.Machine.big_endian_at, std.specs.Prelude.slice_index, std.proofs.Math.Nat.mod-eq_of_lt}
+use Rattle.flt_bpf.specs.Instructions.{operation_of}
 
 found_code : (os : List Operation) (code : ℕ) (o : Operation) → found os code ≡ Some o → code_of o ≡ code
 found_code [] code o e = cc

@@ -1,5 +1,5 @@
 -- Code that is laid out gives the answers of the wide code.
-use Rattle.flt_short.proofs.Common.{operation_of, nat_tests, All-cons, All-head, All-tail, Insn, Operation, Jump, JumpIf, placed_code, All-take, State, Test}
+use Rattle.flt_short.proofs.Common.{nat_tests, All-cons, All-head, All-tail, Insn, Operation, Jump, JumpIf, placed_code, All-take, State, Test}
 use Rattle.flt_short.proofs.Common.{Operand, plain_both, known_step, PlacedJump}
 use Rattle.flt_bpf.specs.Machine.{step, does_if_known, test_holds, operand_value}
 use Rattle.std.proofs.Common.{◌≡◌, ℕ, ◌-◌, ◌<◌, ◌≤◌, List, [], ◌∷◌, length, true, Option, Some, refl, arith, zero, suc, Bool, false, ap, ◌∙◌, if◌then◌else◌}
@@ -9,6 +9,7 @@ use Rattle.flt_short.specs.inside.Layout.{with_noted_jump, jump_near, near_place
 use Rattle.flt_bpf.specs.declared.operation.Operation.TheVariants.{ReturnConstant, ReturnAccumulator}
 use Rattle.flt_bpf.specs.{Answer.answer_of, Answer.answer_after, Layout.MOST_OFFSET, Check.ends_in_return}
 use Rattle.{std.specs.Prelude.slice_index, flt_short.proofs.PlacedSizes.emitted_grows}
+use Rattle.flt_bpf.specs.Instructions.{operation_of}
 
 -- What is laid out first stays where its place says; from a jump a run goes on where
 -- the jump leads.

@@ -1,11 +1,12 @@
 -- Code without a fault is laid out as code without one.
 use Rattle.flt_bpf.specs.Check.{fault_of, ends_in_return, unless, fault_if_known, is_return, IsFaultless, IsValidUnlessLong}
-use Rattle.flt_short.proofs.Common.{operation_of, nat_tests, Insn, Operation, Jump, JumpIf, placed_code, Test, Operand, Load, Compute, Memory, Constant}
+use Rattle.flt_short.proofs.Common.{nat_tests, Insn, Operation, Jump, JumpIf, placed_code, Test, Operand, Load, Compute, Memory, Constant}
 use Rattle.std.proofs.Common.{◌≡◌, ℕ, ◌<◌, ◌≤◌, List, [], ◌∷◌, length, true, Option, Some, refl, arith, Bool, ap, ◌∙◌, ◌&&◌, nat_lt, None}
 use Rattle.flt_short.specs.inside.Layout.{PlacedCode, with_offsets, with_test_by, with_insn, laid_out, with_jump, with_way, with_test}
 use Rattle.flt_short.proofs.PlacedSizes.{at_least, at_most, laid_needed, short_stays}
 use Rattle.flt_short.proofs.Placed.{same_answers, Lays, emitted_more, lays, near, test_leads, way_more}
 use Rattle.flt_bpf.{proofs.Suffix.valid_if_short, specs.declared.fault.CheckFault.TheVariants.JumpOut}
+use Rattle.flt_bpf.specs.Instructions.{operation_of}
 
 jump_sound : (to : ℕ) (c : List Insn) → 0 < to → to ≤ length c → IsFaultless c → IsFaultless (with_jump to c)
 unfolding fault_of operation_of
