@@ -174,7 +174,7 @@ impl<A: Allocator + Clone> Walk<A> {
 
     /// Emits one more node, the one before those that were emitted. A group that waits is emitted
     /// first, unless the node is a value or an `or`, which may go on with it, or a part of arithmetic:
-    /// its comparison came before, and emitted the group. Arithmetic leaves its value in A.
+    /// its comparison came before, and emitted the group. The value of arithmetic is in A then.
     fn emit_node(&mut self, link: Link, node: &Node) -> Result<()>
         ensures { OnOk result (self.new ≡ emit_node link self.old node.now) }
     {
