@@ -1,5 +1,5 @@
 -- The progress of a job over some events determines its progress over those after them.
-use Rattle.std.proofs.Common.{arith, ◌≡◌, List, [], ◌∷◌, ◌++◌, Option, None, Some, refl, ◌∙◌, ℕ, ◌+◌, sym}
+use Rattle.std.proofs.Common.{arith, ◌≡◌, List, [], ◌∷◌, ◌++◌, Option, None, Some, refl, ◌∙◌, ℕ, sym}
 use Rattle.std.proofs.lemmas.List.{append_assoc, append-nil}
 use Rattle.cap_io.specs.Sequence.{Event, SequenceEnd, Sequence, with_front}
 use Rattle.cap_process.specs.Outcome.{Form, JobProgress, no_progress, unless_ended, apply_event, next_progress, apply_events, end_with, end_unless_ended}

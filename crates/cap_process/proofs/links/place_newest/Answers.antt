@@ -1,5 +1,5 @@
 -- The newest mark goes on top of its tree, and each mark that it displaces moves one level down.
-use Rattle.std.proofs.Common.{◌≡◌, ◌==◌, ◌∙◌, ℕ, true, false, ◌-◌, ◌<◌, sym, ap, refl, arith, length}
+use Rattle.std.proofs.Common.{◌≡◌, ◌==◌, ◌∙◌, ℕ, false, ◌-◌, ◌<◌, sym, ap, refl, arith, length}
 use Rattle.cap_process.specs.inside.Index.{mark_bit, links_at, mark_at}
 use Rattle.cap_process.proofs.Trees.{after_links, placing_end, placing_equal, placing_next, step_at}
 use Rattle.{std.proofs.lemmas.List.length-set, cap_process.proofs.Marks.got}

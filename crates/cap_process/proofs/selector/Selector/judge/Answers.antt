@@ -1,5 +1,5 @@
 -- The verdict, the counts and the executed instructions are those of the policy in each case.
-use Rattle.std.proofs.Common.{◌≡◌, true, false, refl, sym, ◌∙◌, arith}
+use Rattle.std.proofs.Common.{◌≡◌, false, refl, sym, ◌∙◌, arith}
 use Rattle.cap_octet.specs.Packet.{Captured, captured}
 use Rattle.cap_process.specs.Selector.{policy_of, programs_in, window_of, is_count, marks_in, state_of}
 use Rattle.cap_process.proofs.Selectors.{counted-spends, judged-spends, refused-spends, upper_bound, too-many, tells-count, tells-none, tells-passed}
