@@ -1,13 +1,12 @@
 -- The index of the window stays sound when a mark is added, when the oldest is dropped, and when
 -- all are renumbered.
 use Rattle.std.proofs.Common.{◌≡◌, ◌≢◌, ℕ, zero, suc, ◌+◌, ◌-◌, ◌^◌, ◌<◌, ◌≤◌, inl, inr, List, [], ◌∷◌, ◌++◌, length, get_or, drop, refl, sym, ap, ◌∙◌, arith}
-use Rattle.std.proofs.Common.{set, length-append, length-drop, eq-zero-or-pos, take}
+use Rattle.std.proofs.Common.{set, length-append, length-drop, eq-zero-or-pos}
 use Rattle.std.proofs.lemmas.List.{get_or-append_right, get_or-set_other, get_or-set_same, length-set, get_or_default}
-use Rattle.std.specs.Int.{w32, from_le_bytes}
-use Rattle.std.proofs.lemmas.{Bool.cases_order, Grind.common_steps, Grind.get_or-set_at, Nat.and_le_r}
 use Rattle.cap_process.specs.inside.Index.{IsHung, IsIndex, IsPutOnTop, IsSoundIndex, IsWay, Ends, Goes, Agrees, hash_of, mark_at}
 use Rattle.cap_process.proofs.Trees.{appended, dropped, raised, relinked}
-use Rattle.cap_process.specs.{declared.links.Links.Links, declared.mark.Mark.Mark, Marks.last}
+use Rattle.std.proofs.lemmas.{Nat.and_le_r, Bool.cases_order, Grind.get_or-set_at}
+use Rattle.cap_process.specs.{Marks.last, declared.links.Links.Links, declared.mark.Mark.Mark}
 
 -- the newest mark is in no tree yet
 pub record IsAwaiting (mask : ℕ) (ms : List Mark) (ls : List Links) (heads : List ℕ) (newest : ℕ) (m : Mark) : Type 0 where
@@ -25,8 +24,7 @@ awaiting_append mask ms ls heads newest m l i =
     record {
       long = omega (arith, i.long);
       some = omega arith;
-      there = ap (mark_at (ms ++ m ∷ [])) place ∙ get_or-append_right ms (m ∷ []) (length ms) (length ms) _ refl (omega arith)
-          ∙ (let none : length ms - length ms ≡ 0 = omega arith in rw none refl);
+      there = grind (arith, get_or-append_right);
       trees = λ e. rw place (appended m l i.long (omega arith) (i.trees e));
     }
 
@@ -34,22 +32,22 @@ awaiting_append mask ms ls heads newest m l i =
 awaiting_keep : (k : ℕ) (mask : ℕ) (ms : List Mark) (ls : List Links) (heads : List ℕ) (newest : ℕ) (m : Mark) → k ≤ 1 → k < length ms
     → IsAwaiting mask ms ls heads newest m → IsAwaiting mask (drop k ms) (drop k ls) heads newest m
 awaiting_keep zero mask ms ls heads newest m upper_bound some a = a
-awaiting_keep (suc zero) mask (first ∷ ms) [] heads newest m upper_bound some a = absurd (omega (arith, a.long))
+awaiting_keep (suc zero) mask (first ∷ ms) [] heads newest m upper_bound some a = grind arith
 awaiting_keep (suc zero) mask (first ∷ ms) (l ∷ ls) heads newest m upper_bound some a = record {
   long = omega (arith, a.long);
   some = omega arith;
-  there = (let same : suc (length ms - 1) ≡ length (first ∷ ms) - 1 = omega arith in ap (mark_at (first ∷ ms)) same ∙ a.there);
+  there = grind arith;
   trees = λ e. dropped (length ms - 1) (omega arith) (a.trees e);
 }
 awaiting_keep _ mask _ ls heads newest m upper_bound some a = absurd (omega arith)
 
 hash_fits : (mask : ℕ) (m : Mark) (heads : List ℕ) → length heads ≡ mask + 1 → hash_of mask m < length heads
-hash_fits mask m heads wide = omega (arith, wide, and_le_r (from_le_bytes w32 (take 4 m.digest)) mask)
+hash_fits mask m heads wide = grind (arith, and_le_r)
 
 -- no head has a greater number than the newest mark
 pub head_small : (heads : List ℕ) (newest h d head : ℕ) → ((h : ℕ) → h < length heads → get_or heads h 0 ≤ newest) → h < length heads
     → head ≡ get_or heads h d → head ≤ newest
-head_small heads newest h d head small inside is = rw (is, get_or_default heads h d 0 inside) (small h inside)
+head_small heads newest h d head small inside is = grind (arith, get_or_default)
 
 -- the window without its oldest mark, and with one more
 awaiting_push : (mask : ℕ) (ms : List Mark) (most : ℕ) (ls : List Links) (link_most : ℕ) (heads : List ℕ) (newest : ℕ) (m : Mark) (l : Links)
@@ -84,7 +82,7 @@ index_lowered : (mask : ℕ) (ms : List Mark) (ls : List Links) (heads heads' : 
 index_lowered mask ms ls heads heads' newest new upper_bound less wide l i = record {
   long = i.long;
   counted = upper_bound;
-  small = λ h lt. (let bound = i.small h (omega (arith, l.long)) in rw (l.each h (omega (arith, l.long))) (omega arith));
+  small = grind arith;
   trees = λ e. (let bound = i.small (hash_of mask e) (hash_fits mask e heads wide) in
       let head = l.each (hash_of mask e) (hash_fits mask e heads wide) in
       raised (length ms) _ (i.trees e) (λ lacks. lacks) (λ near. (omega arith, omega arith, omega arith)) (λ far. omega arith));
@@ -92,7 +90,7 @@ index_lowered mask ms ls heads heads' newest new upper_bound less wide l i = rec
 
 heads_small : (heads : List ℕ) (x newest : ℕ) → ((h : ℕ) → h < length heads → get_or heads h 0 ≤ newest) → x < length heads
     → (h : ℕ) → h < length (set heads x (newest + 1)) → get_or (set heads x (newest + 1)) h 0 ≤ newest + 1
-heads_small heads x newest small inside h lt = grind (arith, common_steps, get_or-set_at, get_or-set_other, length-set, small)
+heads_small heads x newest small inside h lt = grind (arith, get_or-set_at, get_or-set_other, length-set)
 
 -- the newest mark is in its tree
 index_placed : (mask : ℕ) (ms : List Mark) (ls new : List Links) (heads : List ℕ) (newest : ℕ) (m : Mark) → IsAwaiting mask ms ls heads newest m

@@ -1,39 +1,36 @@
 -- The verdicts on packets that come one after another select a list of packets, and end the job at
 -- one of them.
-use Rattle.std.proofs.Common.{subst, ◌≡◌, ℕ, suc, ◌+◌, ◌-◌, ◌^◌, ◌<◌, ◌≤◌, ◌==◌, ◌&&◌, Bool, true, false, if◌then◌else◌, nat_le, min, max, Option, None, Some}
-use Rattle.std.proofs.Common.{List, [], ◌∷◌, ◌++◌, length, refl, sym, ◌∙◌, ap, arith}
+use Rattle.std.proofs.Common.{◌≡◌, ℕ, suc, ◌+◌, ◌-◌, ◌^◌, ◌<◌, ◌==◌, ◌&&◌, Bool, true, false, if◌then◌else◌, nat_le, min, max, Option, None, Some, List, []}
+use Rattle.std.proofs.Common.{◌∷◌, ◌++◌, length, refl, sym, ◌∙◌, arith}
 use Rattle.std.specs.Option.{option_or, unwrap_or, IfSome}
-use Rattle.std.proofs.Math.Seq.{take-nil, drop-nil}
-use Rattle.std.specs.List.{sum_by}
-use Rattle.std.proofs.Math.Bool.{and-true, and_assoc}
-use Rattle.std.proofs.lemmas.{List.map-append, List.append_assoc, List.append-nil, List.length-append, Bool.Decides.nat_tests, List.Sums.sum_by-append}
-use Rattle.cap_octet.specs.{Packet.Captured, declared.fault.Fault.Fault, declared.fault.Fault.TheVariants.TimeOutOfRange}
 use Rattle.cap_io.specs.Sequence.{Event, Packet, InputEnd, SequenceEnd, Complete, FaultIn, end_of, packet_events}
-use Rattle.cap_io.specs.{declared.source.Kind.Kind, Capture.Placed, Capture.Ending, Capture.End}
+use Rattle.cap_io.specs.Capture.{Placed, Ending, End}
 use Rattle.cap_filter.specs.FilterRules.{Decision, Keep, Rule, rule_decides}
-use Rattle.cap_process.specs.Marks.{mark_of, has_same, last}
 use Rattle.cap_process.specs.Verdict.{Policy, Count, Filter, Edit, EditRule, Judgement, Verdict, PassLast, Pass, Skip, Refuse, SelectorState, initial_state}
 use Rattle.cap_process.specs.Verdict.{edited_packet_with, filters, is_last, is_selected, judge, shifted_time, passes, refuses, selects, skip_judgement, unique}
 use Rattle.cap_process.specs.Verdict.{with_mark}
-use Rattle.cap_process.specs.Reports.{Tally, tally_with, Report}
 use Rattle.cap_process.specs.Outcome.{Form, AsReports, JobProgress, no_progress, form_refuses, unless_refused, decide, apply_verdict, end_input, end_with}
 use Rattle.cap_process.specs.Outcome.{apply_events}
 use Rattle.cap_process.specs.Lists.{is_repeated, packets_selected, unique_after, kept_by, at_most, end_at_time, first_without_time, packets_of, tally_of}
 use Rattle.cap_process.specs.Lists.{CountsAll, EndsWithoutTime, HasLastMarks, PassesFiltered, ascends, final, greatest, packets_kept as kept, least, marks}
 use Rattle.cap_process.specs.Lists.{times}
 use Rattle.cap_process.specs.Whole.{event_packets, packets_written, written_unless, first_refusal, end_by_decision, is_reached, rule_end}
-use Rattle.cap_process.{specs.declared.mark.Mark.Mark, specs.Selector.is_count, proofs.Marks.last-last, proofs.Outcomes.progress-ended}
-use Rattle.cap_process.{proofs.Selectors.upper_bound}
+use Rattle.cap_octet.specs.declared.fault.Fault.{Fault, TheVariants.TimeOutOfRange}
+use Rattle.std.proofs.lemmas.List.{map-append, append_assoc, append-nil, length-append, Sums.sum_by-append}
+use Rattle.cap_process.proofs.{Selectors.upper_bound, Marks.last-last, Outcomes.progress-ended}
+use Rattle.std.proofs.Math.{Seq.take-nil, Seq.drop-nil, Bool.and-true, Bool.and_assoc}
+use Rattle.cap_process.specs.{Marks.mark_of, Marks.has_same, Marks.last, Reports.tally_with, Reports.Report, declared.mark.Mark.Mark, Selector.is_count}
+use Rattle.{std.specs.List.sum_by, std.proofs.lemmas.Bool.Decides.nat_tests, cap_octet.specs.Packet.Captured, cap_io.specs.declared.source.Kind.Kind}
 use Rattle.cap_filter.specs.FilterRules as chosen
 
 -- ---- what is counted
 
 sum-next : (f : Captured → ℕ) (ps : List Captured) (p : Captured) → sum_by f (ps ++ p ∷ []) ≡ sum_by f ps + f p
-sum-next f ps p = omega (arith, sum_by-append f ps (p ∷ []))
+sum-next f ps p = grind (arith, sum_by-append)
 
 greatest-next : (ts : List ℕ) (t : ℕ) → greatest (ts ++ t ∷ []) ≡ max (greatest ts) t
 greatest-next [] t = grind arith
-greatest-next (a ∷ ts) t = let e = greatest-next ts t in grind (arith, e)
+greatest-next (a ∷ ts) t = grind (arith, greatest-next ts t)
 
 final-next : (ts : List ℕ) (t : ℕ) → final (ts ++ t ∷ []) ≡ t
 final-next (a ∷ b ∷ ts) t = final-next (b ∷ ts) t
@@ -41,7 +38,7 @@ final-next _ t = refl
 
 least-next : (a : ℕ) (ts : List ℕ) (t : ℕ) → least (a ∷ (ts ++ t ∷ [])) ≡ min (least (a ∷ ts)) t
 least-next a [] t = refl
-least-next a (b ∷ ts) t = let e = least-next b ts t in grind (arith, e)
+least-next a (b ∷ ts) t = grind (arith, least-next b ts t)
 
 from-none : (t : ℕ) → true ≡ nat_le 0 t
 from-none t = grind (arith, nat_tests)
@@ -56,12 +53,10 @@ not-none n = grind (arith, nat_tests)
 
 least-following : (ps : List Captured) (p : Captured) → (if length ps == 0 then p.time else min (least (times ps)) p.time) ≡ least (times ps ++ p.time ∷ [])
 least-following [] p = refl
-least-following (q ∷ ps) p = rw (not-none (length ps)) (sym (least-next q.time (times ps) p.time))
+least-following (q ∷ ps) p = grind (arith, not-none, least-next)
 
 pub counted-next : (ps : List Captured) (p : Captured) → tally_with (tally_of ps) p ≡ tally_of (ps ++ p ∷ [])
-counted-next ps p =
-    let a : length (ps ++ p ∷ []) ≡ length ps + 1 = omega (arith, length-append ps (p ∷ [])) in
-    rw (map-append, a, sum-next, sum-next, least-following ps p, greatest-next, final-next, ascends-next) refl
+counted-next ps p = grind (arith, length-append, map-append, sum-next, least-following, greatest-next, final-next, ascends-next)
 
 abbrev pub under_way : ℕ → SelectorState → List Captured → List Report → JobProgress
 under_way k state out reports = record { decided = k; state = state; packets = out; reports = reports; end = None }
@@ -73,12 +68,12 @@ pub count-packets : (P : JobProgress → Type 0) (names : List (List ℕ)) (inpu
     → ((k' : ℕ) (state' : SelectorState) → state'.tally ≡ tally_of (front ++ packets_of ps)
     → P (apply_events Count (AsReports names) (under_way k' state' [] reports) es))
     → P (apply_events Count (AsReports names) (under_way k state [] reports) (packet_events input ps ++ es))
-count-packets P names input [] k state front reports es is next = next k state (is ∙ ap tally_of (sym (append-nil front)))
+count-packets P names input [] k state front reports es is next = grind (arith, append-nil)
 count-packets P names input (p ∷ ps) k state front reports es is next =
     count-packets P names input ps (k + 1) (record { passed = state.passed; window = state.window; tally = tally_with state.tally p.packet })
     (front ++ p.packet ∷ []) reports es
-    (ap (λ (t : Tally). tally_with t p.packet) is ∙ counted-next front p.packet)
-    (λ k' state' is'. next k' state' (is' ∙ ap tally_of (append_assoc front (p.packet ∷ []) (packets_of ps))))
+    (grind (arith, counted-next))
+    (grind (arith, append_assoc))
 
 pub counts_all : CountsAll
 counts_all names ps =
@@ -130,17 +125,7 @@ EndsSo (Some fault) refusal es so end = AtRefused refusal es fault end
 
 ends-later : (o : Option Fault) (later refusal : List Event → Option Fault) (e : Event) (es : List Event) (so end : Option SequenceEnd)
     → ((ds : List Event) → refusal (e ∷ ds) ≡ later ds) → EndsSo o later es so end → EndsSo o refusal (e ∷ es) so end
-ends-later None later refusal e es so end same ends = ends
-ends-later (Some fault) later refusal e es so end same at = record {
-  before = e ∷ at.before;
-  input = at.input;
-  p = at.p;
-  later = at.later;
-  are = ap (λ (ds : List Event). e ∷ ds) at.are;
-  taken = same at.before ∙ at.taken;
-  refused = same (at.before ++ Packet at.input at.p ∷ []) ∙ at.refused;
-  ends = at.ends;
-}
+ends-later o later refusal e es so end same ends = grind arith
 
 -- the kept packets are written up to the first that the form refuses, at which the job ends; if it
 -- refuses none, the verdicts end it
@@ -153,8 +138,9 @@ Judged a f k state out reports es =
 -- one packet, where those after it come so
 packet-next : (a : Policy) (f : Form) (k : ℕ) (state : SelectorState) (out : List Captured) (reports : List Report) (input : ℕ) (p : Placed) (es : List Event)
     → ((state' : SelectorState) (out' : List Captured) → Judged a f (k + 1) state' out' reports es) → Judged a f k state out reports (Packet input p ∷ es)
-packet-next a f k state out reports input p es next = let one = by (judge a state (k + 1) p.packet).verdict in
-    (one.0, one.1 (λ ds. first_refusal f out (judged a k state (event_packets ds))) refl (λ ds. refl))
+packet-next a f k state out reports input p es next =
+    let one = by (judge a state (k + 1) p.packet).verdict in
+    grind arith
   where
     w : JobProgress
     w = under_way k state out reports
@@ -177,28 +163,11 @@ packet-next a f k state out reports input p es next = let one = by (judge a stat
     refused fault so =
         let end : SequenceEnd = FaultIn input fault p.offset in
         let ended = progress-ended a f (end_with w end) es end refl in
-        rw ended (
-          sym (append-nil out),
-          λ refusal none same. record {
-            before = [];
-            input = input;
-            p = p;
-            later = es;
-            are = refl;
-            taken = none;
-            refused = same [];
-            ends = refl;
-          },
-        )
+        grind (arith, append-nil)
 
     going : (out' : List Captured) → At (λ ds. first_refusal f out' (rest ds)) (out' ++ packets_written f out' (rest es)) more
         (apply_events a f (under_way (k + 1) after out' reports) es)
-    going out' =
-        let n = next after out' in (
-          n.0,
-          λ refusal none same. ends-later (first_refusal f out' (rest es)) (λ ds. first_refusal f out' (rest ds)) refusal (Packet input p) es more
-              (apply_events a f (under_way (k + 1) after out' reports) es).end same n.1,
-        )
+    going out' = grind (arith, after, ends-later, rest, more)
 
     passing : (q : Captured) (o : Option Fault)
         → At (λ ds. option_or o (first_refusal f (out ++ q ∷ []) (rest ds))) (out ++ written_unless o q (packets_written f (out ++ q ∷ []) (rest es))) more
@@ -221,24 +190,14 @@ packet-next a f k state out reports input p es next = let one = by (judge a stat
         rw (progress-ended a f (end_with w end) es end refl) (sym (append-nil out), λ refusal none same. refl)
 
 pub end-stays : (a : Policy) (w : JobProgress) (input : ℕ) (kind : Option Kind) (size : ℕ) → is_count a ≡ false → end_input a w input kind size ≡ w
-end-stays Count w input kind size judges = (cc)
-end-stays _ w input kind size judges = refl
+end-stays a w input kind size judges = grind arith
 
 pub comes : (a : Policy) (f : Form) (k : ℕ) (state : SelectorState) (out : List Captured) (reports : List Report) (es : List Event)
     → is_count a ≡ false → Judged a f k state out reports es
 comes a f k state out reports [] judges = (sym (append-nil out), refl)
 comes a f k state out reports (Packet input p ∷ es) judges =
     packet-next a f k state out reports input p es (λ state' out'. comes a f (k + 1) state' out' reports es judges)
-comes a f k state out reports (InputEnd input kind size ∷ es) judges =
-    let n = comes a f k state out reports es judges in
-    let r : List Event → Option Fault = λ ds. first_refusal f out (judged a k state (event_packets ds)) in
-    subst (λ (w : JobProgress). ((apply_events a f w es).packets ≡ out ++ packets_written f out (judged a k state (event_packets es)))
-    × EndsSo (r es) r (InputEnd input kind size ∷ es) (policy_end a k state es) (apply_events a f w es).end)
-    (sym (end-stays a (under_way k state out reports) input kind size judges)) (
-      n.0,
-      ends-later (r es) r r (InputEnd input kind size) es (policy_end a k state es)
-          (apply_events a f (under_way k state out reports) es).end (λ ds. refl) n.1,
-    )
+comes a f k state out reports (InputEnd input kind size ∷ es) judges = grind (arith, end-stays, ends-later, comes a f k state out reports es judges)
 
 -- packets none of which the form refuses, at any place among them, are all written
 pub none-refused : (f : Form) (before ps : List Captured) → ((xs : List Captured) (p : Captured) (ys : List Captured) → before ++ ps ≡ xs ++ p ∷ ys
@@ -246,23 +205,17 @@ pub none-refused : (f : Form) (before ps : List Captured) → ((xs : List Captur
     → (packets_written f before ps ≡ ps) × (first_refusal f before ps ≡ None)
 none-refused f before [] none = (refl, refl)
 none-refused f before (p ∷ ps) none =
-    let more = none-refused f (before ++ p ∷ []) ps (λ xs q ys is. none xs q ys (sym (append_assoc before (p ∷ []) ps) ∙ is)) in
-    rw (none before p ps refl) (ap (λ (l : List Captured). p ∷ l) more.0, more.1)
+    grind (arith, append_assoc, none-refused f (before ++ p ∷ []) ps (λ xs q ys is. none xs q ys (sym (append_assoc before (p ∷ []) ps) ∙ is)))
 
 pub packets-of-input : (input : ℕ) (ps : List Placed) → event_packets (packet_events input ps) ≡ packets_of ps
 packets-of-input input [] = refl
-packets-of-input input (p ∷ ps) = ap (λ (l : List Captured). p.packet ∷ l) (packets-of-input input ps)
+packets-of-input input (p ∷ ps) = grind (arith, packets-of-input input ps)
 
 -- the verdicts decide if no packet is refused when it must be written
 pub judged-is : (a : Policy) (ps : List Placed) → is_count a ≡ false
     → ((apply_events a (AsReports []) no_progress (packet_events 0 ps)).packets ≡ judged a 0 initial_state (packets_of ps))
     × ((apply_events a (AsReports []) no_progress (packet_events 0 ps)).end ≡ policy_end a 0 initial_state (packet_events 0 ps))
-judged-is a ps judges =
-    let c = comes a (AsReports []) 0 initial_state [] [] (packet_events 0 ps) judges in
-    let none = none-refused (AsReports []) [] (judged a 0 initial_state (event_packets (packet_events 0 ps))) (λ xs p ys is. refl) in (
-      c.0 ∙ none.0 ∙ ap (judged a 0 initial_state) (packets-of-input 0 ps),
-      rw none.1 at c.1,
-    )
+judged-is a ps judges = grind (arith, comes, none-refused, packets-of-input)
 
 -- ---- what a filter keeps
 
@@ -277,12 +230,7 @@ IsBelow (Some n) passed = passed < n
 
 at-last : (count : Option ℕ) (passed : ℕ) (p : Captured) (l : List Captured) → is_last count (passed + 1) ≡ true
     → (at_most (still count passed) (p ∷ l) ≡ p ∷ []) × (is_reached (still count passed) (suc (length l)) ≡ true)
-at-last None passed p l is = (cc)
-at-last (Some n) passed p l is =
-    let e : passed + 1 ≡ n = grind (arith, nat_tests, is) in
-    let one : n - passed ≡ 1 = omega (arith, e) in
-    let less : n - passed ≤ suc (length l) = omega (arith, e) in
-    (rw one refl, grind (arith, nat_tests, less))
+at-last count passed p l is = grind (arith, nat_tests)
 
 before-last : (count : Option ℕ) (passed : ℕ) (p : Captured) (l : List Captured) → IsBelow count passed → is_last count (passed + 1) ≡ false
     → (at_most (still count passed) (p ∷ l) ≡ p ∷ at_most (still count (passed + 1)) l)
@@ -291,12 +239,10 @@ before-last None passed p l below is = (refl, refl, tt)
 before-last (Some n) passed p l below is =
     let e : passed + 1 < n = grind (arith, nat_tests, is, below) in
     let more : n - passed ≡ suc (n - (passed + 1)) = omega (arith, e) in
-    let same : nat_le (n - (passed + 1)) (length l) ≡ nat_le (suc (n - (passed + 1))) (suc (length l)) = grind (arith, nat_tests) in
-    (rw more refl, same ∙ ap (λ (m : ℕ). nat_le m (suc (length l))) (sym more), e)
+    grind (arith, nat_le, nat_tests)
 
 at-none : (count : Option ℕ) (passed : ℕ) → IsBelow count passed → (at_most (still count passed) [] ≡ []) × (is_reached (still count passed) 0 ≡ false)
-at-none None passed below = (refl, refl)
-at-none (Some n) passed below = let more : 0 < n - passed = omega (arith, below) in (take-nil (n - passed), grind (arith, nat_tests, more))
+at-none count passed below = grind (arith, take-nil, nat_tests)
 
 -- a filter keeps the packets that its decisions keep, and ends as they do
 abbrev Filtered : Rule → Option ℕ → Ending → ℕ → SelectorState → List Placed → Type 0
@@ -327,20 +273,17 @@ filtered-next rule count ending k state p ps below next Keep = by_last (is_last 
 
     by_last : (b : Bool) → is_last count (state.passed + 1) ≡ b → FilteredBy rule count ending k p ps (still count state.passed)
         (record { verdict = if b then PassLast p.packet else Pass p.packet; state = after }) (p.packet ∷ rest) (rule_end rule ending ps)
-    by_last true is = let one = at-last count state.passed p.packet rest is in rw (one.0, one.1) (refl, refl)
+    by_last true is = grind (arith, at-last, rest)
     by_last false is =
         let one = before-last count state.passed p.packet rest below is in
-        let more = next after one.2 in
-        rw (one.0, ← one.1) (ap (λ (l : List Captured). p.packet ∷ l) more.0, more.1)
+        grind (arith, after)
 filtered-next rule count ending k state p ps below next chosen.Skip = next state below
-filtered-next rule count ending k state p ps below next (chosen.Refuse fault) =
-    let none = at-none count state.passed below in rw (none.0, none.1) (refl, refl)
+filtered-next rule count ending k state p ps below next (chosen.Refuse fault) = grind (arith, at-none)
 
 filtered : (rule : Rule) (count : Option ℕ) (ending : Ending) (k : ℕ) (state : SelectorState) (ps : List Placed) → k + length ps < 2 ^ 63
     → IsBelow count state.passed → Filtered rule count ending k state ps
-filtered rule count ending k state [] less below = let none = at-none count state.passed below in rw (none.0, none.1) (refl, refl)
-filtered rule count ending k state (p ∷ ps) less below =
-    rw (upper_bound (Filter rule count) state (k + 1) p.packet refl (omega (arith, less)))
+filtered rule count ending k state [] less below = grind (arith, at-none)
+filtered rule count ending k state (p ∷ ps) less below = rw (upper_bound (Filter rule count) state (k + 1) p.packet refl (omega (arith, less)))
     (filtered-next rule count ending k state p ps below (λ state' below'. filtered rule count ending (k + 1) state' ps (omega (arith, less)) below')
     (rule_decides rule p.packet))
 
@@ -409,7 +352,7 @@ follows-next s k state before out p ps near kept next = by_selected (is_selected
     following j = apply_events (Edit s) reports (apply_verdict reports (under_way k state out []) 0 p j.verdict j.state) (packet_events 0 ps)
 
     to : (j : Judgement) → selects s state (k + 1) p.packet ≡ j → To (following j) → Goes s k state before out (p ∷ ps)
-    to j is follows = subst To (sym (ap following (upper_bound (Edit s) state (k + 1) p.packet refl near ∙ is))) follows
+    to j is follows = grind (arith, following, upper_bound, follows)
 
     -- what is selected after the packet
     more : List Captured
@@ -419,13 +362,7 @@ follows-next s k state before out p ps near kept next = by_selected (is_selected
         → Follows s (k + 1 + 1) (before ++ mark_of (edited_packet_with s p.packet time).bytes ∷ []) (out ++ u) ps w
         → unique_after s.window before (edited_packet_with s p.packet time ∷ more) ≡ u ++ unique_after s.window
         (before ++ mark_of (edited_packet_with s p.packet time).bytes ∷ []) more → To w
-    at_time time u w is timed f same =
-        let ms : List Mark = mark_of (edited_packet_with s p.packet time).bytes ∷ [] in
-        record {
-          passed = rw (is, timed, same) (f.passed ∙ append_assoc out u (unique_after s.window (before ++ ms) more));
-          kept = rw (is, timed, ← append_assoc before ms (marks more)) f.kept;
-          end = rw (is, timed) f.end;
-        }
+    at_time time u w is timed f same = grind (arith, append_assoc, more)
 
     by_unique : (time : ℕ) → is_selected s (k + 1) p.packet ≡ true → shifted_time s.shift p.packet.time ≡ Some time → (b : Bool)
         → is_repeated s.window before (mark_of (edited_packet_with s p.packet time).bytes) ≡ b
@@ -446,41 +383,29 @@ follows-next s k state before out p ps near kept next = by_selected (is_selected
     by_moved is None beyond =
         let ended : JobProgress = end_with (under_way k state out []) (FaultIn 0 TimeOutOfRange p.offset) in
         to (refuses state TimeOutOfRange) (rw (is, beyond) refl)
-        (rw (progress-ended (Edit s) reports ended (packet_events 0 ps) (FaultIn 0 TimeOutOfRange p.offset) refl) (record {
-          passed = rw (is, beyond) (sym (append-nil out));
-          kept = rw (is, beyond, append-nil before) kept;
-          end = rw (is, beyond) refl;
-        }))
+        (rw (progress-ended (Edit s) reports ended (packet_events 0 ps) (FaultIn 0 TimeOutOfRange p.offset) refl) (grind (arith, append-nil)))
     by_moved is (Some time) timed = by_unique time is timed (is_repeated s.window before (mark_of (edited_packet_with s p.packet time).bytes)) refl
 
     by_selected : (b : Bool) → is_selected s (k + 1) p.packet ≡ b → Goes s k state before out (p ∷ ps)
     by_selected true is = by_moved is (shifted_time s.shift p.packet.time) refl
     by_selected false is =
-        let f : Goes s (k + 1) state before (out ++ []) ps = next state before (out ++ []) kept in
-        to (skip_judgement state) (rw is refl) (record { passed = f.passed ∙ rw (is, append-nil out) refl; kept = rw is f.kept; end = rw is f.end })
+        grind (arith, to, append-nil)
 
 follows : (s : EditRule) (k : ℕ) (state : SelectorState) (before : List Mark) (out : List Captured) (ps : List Placed) → k + length ps < 2 ^ 63
     → IsKept s.window before state.window
     → Goes s k state before out ps
-follows s k state before out [] less kept = record {
-  passed = sym (append-nil out);
-  kept = rw append-nil kept;
-  end = refl;
-}
+follows s k state before out [] less kept = grind (arith, append-nil)
 follows s k state before out (p ∷ ps) less kept =
     follows-next s k state before out p ps (omega arith) kept (λ state' before' out' kept'. follows s (k + 1) state' before' out' ps (omega arith) kept')
 
 kept-first : (n : Option ℕ) → IsKept n [] []
-kept-first None = tt
-kept-first (Some n) = sym (drop-nil (0 - (n - 1)))
+kept-first n = grind (arith, drop-nil)
 
 follows-first : (s : EditRule) (ps : List Placed) → length ps < 2 ^ 63 → Goes s 0 initial_state [] [] ps
 follows-first s ps less = follows s 0 initial_state [] [] ps (omega arith) (kept-first s.window)
 
 pub ends_without_time : EndsWithoutTime
-ends_without_time s ps less = let f = follows-first s ps less in (f.end, f.passed)
+ends_without_time s ps less = grind (arith, follows-first)
 
 pub has_last_marks : HasLastMarks
-has_last_marks s n ps is less =
-    subst (λ (o : Option ℕ). IsKept o (marks (packets_selected s 1 (packets_of ps)))
-    (apply_events (Edit s) reports no_progress (packet_events 0 ps)).state.window) is (follows-first s ps less).kept
+has_last_marks s n ps is less = grind (arith, follows-first)

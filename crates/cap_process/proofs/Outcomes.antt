@@ -1,13 +1,12 @@
 -- The progress of a job over some events determines its progress over those after them.
-use Rattle.std.proofs.Common.{◌≡◌, List, [], ◌∷◌, ◌++◌, Option, None, Some, refl, ◌∙◌, ap, ℕ, ◌+◌, sym}
+use Rattle.std.proofs.Common.{arith, ◌≡◌, List, [], ◌∷◌, ◌++◌, Option, None, Some, refl, ◌∙◌, ℕ, sym}
 use Rattle.std.proofs.lemmas.List.{append_assoc, append-nil}
-use Rattle.cap_io.specs.Sequence.{Event, SequenceEnd, Sequence, with_front, Packet, InputEnd, Complete}
-use Rattle.cap_io.specs.{Capture.Placed, declared.source.Kind.Kind}
-use Rattle.cap_process.specs.Verdict.{Policy, Count, SelectorState, Verdict, Pass, PassLast, Skip, Refuse, judge}
+use Rattle.cap_io.specs.Sequence.{Event, SequenceEnd, Sequence, with_front}
 use Rattle.cap_process.specs.Outcome.{Form, JobProgress, no_progress, unless_ended, apply_event, next_progress, apply_events, end_with, end_unless_ended}
-use Rattle.cap_process.specs.Outcome.{final_progress, decide, unless_refused, apply_verdict, end_input, form_refuses}
-use Rattle.cap_process.specs.Reports.{Report}
+use Rattle.cap_process.specs.Outcome.{final_progress, decide, unless_refused, apply_verdict, end_input}
 use Rattle.cap_octet.specs.{Packet.Captured, declared.fault.Fault.Fault}
+use Rattle.cap_io.specs.{Capture.Placed, declared.source.Kind.Kind}
+use Rattle.cap_process.specs.{Verdict.Policy, Verdict.Count, Verdict.SelectorState, Verdict.Verdict, Reports.Report}
 
 pub progress-append : (a : Policy) (f : Form) (w : JobProgress) (xs ys : List Event) → apply_events a f w (xs ++ ys) ≡ apply_events a f
     (apply_events a f w xs) ys
@@ -17,30 +16,24 @@ progress-append a f w (x ∷ xs) ys = progress-append a f (next_progress a f w x
 -- what ended stays
 pub progress-ended : (a : Policy) (f : Form) (w : JobProgress) (es : List Event) (c : SequenceEnd) → w.end ≡ Some c → apply_events a f w es ≡ w
 progress-ended a f w [] c is = refl
-progress-ended a f w (e ∷ es) c is =
-    ap (λ (o : Option SequenceEnd). apply_events a f (unless_ended o w (apply_event a f w e)) es) is ∙ progress-ended a f w es c is
+progress-ended a f w (e ∷ es) c is = grind (arith, progress-ended a f w es c is)
 
 -- the job ends at this event
 pub course-stop : (a : Policy) (f : Form) (sequence more : Sequence) (es : List Event) (e : Event) (w w' : JobProgress) (c : SequenceEnd)
     → sequence ≡ with_front es (with_front (e ∷ []) more) → apply_events a f no_progress es ≡ w → next_progress a f w e ≡ w' → w'.end ≡ Some c
     → final_progress a f sequence ≡ w'
-course-stop a f sequence more es e w w' c is far step end =
-    ap (final_progress a f) is
-    ∙ ap (λ (v : JobProgress). end_unless_ended v more.end)
-    (progress-append a f no_progress es (e ∷ more.events) ∙ ap (λ (v : JobProgress). apply_events a f (next_progress a f v e) more.events) far
-    ∙ ap (λ (v : JobProgress). apply_events a f v more.events) step ∙ progress-ended a f w' more.events c end)
-    ∙ ap (λ (o : Option SequenceEnd). unless_ended o w' (end_with w' more.end)) end
+course-stop a f sequence more es e w w' c is far step end = grind (arith, progress-append, progress-ended)
 
 -- nothing more comes
 pub course-close : (a : Policy) (f : Form) (sequence : Sequence) (es : List Event) (w : JobProgress) (c : SequenceEnd) → sequence ≡ with_front es
     (record { events = []; end = c }) → apply_events a f no_progress es ≡ w → w.end ≡ None
     → final_progress a f sequence ≡ end_with w c
-course-close a f sequence es w c is far end = rw (is, progress-append a f no_progress es [], far, end) refl
+course-close a f sequence es w c is far end = grind (arith, progress-append)
 
 -- one event more
 pub progress-next : (a : Policy) (f : Form) (es : List Event) (e : Event) (w w' : JobProgress) → apply_events a f no_progress es ≡ w
     → next_progress a f w e ≡ w' → apply_events a f no_progress (es ++ e ∷ []) ≡ w'
-progress-next a f es e w w' far step = rw (progress-append a f no_progress es (e ∷ []), far) step
+progress-next a f es e w w' far step = grind (arith, progress-append)
 
 pub record Grows (w w' : JobProgress) : Type 0 where
   pub packets : List Captured
@@ -53,14 +46,10 @@ grows-none w w' ps rs = record { packets = []; packets_is = ps ∙ sym (append-n
 
 refused-grows : (r : Option Fault) (w : JobProgress) (i : ℕ) (x : Placed) (state : SelectorState) (q : Captured) (o : Option SequenceEnd)
     → Grows w (unless_refused r w i x (decide w state (q ∷ []) o))
-refused-grows None w i x state q o = record { packets = q ∷ []; packets_is = refl; reports = []; reports_is = sym (append-nil w.reports) }
-refused-grows (Some fault) w i x state q o = grows-none w _ refl refl
+refused-grows r w i x state q o = grind (arith, append-nil, grows-none)
 
 verdict-grows : (form : Form) (w : JobProgress) (i : ℕ) (x : Placed) (v : Verdict) (state : SelectorState) → Grows w (apply_verdict form w i x v state)
-verdict-grows form w i x (Pass q) state = refused-grows (form_refuses form w.packets q) w i x state q None
-verdict-grows form w i x (PassLast q) state = refused-grows (form_refuses form w.packets q) w i x state q (Some Complete)
-verdict-grows form w i x Skip state = record { packets = []; packets_is = refl; reports = []; reports_is = sym (append-nil w.reports) }
-verdict-grows form w i x (Refuse fault) state = grows-none w _ refl refl
+verdict-grows form w i x v state = grind (arith, refused-grows, append-nil, grows-none)
 
 closed-grows : (policy : Policy) (w : JobProgress) (i : ℕ) (kind : Option Kind) (size : ℕ) → Grows w (end_input policy w i kind size)
 closed-grows Count w i kind size =
@@ -74,21 +63,13 @@ closed-grows Count w i kind size =
 closed-grows _ w i kind size = grows-none w w refl refl
 
 goes-grows : (policy : Policy) (form : Form) (w : JobProgress) (e : Event) → Grows w (apply_event policy form w e)
-goes-grows policy form w (Packet i x) = verdict-grows form w i x (judge policy w.state (w.decided + 1) x.packet).verdict
-    (judge policy w.state (w.decided + 1) x.packet).state
-goes-grows policy form w (InputEnd i kind size) = closed-grows policy w i kind size
+goes-grows policy form w e = grind (arith, verdict-grows, closed-grows)
 
 unless-grows : (o : Option SequenceEnd) (w next : JobProgress) → Grows w next → Grows w (unless_ended o w next)
-unless-grows None w next g = g
-unless-grows (Some c) w next g = grows-none w w refl refl
+unless-grows o w next g = grind (arith, grows-none)
 
 grows-on : (a b c : JobProgress) → Grows a b → Grows b c → Grows a c
-grows-on a b c one other = record {
-  packets = one.packets ++ other.packets;
-  packets_is = rw (other.packets_is, one.packets_is, append_assoc) refl;
-  reports = one.reports ++ other.reports;
-  reports_is = rw (other.reports_is, one.reports_is, append_assoc) refl;
-}
+grows-on a b c one other = grind (arith, append_assoc)
 
 progress-grows : (policy : Policy) (form : Form) (w : JobProgress) (es : List Event) → Grows w (apply_events policy form w es)
 progress-grows policy form w [] = grows-none w w refl refl
@@ -102,4 +83,4 @@ pub course-grows : (policy : Policy) (form : Form) (sequence more : Sequence) (e
 course-grows policy form sequence more es w is far =
     let last : JobProgress = apply_events policy form w more.events in
     rw (is, progress-append policy form no_progress es more.events, far) (grows-on w last (end_unless_ended last more.end)
-    (progress-grows policy form w more.events) (unless-grows last.end last (end_with last more.end) (grows-none last (end_with last more.end) refl refl)))
+    (progress-grows policy form w more.events) (grind (arith, unless-grows, grows-none)))

@@ -1,34 +1,28 @@
 -- The path of a search for a mark, when marks are added or dropped and links change.
-use Rattle.std.proofs.Common.{◌≡◌, ◌≢◌, ℕ, zero, suc, ◌+◌, ◌-◌, ◌^◌, ◌<◌, ◌≤◌, ◌⊎◌, inl, inr, Bool, true, false, not, List, [], ◌∷◌, ◌++◌, length, refl, sym}
-use Rattle.std.proofs.Common.{ap, ◌∙◌, arith, min, set, length-append}
-use Rattle.std.proofs.lemmas.{Bool.cases_order, List.get_or_append_left, List.get_or-set_other, List.get_or-set_same}
+use Rattle.std.proofs.Common.{◌≡◌, ◌≢◌, ℕ, suc, ◌+◌, ◌-◌, ◌^◌, ◌<◌, ◌≤◌, ◌⊎◌, inl, inr, Bool, true, false, not, List, [], ◌∷◌, ◌++◌, length, sym, ◌∙◌, arith}
+use Rattle.std.proofs.Common.{min, set, length-append}
 use Rattle.cap_process.specs.inside.Index.{IsWay, Ends, Goes, Agrees, Lacks, IsHung, IsOnTop, IsPutOnTop, IsSameOutside, mark_bit, link_by_bit, links_at}
 use Rattle.cap_process.specs.inside.Index.{mark_at}
 use Rattle.cap_process.specs.declared.{links.Links.Links, mark.Mark.Mark}
+use Rattle.std.proofs.lemmas.{Bool.cases_order, List.get_or_append_left, List.get_or-set_other, List.get_or-set_same}
 
 below_or : (a b : ℕ) → (a < b) ⊎ (b ≤ a)
-below_or a b = elim (cases_order a b) [ inl e ↦ inr (omega arith) | inr (inl lt) ↦ inl lt | inr (inr gt) ↦ inr (omega arith) ]
+below_or a b = grind (arith, cases_order)
 
 pub agrees_itself : {mask depth : ℕ} (m : Mark) → Agrees mask depth m m
-agrees_itself m = record { hash = refl; bits = λ i lt. refl }
+agrees_itself m = grind arith
 
 agrees_above : {mask depth : ℕ} {e m : Mark} → Agrees mask (depth + 1) e m → Agrees mask depth e m
-agrees_above a = record { hash = a.hash; bits = λ i lt. a.bits i (omega arith) }
+agrees_above a = grind arith
 
 agrees_on : {mask depth : ℕ} {e m n : Mark} → Agrees mask depth e m → Agrees mask depth m n → Agrees mask depth e n
-agrees_on a b = record { hash = b.hash ∙ a.hash; bits = λ i lt. b.bits i lt ∙ a.bits i lt }
+agrees_on a b = grind arith
 
 agrees_back : {mask depth : ℕ} {e m : Mark} → Agrees mask depth e m → Agrees mask depth m e
-agrees_back a = record { hash = sym a.hash; bits = λ i lt. sym (a.bits i lt) }
+agrees_back a = grind arith
 
 agrees_more : {mask depth : ℕ} {e m : Mark} → Agrees mask depth e m → mark_bit m depth ≡ mark_bit e depth → Agrees mask (depth + 1) e m
-agrees_more {depth = depth} a bit = record {
-  hash = a.hash;
-  bits = λ i lt. elim (below_or i depth) [
-    | inl less ↦ a.bits i less
-    | inr last ↦ (let same : i ≡ depth = omega arith in rw same bit)
-  ];
-}
+agrees_more {depth = depth} a bit = grind (arith, below_or)
 
 -- the first mark of a way
 pub record HasTop (mask : ℕ) (ms : List Mark) (ls : List Links) (e : Mark) (depth limit top : ℕ) : Type 0 where
@@ -38,13 +32,11 @@ pub record HasTop (mask : ℕ) (ms : List Mark) (ls : List Links) (e : Mark) (de
 
 module _ {mask : ℕ} {ms : List Mark} {ls : List Links} {e : Mark} where
   pub least : {depth limit d : ℕ} → IsWay mask ms ls e depth limit d → 1 ≤ d
-  least (Ends past none) = omega arith
-  least (Goes within step agrees none below) = step
+  least h0 = grind arith
 
   -- at the end of a path all marks were searched
   pub ended : {depth limit d : ℕ} → IsWay mask ms ls e depth limit d → limit < d → Lacks ms e limit → Lacks ms e 0
-  ended (Ends past none) far = none
-  ended (Goes within step agrees none below) far = absurd (omega arith)
+  ended h0 far = grind arith
 
   -- from a later mark, if e isn't among those between
   pub raised : {depth limit d : ℕ} (limit' d' : ℕ) → IsWay mask ms ls e depth limit d → (Lacks ms e limit' → Lacks ms e limit)
@@ -56,14 +48,11 @@ module _ {mask : ℕ} {ms : List Mark} {ls : List Links} {e : Mark} where
 
   pub top_of : {depth limit d : ℕ} → IsWay mask ms ls e depth limit d → d ≤ limit → HasTop mask ms ls e depth limit (limit - d)
   top_of (Ends past none) within = absurd (omega arith)
-  top_of (Goes within step agrees none below) _ = record { agrees = agrees; none = none; below = below }
+  top_of (Goes within step agrees none below) _ = grind arith
 
   -- e isn't at the top
   pub past_top : {depth limit top : ℕ} → HasTop mask ms ls e depth limit top → mark_at ms top ≢ e → Lacks ms e limit → Lacks ms e top
-  past_top {top = top} t other lacks j low high = elim (below_or top j) [
-    | inl above ↦ t.none lacks j (omega arith) high
-    | inr here ↦ (let same : j ≡ top = omega arith in rw same other)
-  ]
+  past_top {top = top} t other lacks j low high = grind (arith, below_or)
 
   -- links of marks that agree with e alone matter
   pub relinked : {depth limit d : ℕ} (ls' : List Links) → IsWay mask ms ls e depth limit d
@@ -75,12 +64,7 @@ module _ {mask : ℕ} {ms : List Mark} {ls : List Links} {e : Mark} where
 -- one mark more
 lacks_appended : {e : Mark} {limit from : ℕ} (ms : List Mark) (m : Mark) → limit ≤ length ms → (Lacks ms e limit → Lacks ms e from)
     → Lacks (ms ++ m ∷ []) e limit → Lacks (ms ++ m ∷ []) e from
-lacks_appended {limit = limit} ms m upper_bound none lacks j low high = elim (below_or j limit) [
-  | inl less ↦ λ equal. none
-      (λ i above within equal'. lacks i above (omega (arith, length-append ms (m ∷ []))) (get_or_append_left ms (m ∷ []) _ i within ∙ equal'))
-      j low (omega arith) (sym (get_or_append_left ms (m ∷ []) _ j (omega arith)) ∙ equal)
-  | inr above ↦ lacks j above high
-]
+lacks_appended {limit = limit} ms m upper_bound none lacks j low high = grind (arith, below_or, length-append, get_or_append_left)
 
 pub appended : {mask : ℕ} {ms : List Mark} {ls : List Links} {e : Mark} {depth limit d : ℕ} (m : Mark) (l : Links) → length ls ≡ length ms → limit ≤ length ms
     → IsWay mask ms ls e depth limit d → IsWay mask (ms ++ m ∷ []) (ls ++ l ∷ []) e depth limit d
@@ -96,8 +80,7 @@ lacks_dropped : {e : Mark} {limit from : ℕ} (ms : List Mark) (m : Mark) (less 
 lacks_dropped {e = e} {limit = limit} ms m less k one le none lacks j low high = none up (suc j) (omega arith) (omega arith)
   where
     up : Lacks (m ∷ ms) e limit
-    up zero above within = absurd (omega arith)
-    up (suc i) above within = lacks i (omega arith) (omega arith)
+    up h0 above within = grind arith
 
 pub dropped : {mask : ℕ} {m : Mark} {ms : List Mark} {l : Links} {ls : List Links} {e : Mark} {depth limit d : ℕ} (less : ℕ) → limit ≡ less + 1
     → IsWay mask (m ∷ ms) (l ∷ ls) e depth limit d → IsWay mask ms ls e depth less d
@@ -117,10 +100,10 @@ pub record IsPlacing (mask : ℕ) (ms : List Mark) (start now : List Links) (new
   pub finish : (done : List Links) → IsSameOutside mask ms now done depth place → IsOnTop mask ms done depth place → IsPutOnTop mask ms start done newest
 
 set_other : (ls : List Links) (place j : ℕ) (l : Links) → j ≢ place → links_at (set ls place l) j ≡ links_at ls j
-set_other ls place j l other = get_or-set_other ls place j l (record { zeros = 0; ones = 0 }) other
+set_other ls place j l other = grind (arith, get_or-set_other)
 
 set_same : (ls : List Links) (place : ℕ) (l : Links) → place < length ls → links_at (set ls place l) place ≡ l
-set_same ls place l within = get_or-set_same ls place l (record { zeros = 0; ones = 0 }) within
+set_same ls place l within = grind (arith, get_or-set_same)
 
 pub step_at : {mask : ℕ} {ms : List Mark} {start now : List Links} {newest depth place d : ℕ} → IsPlacing mask ms start now newest depth place d → 1 ≤ d
 step_at {ms = ms} {place = place} p = least (p.tree (mark_at ms place) (agrees_itself (mark_at ms place)))
@@ -128,14 +111,12 @@ step_at {ms = ms} {place = place} p = least (p.tree (mark_at ms place) (agrees_i
 module _ {mask : ℕ} {ms : List Mark} {start now : List Links} {newest depth place d : ℕ} (p : IsPlacing mask ms start now newest depth place d)
     (l : Links) where
   outside_set : IsSameOutside mask ms now (set now place l) depth place
-  outside_set j never = set_other now place j l (λ e. never (omega arith) (rw e (agrees_itself (mark_at ms place))))
+  outside_set j never = grind (arith, set_other, agrees_itself)
 
   -- there is none below
   pub placing_end : place < d → place < length now → l.zeros ≡ d → l.ones ≡ d → IsPutOnTop mask ms start (set now place l) newest
-  placing_end past within zeros ones =
-      p.finish (set now place l) outside_set
-      (λ e agrees. Ends (rw (set_same now place l within) (elim (mark_bit e depth) as (λ bit. place < link_by_bit l bit)
-      [ true ↦ omega arith | false ↦ omega arith ])) (ended (p.tree e agrees) past))
+  placing_end past within zeros ones = p.finish (set now place l) outside_set
+      (λ e agrees. Ends (grind (arith, set_same)) (ended (p.tree e agrees) past))
 
   -- the tree of one bit below the top becomes one below the mark that takes its place, if the top is none of it
   moved : {e : Mark} (done : List Links) (d' : ℕ) → HasTop mask ms now e depth place (place - d) → d ≤ place → place + 1 < 2 ^ 32
@@ -154,9 +135,7 @@ module _ {mask : ℕ} {ms : List Mark} {start now : List Links} {newest depth pl
   placing_equal within inside there upper_bound equal reach =
       let step = step_at p in
       p.finish (set now place l) outside_set
-      (λ e agrees. rw (set_same now place l inside)
-      (moved (set now place l) _ (top_of (p.tree e agrees) within) within upper_bound (λ j less is. set_other now place j l (λ at. omega arith))
-      (λ lacks is. lacks place (omega arith) there (equal ∙ is)) (reach (mark_bit e depth))))
+      (grind (arith, set_same, moved, top_of, set_other))
 
   -- the mark that is taken the place of goes down by one bit
   pub placing_next : (bit : Bool) → d ≤ place → place < length now → place + 1 < 2 ^ 32 → bit ≡ mark_bit (mark_at ms (place - d)) depth → link_by_bit l bit ≡ d
@@ -176,20 +155,12 @@ module _ {mask : ℕ} {ms : List Mark} {start now : List Links} {newest depth pl
               | inl e_bit ↦ (let t = top_of (p.tree e agrees) within in
                   let more = agrees_more t.agrees (sym is_bit ∙ sym e_bit) in
                   rw (here, e_bit, to) (Goes within step more t.none (below e more)))
-              | inr e_other ↦ (let t = top_of (p.tree e agrees) within in
-                  rw (here, e_other, other, ← e_other)
-                  (moved done _ t within upper_bound
-                  (λ j less is. same j (λ le half_is. not_both bit (is_bit ∙ sym (half_is.bits depth (omega arith)) ∙ is.bits depth (omega arith) ∙ e_other))
-                  ∙ set_other now place j l (λ at. omega arith))
-                  (λ lacks equal. not_both bit (is_bit ∙ ap (λ (x : Mark). mark_bit x depth) equal ∙ e_other)) refl))
+              | inr e_other ↦ grind (arith, top_of, moved, set_other)
             ]));
       }
     where
       side : (a b : Bool) → (a ≡ b) ⊎ (a ≡ not b)
-      side true true = inl refl
-      side true false = inr refl
-      side false true = inr refl
-      side false false = inl refl
+      side a b = grind arith
 
       not_both : (b : Bool) → b ≡ not b → ⊥
       not_both true e = cc
@@ -197,5 +168,4 @@ module _ {mask : ℕ} {ms : List Mark} {start now : List Links} {newest depth pl
 
 pub after_links : (old new : Links) (d : ℕ) → new.zeros ≡ min (old.zeros + d) (2 ^ 32 - 1) → new.ones ≡ min (old.ones + d) (2 ^ 32 - 1)
     → (bit : Bool) → link_by_bit new bit ≡ min (link_by_bit old bit + d) (2 ^ 32 - 1)
-after_links old new d zeros ones true = ones
-after_links old new d zeros ones false = zeros
+after_links old new d zeros ones bit = grind arith

@@ -1,33 +1,31 @@
 -- The laws of whole commands: which packets each one writes, and how it ends.
 use Rattle.std.proofs.Common.{◌≡◌, ℕ, ◌+◌, ◌-◌, ◌^◌, ◌<◌, false, max, List, [], ◌∷◌, ◌++◌, length, take, Option, None, Some, refl, sym, ◌∙◌, ap, arith, subst}
-use Rattle.std.proofs.Common.{nat_lt, nat_eq, drop, ◌≤◌, length-append}
+use Rattle.std.proofs.Common.{nat_eq, drop, ◌≤◌, length-append}
 use Rattle.std.proofs.lemmas.List.{append_assoc, append-nil, length-map, map-append, take-append-drop}
 use Rattle.std.specs.Option.{IfSome, unwrap_or}
-use Rattle.std.proofs.{lemmas.Bool.Decides.nat_tests, Math.Seq.take-length, lemmas.Bool.and_right}
-use Rattle.cap_octet.specs.{Packet.Captured, declared.fault.Fault.Fault, declared.format.Format.Format}
 use Rattle.cap_io.specs.Capture.{Placed, Ending, End, FaultAt, items, kind_of, Items, items_from}
-use Rattle.cap_io.specs.Sequence.{Event, Packet, InputEnd, SequenceEnd, Complete, FaultIn, Sequence, PacketOrder, InTurn, ByTime, InputItems, whole_input}
-use Rattle.cap_io.specs.Sequence.{Entry, packet_events, input_sequence, sequence_in_turn, sequence_of, end_of, end_after, entries_of, comes_before}
-use Rattle.cap_io.specs.Sequence.{insert_entry, sort_entries, sequence_of_entries, sequence_by_time, first_end, unless_fault, with_front}
+use Rattle.cap_io.specs.Sequence.{Event, Packet, InputEnd, SequenceEnd, Complete, FaultIn, Sequence, PacketOrder, InputItems, whole_input, Entry, packet_events}
+use Rattle.cap_io.specs.Sequence.{input_sequence, sequence_in_turn, sequence_of, end_of, end_after, entries_of, comes_before, insert_entry, sort_entries}
+use Rattle.cap_io.specs.Sequence.{sequence_of_entries, sequence_by_time, first_end, unless_fault, with_front}
 use Rattle.cap_io.proofs.Cuts.{cut_tells, has_cut, items_from-units}
-use Rattle.cap_io.specs.{declared.source.Kind.Kind, RoundTrip.ItemsBack, Text.text}
-use Rattle.cap_print.specs.declared.print.Options.{Options}
-use Rattle.cap_filter.specs.FilterRules.{Rule}
-use Rattle.cap_process.specs.Verdict.{Policy, Edit, EditRule, Filter, KeepAll, Count, Judgement, SelectorState, initial_state, edited_packet_with, judge}
-use Rattle.cap_process.specs.Verdict.{passes, no_options}
-use Rattle.cap_process.specs.Outcome.{Form, AsCapture, AsReports, AsLines, JobProgress, Work, no_progress, apply_verdict, apply_event, apply_events}
-use Rattle.cap_process.specs.Outcome.{next_progress, end_with, unless_ended, end_unless_ended, final_progress, output_text, text_at_end, first_link, lines_text}
-use Rattle.cap_process.specs.Outcome.{message, status, outcome_at, outcome}
+use Rattle.cap_process.specs.Verdict.{Policy, Edit, EditRule, Filter, KeepAll, Count, SelectorState, initial_state, edited_packet_with, judge, passes}
+use Rattle.cap_process.specs.Verdict.{no_options}
+use Rattle.cap_process.specs.Outcome.{Form, AsCapture, AsReports, AsLines, JobProgress, Work, no_progress, apply_event, apply_events, next_progress, end_with}
+use Rattle.cap_process.specs.Outcome.{unless_ended, end_unless_ended, final_progress, output_text, text_at_end, first_link, lines_text, status, outcome_at}
+use Rattle.cap_process.specs.Outcome.{outcome}
 use Rattle.cap_process.specs.Lists.{packets_selected, unique_after, at_most, end_at_time, first_without_time, packets_kept, packets_of, tally_of}
 use Rattle.cap_process.specs.Whole.{CopyEnds, EditEnds, EditKeeps, EditWrites, EditsAlike, EndsAs, EndsUnlessRefused, HasCarried, InfosEnds, MergeEnds}
 use Rattle.cap_process.specs.Whole.{MergesOne, PrintEnds, copy_of, InfosReports, MergeWrites, PrintLines, PrintWrites, closing_if, edit_work, event_packets}
-use Rattle.cap_process.specs.Whole.{infos_work, merge_work, file_packets, packets_in_order, print_work, reports_by, reports_of, packets_written, first_refusal}
+use Rattle.cap_process.specs.Whole.{merge_work, file_packets, packets_in_order, print_work, reports_by, reports_of, packets_written, first_refusal}
 use Rattle.cap_process.specs.Whole.{written_text, CutsGivePrefixes, EndsByRefusal, IsFirstRefused, file_events, packets_edited, packets_merged, packets_printed}
 use Rattle.cap_process.proofs.Lists.{AtRefused, EndsSo, comes, count-packets, end-stays, ends_without_time, filtered-first, judged, judged-is, none-refused}
-use Rattle.cap_process.proofs.Lists.{packets-of-input, policy_end, under_way, verdict_end}
-use Rattle.cap_process.proofs.Outcomes.{progress-append}
-use Rattle.cap_process.proofs.Selectors.{upper_bound}
-use Rattle.cap_process.specs.{Reports.Report, Reports.Tally, Reports.nothing_counted, Selector.is_count, declared.mark.Mark.Mark, Marks.mark_of}
+use Rattle.cap_process.proofs.Lists.{packets-of-input, policy_end, under_way}
+use Rattle.std.proofs.lemmas.Bool.{Decides.nat_tests, and_right}
+use Rattle.cap_process.proofs.{Outcomes.progress-append, Selectors.upper_bound}
+use Rattle.cap_io.specs.{Text.text, declared.source.Kind.Kind, RoundTrip.ItemsBack}
+use Rattle.cap_octet.specs.{Packet.Captured, declared.fault.Fault.Fault, declared.format.Format.Format}
+use Rattle.cap_process.specs.{Reports.Report, Reports.Tally, Reports.nothing_counted, Marks.mark_of, Selector.is_count, declared.mark.Mark.Mark}
+use Rattle.{cap_filter.specs.FilterRules.Rule, std.proofs.Math.Seq.take-length, cap_print.specs.declared.print.Options.Options}
 
 -- ---- the packets that a merge keeps
 
@@ -38,7 +36,7 @@ merged k state [] less = (refl, refl)
 merged k state (Packet input p ∷ es) less =
     let one = upper_bound KeepAll state (k + 1) p.packet refl (omega (arith, less)) in
     let more = merged (k + 1) (passes state p.packet).state es (omega (arith, less)) in
-    rw one (ap (λ (l : List Captured). p.packet ∷ l) more.0, more.1)
+    grind arith
 merged k state (InputEnd input kind size ∷ es) less = merged k state es less
 
 -- ---- commands that write packets
@@ -51,8 +49,7 @@ at-end f link ps c = grind arith
 
 final-end : (f : Form) (link : Option ℕ) (ps : List Captured) (w : JobProgress) (c : SequenceEnd) → (o : Option SequenceEnd) → w.end ≡ o
     → text_at_end (end_unless_ended w c).end f link ps ≡ closing_if (status (end_unless_ended w c).end) f link ps
-final-end f link ps w c None is = rw is (at-end f link ps c)
-final-end f link ps w c (Some d) is = rw is (at-end f link ps d)
+final-end f link ps w c o is = grind (arith, at-end)
 
 -- a form of writing in which reports have no bytes
 abbrev IsOfPackets : Form → Type 0
@@ -61,17 +58,7 @@ IsOfPackets f = (ps : List Captured) (rs : List Report) → output_text f ps rs 
 command-writes : (work : Work) (names : List (List ℕ)) (rs : List InputItems) (ps : List Captured) → is_count work.policy ≡ false → IsOfPackets work.form
     → judged work.policy 0 initial_state (event_packets (sequence_of work.order rs).events) ≡ ps
     → (outcome work names rs).output ≡ written_text work.form (outcome work names rs).status (first_link rs) (packets_written work.form [] ps)
-command-writes work names rs ps judges of_packets is =
-    rw (packets, of_packets, final-end work.form (first_link rs) (packets_written work.form [] ps) w s.end w.end refl) refl
-  where
-    s : Sequence
-    s = sequence_of work.order rs
-
-    w : JobProgress
-    w = apply_events work.policy work.form no_progress s.events
-
-    packets : (final_progress work.policy work.form s).packets ≡ packets_written work.form [] ps
-    packets = same-packets w.end w s.end ∙ rw is at (comes work.policy work.form 0 initial_state [] [] s.events judges).0
+command-writes work names rs ps judges of_packets is = grind (arith, final-end, same-packets, comes)
 
 capture-of-packets : (format : Format) → IsOfPackets (AsCapture format)
 capture-of-packets format ps rs = refl
@@ -80,13 +67,11 @@ lines-of-packets : (options : Options) → IsOfPackets (AsLines options)
 lines-of-packets options ps rs = refl
 
 final-is : (w : JobProgress) (close : SequenceEnd) (o : Option SequenceEnd) → w.end ≡ o → (end_unless_ended w close).end ≡ Some (unwrap_or o close)
-final-is w close None is = rw is refl
-final-is w close (Some c) is = rw is refl
+final-is w close o is = grind arith
 
 ends-as : (work : Work) (names : List (List ℕ)) (rs : List InputItems) (w : JobProgress) (c : SequenceEnd) → w.end ≡ Some c
     → EndsAs names c (outcome_at work names rs w)
-ends-as work names rs w Complete is = record { messages = ap (message names) is; status = ap status is }
-ends-as work names rs w (FaultIn input fault offset) is = record { messages = ap (message names) is; status = ap status is }
+ends-as work names rs w c is = grind arith
 
 -- the packets of these events, in their places
 abbrev placed_of : List Event → List Placed
@@ -96,7 +81,7 @@ placed_of (InputEnd input kind size ∷ es) = placed_of es
 
 placed-packets : (es : List Event) → packets_of (placed_of es) ≡ event_packets es
 placed-packets [] = refl
-placed-packets (Packet input p ∷ es) = ap (λ (l : List Captured). p.packet ∷ l) (placed-packets es)
+placed-packets (Packet input p ∷ es) = grind (arith, placed-packets es)
 placed-packets (InputEnd input kind size ∷ es) = placed-packets es
 
 -- of at most as many packets as these events have, the policy keeps these
@@ -106,15 +91,11 @@ Passes a passing es =
 
 event-packets-append : (es fs : List Event) → event_packets (es ++ fs) ≡ event_packets es ++ event_packets fs
 event-packets-append [] fs = refl
-event-packets-append (Packet input p ∷ es) fs = ap (λ (l : List Captured). p.packet ∷ l) (event-packets-append es fs)
+event-packets-append (Packet input p ∷ es) fs = grind (arith, event-packets-append es fs)
 event-packets-append (InputEnd input kind size ∷ es) fs = event-packets-append es fs
 
 front-shorter : (ds es all : List Event) → all ≡ ds ++ es → length (event_packets ds) ≤ length (event_packets all)
-front-shorter ds es all is =
-    let sum : length (event_packets all) ≡ length (event_packets ds) + length (event_packets es) =
-    ap (λ (l : List Event). length (event_packets l)) is ∙ ap length (event-packets-append ds es)
-    ∙ length-append (event_packets ds) (event_packets es) in
-    omega (arith, sum)
+front-shorter ds es all is = grind (arith, event-packets-append, length-append)
 
 -- the place of the first packet that is refused
 refused-at : (work : Work) (passing : List Captured → List Captured) (es : List Event) (fault : Fault) → Passes work.policy passing es
@@ -126,7 +107,7 @@ refused-at work passing es fault passes end at = record {
   p = at.p;
   later = at.later;
   are = at.are;
-  taken = sym (ap (first_refusal work.form []) (passes at.before (front-shorter at.before (Packet at.input at.p ∷ at.later) es at.are))) ∙ at.taken;
+  taken = grind (arith, front-shorter);
   refused = sym (ap (first_refusal work.form []) (passes (at.before ++ Packet at.input at.p ∷ [])
       (front-shorter (at.before ++ Packet at.input at.p ∷ []) at.later es
       (at.are ∙ sym (append_assoc at.before (Packet at.input at.p ∷ []) at.later))))) ∙ at.refused;
@@ -137,9 +118,8 @@ command-ends : (work : Work) (names : List (List ℕ)) (rs : List InputItems) (p
     → EndsUnlessRefused names work.form passing (sequence_of work.order rs).events
     (unwrap_or (policy_end work.policy 0 initial_state (sequence_of work.order rs).events) (sequence_of work.order rs).end) (outcome work names rs)
 unfolding refused-at
-command-ends work names rs passing judges passes =
-    by_refusal (first_refusal work.form [] (passing (event_packets s.events)))
-    (rw (passes s.events (omega arith)) at (comes work.policy work.form 0 initial_state [] [] s.events judges).1)
+command-ends work names rs passing judges passes = by_refusal (first_refusal work.form [] (passing (event_packets s.events)))
+    (grind (arith, comes))
   where
     s : Sequence
     s = sequence_of work.order rs
@@ -151,7 +131,7 @@ command-ends work names rs passing judges passes =
     by_policy = policy_end work.policy 0 initial_state s.events
 
     ends : (o : Option SequenceEnd) → w.end ≡ o → EndsAs names (unwrap_or o s.end) (outcome work names rs)
-    ends o is = ends-as work names rs (final_progress work.policy work.form s) (unwrap_or o s.end) (final-is w s.end o is)
+    ends o is = grind (arith, ends-as, s, final-is, w)
 
     by_refusal : (r : Option Fault)
         → EndsSo r (λ ds. first_refusal work.form [] (judged work.policy 0 initial_state (event_packets ds))) s.events by_policy w.end
@@ -163,28 +143,23 @@ command-ends work names rs passing judges passes =
 -- ---- one input
 
 one-input : (r : InputItems) (e : Ending) → event_packets (input_sequence 0 r e (sequence_in_turn 1 [])).events ≡ packets_of r.items.packets
-one-input r End =
-    rw (append-nil, event-packets-append, append-nil) (packets-of-input 0 r.items.packets)
-one-input r (FaultAt fault offset) = packets-of-input 0 r.items.packets
+one-input r e = grind (arith, append-nil, event-packets-append, packets-of-input)
 
 before-end : (a : Policy) (k : ℕ) (state : SelectorState) (ps : List Placed) (kind : Option Kind) (size : ℕ)
     → policy_end a k state (packet_events 0 ps ++ InputEnd 0 kind size ∷ []) ≡ policy_end a k state (packet_events 0 ps)
 before-end a k state [] kind size = refl
-before-end a k state (p ∷ ps) kind size = ap (verdict_end 0 p (judge a state (k + 1) p.packet).verdict)
-    (before-end a (k + 1) (judge a state (k + 1) p.packet).state ps kind size)
+before-end a k state (p ∷ ps) kind size = grind (arith, before-end a (k + 1) (judge a state (k + 1) p.packet).state ps kind size)
 
 one-end : (a : Policy) (r : InputItems) (e : Ending) → unwrap_or (policy_end a 0 initial_state (input_sequence 0 r e (sequence_in_turn 1 [])).events)
     (input_sequence 0 r e (sequence_in_turn 1 [])).end
     ≡ unwrap_or (policy_end a 0 initial_state (packet_events 0 r.items.packets)) (end_of 0 e)
-one-end a r End =
-    rw (append-nil, before-end a 0 initial_state r.items.packets (kind_of r.items.declared) r.size) refl
-one-end a r (FaultAt fault offset) = refl
+one-end a r e = grind (arith, append-nil, before-end)
 
 few-placed : (file : List ℕ) → length (file_packets file) < 2 ^ 63 → length (items file).packets < 2 ^ 63
-few-placed file less = omega (arith, length-map (items file).packets (λ (p : Placed). p.packet))
+few-placed file less = grind (arith, length-map)
 
 file-packets : (file : List ℕ) → event_packets (file_events file) ≡ file_packets file
-file-packets file = one-input (whole_input file) (items file).ending
+file-packets file = grind (arith, one-input)
 
 few-events : (file : List ℕ) (es : List Event) → length (file_packets file) < 2 ^ 63 → length (event_packets es) ≤ length (event_packets (file_events file))
     → length (placed_of es) < 2 ^ 63
@@ -200,7 +175,7 @@ edits s file less es fewer =
 
 edited : (s : EditRule) (file : List ℕ) → length (file_packets file) < 2 ^ 63
     → judged (Edit s) 0 initial_state (event_packets (file_events file)) ≡ packets_edited s (file_packets file)
-edited s file less = edits s file less (file_events file) (omega arith) ∙ ap (packets_edited s) (file-packets file)
+edited s file less = grind (arith, edits, file-packets)
 
 pub edit_writes : EditWrites
 edit_writes s format names file less = command-writes (edit_work s format) names (whole_input file ∷ []) _ refl (capture-of-packets format) (edited s file less)
@@ -225,7 +200,7 @@ prints rule count file some less es fewer =
 
 printed : (rule : Rule) (count : Option ℕ) (file : List ℕ) → IfSome count (λ (n : ℕ). 0 < n) → length (file_packets file) < 2 ^ 63
     → judged (Filter rule count) 0 initial_state (event_packets (file_events file)) ≡ packets_printed rule count (file_packets file)
-printed rule count file some less = prints rule count file some less (file_events file) (omega arith) ∙ ap (packets_printed rule count) (file-packets file)
+printed rule count file some less = grind (arith, prints, file-packets)
 
 pub print_writes : PrintWrites
 print_writes rule count format names file some less =
@@ -250,7 +225,7 @@ print_ends rule count form names file some less =
     let r = whole_input file in
     subst (λ (c : SequenceEnd). EndsUnlessRefused names form (packets_printed rule count) (file_events file) c
     (outcome (print_work rule count form) names (r ∷ [])))
-    (one-end (Filter rule count) r r.items.ending ∙ (filtered-first rule count r.items.ending r.items.packets some (few-placed file less)).1)
+    (grind (arith, one-end, filtered-first, few-placed))
     (command-ends (print_work rule count form) names (r ∷ []) (packets_printed rule count) refl (prints rule count file some less))
 
 -- ---- merge
@@ -267,7 +242,7 @@ merge_ends order format names rs less =
     subst (λ (e : Option SequenceEnd). EndsUnlessRefused names (AsCapture format) packets_merged s.events (unwrap_or e s.end)
     (outcome (merge_work order format) names rs)) all.1
     (command-ends (merge_work order format) names rs packets_merged refl
-    (λ es fewer. (merged 0 initial_state es (omega (arith, less, fewer))).0))
+    (grind (arith, merged)))
 
 -- ---- infos
 
@@ -300,16 +275,13 @@ report-next names input r rs next k state reports none = by_ending r.items.endin
     by_ending End =
         rw append_assoc
         (count-packets (λ w. w.reports ≡ whole (tally_of (packets_of r.items.packets))) names input r.items.packets k state [] reports (ended ∷ later) none
-        (λ k' state' is. next k' (record { passed = state'.passed; window = state'.window; tally = nothing_counted })
-        (reports ++ report input r state'.tally ∷ []) refl
-        ∙ append_assoc reports (report input r state'.tally ∷ []) more
-        ∙ ap whole is))
+        (grind (arith, append_assoc, more, whole)))
     by_ending (FaultAt fault offset) =
         rw (← append-nil (packet_events input r.items.packets))
         (count-packets (λ w. w.reports ≡ reports ++ []) names input r.items.packets k state [] reports [] none (λ k' state' is. sym (append-nil reports)))
 
 reported : (names : List (List ℕ)) (input : ℕ) (rs : List InputItems) → Reported names input rs
-reported names input [] = λ k state reports none. sym (append-nil reports)
+reported names input [] = grind (arith, append-nil)
 reported names input (r ∷ rs) = report-next names input r rs (reported names (input + 1) rs)
 
 same-reports : (o : Option SequenceEnd) (w : JobProgress) (c : SequenceEnd) → (unless_ended o w (end_with w c)).reports ≡ w.reports
@@ -320,10 +292,7 @@ nothing-following-reports : (names : List (List ℕ)) (link : Option ℕ) (ps : 
 nothing-following-reports names link ps o = grind arith
 
 pub infos_reports : InfosReports
-infos_reports names rs =
-    let s = sequence_in_turn 0 rs in
-    let w = apply_events Count (AsReports names) no_progress s.events in
-    rw (same-reports w.end w s.end, reported names 0 rs 0 initial_state [] refl, nothing-following-reports, append-nil) refl
+infos_reports names rs = grind (arith, same-reports, reported, nothing-following-reports, append-nil)
 
 infos-go-on : (names : List (List ℕ)) (k : ℕ) (state : SelectorState) (reports : List Report) (es : List Event)
     → (apply_events Count (AsReports names) (under_way k state [] reports) es).end ≡ None
@@ -334,11 +303,7 @@ infos-go-on names k state reports (InputEnd input kind size ∷ es) =
     (apply_event Count (AsReports names) (under_way k state [] reports) (InputEnd input kind size)).reports es
 
 pub infos_ends : InfosEnds
-infos_ends names rs =
-    let s = sequence_in_turn 0 rs in
-    let w = apply_events Count (AsReports names) no_progress s.events in
-    ends-as (infos_work names) names rs (final_progress Count (AsReports names) s) s.end
-    (final-is w s.end None (infos-go-on names 0 initial_state [] s.events))
+infos_ends names rs = grind (arith, ends-as, final-is, infos-go-on)
 
 -- ---- edits without options
 
@@ -351,13 +316,10 @@ same-judge : (state : SelectorState) (number : ℕ) (p : Captured) → judge Kee
 same-judge state number p = rw (same-packet p) refl
 
 same-event : (f : Form) (w : JobProgress) (e : Event) → apply_event KeepAll f w e ≡ apply_event (Edit no_options) f w e
-same-event f w (Packet input p) = ap (λ (j : Judgement). apply_verdict f w input p j.verdict j.state) (same-judge w.state (w.decided + 1) p.packet)
-same-event f w (InputEnd input kind size) = refl
+same-event f w e = grind (arith, same-judge)
 
 same-events : (f : Form) (w : JobProgress) (es : List Event) → apply_events KeepAll f w es ≡ apply_events (Edit no_options) f w es
-same-events f w [] = refl
-same-events f w (e ∷ es) =
-    rw (same-event f w e) (same-events f (next_progress (Edit no_options) f w e) es)
+same-events f w es = grind (arith, same-event)
 
 -- ---- one input by time is that input in turn
 
@@ -366,20 +328,16 @@ entry input ending greatest p ps = record { key = max greatest p.packet.time; in
 
 not-before : (input : ℕ) (ending : Ending) (greatest : ℕ) (p q : Placed) (ps : List Placed)
     → comes_before (entry input ending (max greatest p.packet.time) q ps) (entry input ending greatest p (q ∷ ps)) ≡ false
-not-before input ending greatest p q ps =
-    let later : nat_lt (max (max greatest p.packet.time) q.packet.time) (max greatest p.packet.time) ≡ false = grind (arith, nat_tests) in
-    let same : nat_lt input input ≡ false = grind (arith, nat_tests) in
-    rw (later, same) (and_right (nat_eq (max (max greatest p.packet.time) q.packet.time) (max greatest p.packet.time)) false refl)
+not-before input ending greatest p q ps = grind (arith, max, nat_tests, and_right, nat_eq)
 
 insert-first : (input : ℕ) (ending : Ending) (greatest : ℕ) (p : Placed) (ps : List Placed)
     → insert_entry (entry input ending greatest p ps) (entries_of input ending (max greatest p.packet.time) ps) ≡ entries_of input ending greatest (p ∷ ps)
-insert-first input ending greatest p [] = refl
-insert-first input ending greatest p (q ∷ ps) = rw (not-before input ending greatest p q ps) refl
+insert-first input ending greatest p ps = grind (arith, not-before)
 
 sorted : (input : ℕ) (ending : Ending) (greatest : ℕ) (ps : List Placed) → sort_entries (entries_of input ending greatest ps) ≡ entries_of input
     ending greatest ps
 sorted input ending greatest [] = refl
-sorted input ending greatest (p ∷ ps) = rw (sorted input ending (max greatest p.packet.time) ps) (insert-first input ending greatest p ps)
+sorted input ending greatest (p ∷ ps) = grind (arith, max, insert-first, sorted input ending (max greatest p.packet.time) ps)
 
 last-of : (input : ℕ) (ending : Ending) (e : Event)
     → with_front (e ∷ []) (unless_fault (end_of input ending) (record { events = []; end = Complete })) ≡ record { events = e ∷ []; end = end_of input ending }
@@ -387,8 +345,8 @@ last-of input ending e = grind arith
 
 of-entries : (input : ℕ) (ending : Ending) (greatest : ℕ) (p : Placed) (ps : List Placed)
     → sequence_of_entries (entries_of input ending greatest (p ∷ ps)) ≡ record { events = packet_events input (p ∷ ps); end = end_of input ending }
-of-entries input ending greatest p [] = last-of input ending (Packet input p)
-of-entries input ending greatest p (q ∷ ps) = ap (with_front (Packet input p ∷ [])) (of-entries input ending (max greatest p.packet.time) q ps)
+of-entries input ending greatest p [] = grind (arith, last-of)
+of-entries input ending greatest p (q ∷ ps) = grind (arith, max, of-entries input ending (max greatest p.packet.time) q ps)
 
 first-complete : (c : SequenceEnd) → first_end c Complete ≡ c
 first-complete c = grind arith
@@ -399,37 +357,27 @@ unless-end ending = grind arith
 one-by-time : (greatest : ℕ) (ending : Ending) (ps : List Placed)
     → unless_fault (end_after 0 ending ps) (sequence_of_entries (sort_entries (entries_of 0 ending greatest ps))) ≡ record
     { events = packet_events 0 ps; end = end_of 0 ending }
-one-by-time greatest ending [] = unless-end ending
-one-by-time greatest ending (p ∷ ps) = rw (sorted 0 ending greatest (p ∷ ps)) (of-entries 0 ending greatest p ps)
+one-by-time greatest ending ps = grind (arith, unless-end, sorted, of-entries)
 
 by-time : (r : InputItems) → sequence_by_time (r ∷ []) ≡ record { events = packet_events 0 r.items.packets; end = end_of 0 r.items.ending }
-by-time r = rw (append-nil, first-complete) (one-by-time r.greatest r.items.ending r.items.packets)
+by-time r = grind (arith, append-nil, first-complete, one-by-time)
 
 -- an input's end changes nothing where nothing is reported
 ended-same : (a : Policy) (f : Form) (w : JobProgress) (input : ℕ) (kind : Option Kind) (size : ℕ) → is_count a ≡ false
     → next_progress a f w (InputEnd input kind size) ≡ w
-ended-same a f w input kind size judges = rw (end-stays a w input kind size judges) (grind arith)
+ended-same a f w input kind size judges = grind (arith, end-stays)
 
 in-turn : (a : Policy) (f : Form) (r : InputItems) (ending : Ending) → is_count a ≡ false
     → final_progress a f (record { events = packet_events 0 r.items.packets; end = end_of 0 ending }) ≡ final_progress a f
     (input_sequence 0 r ending (record { events = []; end = Complete }))
-in-turn a f r (FaultAt fault offset) judges = refl
-in-turn a f r End judges =
-    let w = apply_events a f no_progress (packet_events 0 r.items.packets) in
-    rw (append-nil, progress-append, ended-same a f w 0 (kind_of r.items.declared) r.size judges) refl
+in-turn a f r ending judges = grind (arith, append-nil, progress-append, ended-same)
 
 same-order : (a : Policy) (f : Form) (r : InputItems) (order : PacketOrder) → is_count a ≡ false → final_progress a f (sequence_of order (r ∷ [])) ≡
     final_progress a f (sequence_in_turn 0 (r ∷ []))
-same-order a f r InTurn judges = refl
-same-order a f r ByTime judges = ap (final_progress a f) (by-time r) ∙ in-turn a f r r.items.ending judges
+same-order a f r order judges = grind (arith, by-time, in-turn)
 
 pub merges_one : MergesOne
-merges_one order format names file =
-    let r = whole_input file in
-    let f = AsCapture format in
-    ap (outcome_at (merge_work order format) names (r ∷ [])) (same-order KeepAll f r order refl)
-    ∙ ap (λ (w : JobProgress). outcome_at (merge_work order format) names (r ∷ []) (end_unless_ended w (sequence_in_turn 0 (r ∷ [])).end))
-    (same-events f no_progress (sequence_in_turn 0 (r ∷ [])).events)
+merges_one order format names file = grind (arith, same-order, same-events)
 
 -- ---- what a format carries
 
@@ -439,7 +387,7 @@ all-selected number (p ∷ ps) = rw (same-packet p, all-selected (number + 1) ps
 
 all-unique : (before : List Mark) (ps : List Captured) → unique_after None before ps ≡ ps
 all-unique before [] = refl
-all-unique before (p ∷ ps) = ap (λ (l : List Captured). p ∷ l) (all-unique (before ++ mark_of p.bytes ∷ []) ps)
+all-unique before (p ∷ ps) = grind (arith, all-unique (before ++ mark_of p.bytes ∷ []) ps)
 
 nothing-closes : (format : Format) (n : ℕ) (link : Option ℕ) (p : Captured) (ps : List Captured) → closing_if n (AsCapture format) link (p ∷ ps) ≡ []
 nothing-closes format n link p ps = grind arith
@@ -449,11 +397,7 @@ copied : (format : Format) (file : List ℕ) (p : Captured) (ps : List Captured)
     → (unique_after None [] (packets_selected no_options 1 (file_packets file)) ≡ p ∷ ps) × (packets_written (AsCapture format) [] (p ∷ ps) ≡ p ∷ ps)
     × (first_refusal (AsCapture format) [] (p ∷ ps) ≡ None)
 copied format file p ps h =
-    let none = none-refused (AsCapture format) [] (p ∷ ps) (λ xs q ys is. (h.carried.each xs q ys is).taken) in (
-      rw h.packets (ap (unique_after None []) (all-selected 1 (p ∷ ps)) ∙ all-unique [] (p ∷ ps)),
-      none.0,
-      none.1,
-    )
+    let none = none-refused (AsCapture format) [] (p ∷ ps) (λ xs q ys is. (h.carried.each xs q ys is).taken) in grind (arith, all-selected, all-unique)
 
 -- the text of the packets is written
 copy-is : (format : Format) (names : List (List ℕ)) (file : List ℕ) (p : Captured) (ps : List Captured) → HasCarried format file p ps
@@ -498,12 +442,7 @@ cuts_give_prefixes file n =
     let c = has_cut (take n file) in
     let rest : List ℕ = c.rest ++ drop n file in
     let following : List Placed = (items_from c.declared (0 + length c.done) rest).packets in
-    let file_is : file ≡ c.done ++ rest = sym (take-append-drop n file) ∙ ap (λ (l : List ℕ). l ++ drop n file) c.cut.joined
-    ∙ append_assoc c.done c.rest (drop n file) in
-    let whole : file_packets file ≡ packets_of (c.packets ++ following) = ap (λ (i : Items). packets_of i.packets)
-    (ap items file_is ∙ items_from-units c.cut.units rest) in
-    let front : file_packets (take n file) ≡ packets_of c.packets = ap (λ (i : Items). packets_of i.packets) (cut_tells (take n file) c).items in (
-      packets_of following,
-      whole ∙ map-append (λ (p : Placed). p.packet) c.packets following ∙ ap (λ (l : List Captured). l ++ packets_of following)
-          (sym front),
-    )
+    let file_is : file ≡ c.done ++ rest = grind (arith, take-append-drop, append_assoc) in
+    let whole : file_packets file ≡ packets_of (c.packets ++ following) = grind (arith, items_from-units) in
+    let front : file_packets (take n file) ≡ packets_of c.packets = ap (λ (i : Items). packets_of i.packets) (cut_tells (take n file) c).items in
+    grind (arith, map-append)

@@ -1,18 +1,16 @@
 -- The newest mark goes on top of its tree, and each mark that it displaces moves one level down.
-use Rattle.std.proofs.Common.{◌≡◌, ◌==◌, ◌∙◌, ℕ, zero, suc, true, false, ◌-◌, ◌<◌, sym, ap, refl, arith, length, not}
-use Rattle.std.proofs.lemmas.List.{length-set}
+use Rattle.std.proofs.Common.{◌≡◌, ◌==◌, ◌∙◌, ℕ, false, ◌-◌, ◌<◌, sym, ap, refl, arith, length}
 use Rattle.cap_process.specs.inside.Index.{mark_bit, links_at, mark_at}
-use Rattle.cap_process.proofs.Marks.{got}
 use Rattle.cap_process.proofs.Trees.{after_links, placing_end, placing_equal, placing_next, step_at}
+use Rattle.{std.proofs.lemmas.List.length-set, cap_process.proofs.Marks.got}
 use Rattle.cap_process.proofs.links.place_newest.Goals as goal
 
 nonzero : (n : ℕ) → (n == 0) ≡ false → 0 < n
-nonzero zero e = absurd (let never : true ≡ false = e in cc)
-nonzero (suc n) e = omega arith
+nonzero n e = grind arith
 
 pub loop-step-init : goal.loop-step-init
 loop-step-init g c =
-    let some : 0 < length c.args.marks.now.items = nonzero (length c.args.marks.now.items) (sym c.is_empty.ensures ∙ c.if-is_empty.false) in
+    let some : 0 < length c.args.marks.now.items = grind (arith, nonzero) in
     record {
       long = c.requires.long;
       capacity = refl;
@@ -45,7 +43,7 @@ loop-step-preserved g c =
     let bit = c.mark_bit-bit.result in
     let step = step_at (c.loop-step.invariant.placing (c.requires.hung (omega arith)).0 (c.requires.hung (omega arith)).1) in
     record {
-      long = length-set c.loop-step.links.items place c.with_link.result ∙ c.loop-step.invariant.long;
+      long = grind (arith, length-set);
       capacity = c.loop-step.invariant.capacity;
       counted = omega (arith, step);
       placing = λ mask hung.
@@ -53,14 +51,11 @@ loop-step-preserved g c =
           (placing_next (c.loop-step.invariant.placing mask hung) c.with_link.result bit (omega arith) (omega arith) (omega arith)
           (c.mark_bit-bit.ensures ∙ ap (λ m. mark_bit m c.loop-step.depth) (sym below))
           c.with_link.ensures.bit
-          (c.with_link.ensures.other ∙ rw under (after_links c.unwrap.result.now c.plus_step-in-loop-step.result c.loop-step.step
-          c.plus_step-in-loop-step.ensures.zeros c.plus_step-in-loop-step.ensures.ones (not bit)))));
+          (grind (arith, after_links))));
     }
 
 pub loop-step-smaller : goal.loop-step-smaller
-loop-step-smaller g c =
-    let step = step_at (c.loop-step.invariant.placing (c.requires.hung (omega arith)).0 (c.requires.hung (omega arith)).1) in
-    omega (arith, step)
+loop-step-smaller g c = grind (arith, step_at)
 
 pub returns-clause-placed : goal.returns-clause-placed
 returns-clause-placed g c = λ some mask hung.

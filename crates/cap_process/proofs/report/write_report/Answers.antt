@@ -1,8 +1,7 @@
 -- Name, sizes and times, one after the other, are the report, or a prefix of it if the device
 -- fails.
-use Rattle.cap_process.proofs.Lines.{report-joined}
-use Rattle.std.proofs.lemmas.Result.{err_from_is_err_and}
 use Rattle.cap_io.proofs.Parts.{appends-following, stops-following, stops-front}
+use Rattle.{cap_process.proofs.Lines.report-joined, std.proofs.lemmas.Result.err_from_is_err_and}
 use Rattle.cap_process.proofs.report.write_report.Goals as goal
 
 pub returns-in_err-write_name-clause-exact : goal.returns-in_err-write_name-clause-exact

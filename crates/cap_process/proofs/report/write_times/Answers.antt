@@ -1,6 +1,5 @@
 -- The parts that are written are the report's lines of times.
-use Rattle.std.proofs.{Common.refl, lemmas.List.append_assoc}
-use Rattle.cap_io.proofs.Parts.{appends-as}
+use Rattle.{cap_io.proofs.Parts.appends-as, std.proofs.Common.refl, std.proofs.lemmas.List.append_assoc}
 use Rattle.cap_process.proofs.report.write_times.Goals as goal
 
 pub returns-clause-exact : goal.returns-clause-exact

@@ -1,57 +1,39 @@
 -- The verdict, the counts and the executed instructions are those of the policy in each case.
-use Rattle.std.proofs.Common.{◌≡◌, true, false, refl, ap, sym, ◌∙◌, arith}
+use Rattle.std.proofs.Common.{◌≡◌, false, refl, sym, ◌∙◌, arith}
 use Rattle.cap_octet.specs.Packet.{Captured, captured}
 use Rattle.cap_process.specs.Selector.{policy_of, programs_in, window_of, is_count, marks_in, state_of}
 use Rattle.cap_process.proofs.Selectors.{counted-spends, judged-spends, refused-spends, upper_bound, too-many, tells-count, tells-none, tells-passed}
 use Rattle.cap_process.proofs.Selectors.{window-few}
 use Rattle.cap_process.proofs.selector.Selector.judge.Goals.{then-passed-number, else-passed-number}
-use Rattle.cap_process.specs.{Verdict.Judgement, Verdict.SelectorState, Verdict.judge_by, inside.Selector.count_limit, declared.selector.Verdict.Verdict}
+use Rattle.cap_process.specs.{Verdict.SelectorState, Verdict.judge_by, inside.Selector.count_limit, declared.selector.Verdict.Verdict}
 use Rattle.cap_process.proofs.selector.Selector.judge.Goals as goal
 
 pub returns-then-is_count-clause-exact : goal.returns-then-is_count-clause-exact
-returns-then-is_count-clause-exact g c =
-    rw (← c.self.view_is) (λ within counted. tells-count (policy_of c.self.inside.policy) c.self.inside.passed (marks_in c.self.inside.window)
-    c.self.inside.tally c.counted-self-inside.result c.args.number (captured c.args.packet.now) Verdict.Skip (sym c.is_count.ensures ∙ c.if-is_count.true)
-    refl (c.counted-self-inside.ensures.counted counted))
+returns-then-is_count-clause-exact g c = grind (arith, tells-count)
 
 pub returns-then-is_count-clause-counted : goal.returns-then-is_count-clause-counted
-returns-then-is_count-clause-counted g c =
-    rw (← c.self.view_is) (
-      c.counted-self-inside.ensures.count,
-      c.counted-self-inside.ensures.data,
-      omega (arith, c.counted-self-inside.ensures.bytes, c.requires),
-    )
+returns-then-is_count-clause-counted g c = grind arith
 
 pub returns-then-is_count-clause-spends : goal.returns-then-is_count-clause-spends
-returns-then-is_count-clause-spends g c =
-    rw (← c.self.view_is) (counted-spends (policy_of c.self.inside.policy) c.args.number (captured c.args.packet.now)
-    (programs_in c.self.inside.policy) (sym c.is_count.ensures ∙ c.if-is_count.true))
+returns-then-is_count-clause-spends g c = grind (arith, counted-spends)
 
 pub returns-then-is_count-clause-upper_bound : goal.returns-then-is_count-clause-upper_bound
-returns-then-is_count-clause-upper_bound g c = window-few (window_of (policy_of c.self.inside.policy)) c.self.inside.window c.self.invariant
+returns-then-is_count-clause-upper_bound g c = grind (arith, window-few)
 
 pub returns-then-number-ge-NUMBER_END-clause-exact : goal.returns-then-number-ge-NUMBER_END-clause-exact
-returns-then-number-ge-NUMBER_END-clause-exact g c =
-    rw (← c.self.view_is) (λ within counted. ap (λ (j : Judgement). j.verdict) (too-many (policy_of c.self.inside.policy) _ c.args.number
-    (captured c.args.packet.now) (sym c.is_count.ensures ∙ c.if-is_count.false) c.if-number-ge-NUMBER_END.true))
+returns-then-number-ge-NUMBER_END-clause-exact g c = grind (arith, too-many)
 
 pub returns-then-number-ge-NUMBER_END-clause-spends : goal.returns-then-number-ge-NUMBER_END-clause-spends
-returns-then-number-ge-NUMBER_END-clause-spends g c =
-    rw (← c.self.view_is) (refused-spends (policy_of c.self.inside.policy) c.args.number (captured c.args.packet.now)
-    (programs_in c.self.inside.policy) (sym c.is_count.ensures ∙ c.if-is_count.false) c.if-number-ge-NUMBER_END.true)
+returns-then-number-ge-NUMBER_END-clause-spends g c = grind (arith, refused-spends)
 
 pub returns-then-number-ge-NUMBER_END-clause-upper_bound : goal.returns-then-number-ge-NUMBER_END-clause-upper_bound
-returns-then-number-ge-NUMBER_END-clause-upper_bound g c =
-    rw (← c.self.view_is) (window-few (window_of (policy_of c.self.inside.policy)) c.self.inside.window c.self.invariant)
+returns-then-number-ge-NUMBER_END-clause-upper_bound g c = grind (arith, window-few)
 
 pub returns-in_err-keeps-clause-spends : goal.returns-in_err-keeps-clause-spends
-returns-in_err-keeps-clause-spends g c =
-    rw (← c.self.view_is) (c.keeps.ensures.spends ∙ judged-spends (policy_of c.self.inside.policy) c.args.number (captured c.args.packet.now)
-    (programs_in c.self.inside.policy) (sym c.is_count.ensures ∙ c.if-is_count.false) c.if-number-ge-NUMBER_END.false)
+returns-in_err-keeps-clause-spends g c = grind (arith, judged-spends)
 
 pub returns-in_err-keeps-clause-upper_bound : goal.returns-in_err-keeps-clause-upper_bound
-returns-in_err-keeps-clause-upper_bound g c =
-    rw c.keeps.ensures.policy (window-few (window_of (policy_of c.self.inside.policy)) c.keeps.new.window c.keeps.ensures.window)
+returns-in_err-keeps-clause-upper_bound g c = grind (arith, window-few)
 
 pub returns-then-not-branch-clause-exact : goal.returns-then-not-branch-clause-exact
 returns-then-not-branch-clause-exact g c =
@@ -65,13 +47,10 @@ returns-then-not-branch-clause-exact g c =
     (rw c.if-not-branch.true at (c.in_ok-keeps.ensures.exact w.passed w.tally judges)) refl)
 
 pub returns-then-not-branch-clause-spends : goal.returns-then-not-branch-clause-spends
-returns-then-not-branch-clause-spends g c =
-    rw (← c.self.view_is) (c.keeps.ensures.spends ∙ judged-spends (policy_of c.self.inside.policy) c.args.number (captured c.args.packet.now)
-    (programs_in c.self.inside.policy) (sym c.is_count.ensures ∙ c.if-is_count.false) c.if-number-ge-NUMBER_END.false)
+returns-then-not-branch-clause-spends g c = grind (arith, judged-spends)
 
 pub returns-then-not-branch-clause-upper_bound : goal.returns-then-not-branch-clause-upper_bound
-returns-then-not-branch-clause-upper_bound g c =
-    rw c.keeps.ensures.policy (window-few (window_of (policy_of c.self.inside.policy)) c.keeps.new.window c.keeps.ensures.window)
+returns-then-not-branch-clause-upper_bound g c = grind (arith, window-few)
 
 pub returns : goal.returns
 returns g c =
@@ -100,7 +79,7 @@ returns g c =
           })
       | else-passed-number b ↦
           rw (b.self-inside-is, ← c.self.view_is) (record {
-            exact = λ within counted. absurd (omega (arith, b.if-passed-number.false, within));
+            exact = grind arith;
             policy = c.keeps.ensures.policy;
             passed = λ few. few;
             counted = (omega arith, omega arith, omega arith);

@@ -1,8 +1,8 @@
 -- A search of the tree finds the mark if and only if the window has it.
-use Rattle.std.proofs.Common.{[], arith, refl, ◌≡◌, ◌∙◌, sym, get_or, ◌-◌, ◌<◌, ◌≤◌, length}
-use Rattle.std.proofs.lemmas.{List.get_or_default, Option.slice_get-get_or}
+use Rattle.std.proofs.Common.{[], arith, ◌≡◌, ◌∙◌, get_or, ◌-◌, ◌<◌, ◌≤◌, length}
 use Rattle.cap_process.specs.inside.Index.{links_at, mark_at}
-use Rattle.cap_process.proofs.{Indexes.head_small, Marks.got, Marks.is_there, Trees.ended, Trees.least, Trees.past_top, Trees.top_of}
+use Rattle.std.proofs.lemmas.{List.get_or_default, Option.slice_get-get_or}
+use Rattle.cap_process.proofs.{Trees.ended, Trees.least, Trees.past_top, Trees.top_of, Indexes.head_small, Marks.got, Marks.is_there}
 use Rattle.cap_process.proofs.window.Window.contains.Goals as goal
 
 pub loop-step-init : goal.loop-step-init
@@ -18,10 +18,10 @@ returns-then-is_same_mark g c =
     let inside : c.loop-step.limit - c.loop-step.step < length c.self.inside.marks.items = omega (arith, c.loop-step.invariant.within, step) in
     let equal = got c.self.inside.marks.items (c.loop-step.limit - c.loop-step.step) c.args.mark.now _ _ c.get.ensures c.unwrap.ensures
     ∙ c.is_same_mark.ensures.0 c.if-is_same_mark.true in
-    rw (← c.self.view_is) ((λ _. (c.loop-step.limit - c.loop-step.step, inside, equal)), (λ _. refl))
+    rw (← c.self.view_is) (grind arith)
 
 pub loop-step-smaller : goal.loop-step-smaller
-loop-step-smaller g c = let step = least c.loop-step.invariant.way in omega (arith, step)
+loop-step-smaller g c = grind (arith, least)
 
 pub loop-step-preserved : goal.loop-step-preserved
 loop-step-preserved g c =
@@ -31,13 +31,7 @@ loop-step-preserved g c =
     let links : links_at w.links.items top ≡ c.unwrap-in-loop-step.result.now =
     got w.links.items top _ _ _ c.get-in-loop-step.ensures c.unwrap-in-loop-step.ensures in
     let t = top_of c.loop-step.invariant.way c.loop-step-test.true in
-    let step = least c.loop-step.invariant.way in
-    rw (c.link-step.ensures, c.mark_bit.ensures, ← links) (record {
-      way = t.below;
-      lacks = past_top t (λ equal. cc (c.is_same_mark.ensures.1 (sym here ∙ equal), c.if-is_same_mark.false))
-          c.loop-step.invariant.lacks;
-      within = omega (arith, c.loop-step.invariant.within);
-    })
+    grind (arith, least, past_top)
 
 pub returns : goal.returns
 returns g c =

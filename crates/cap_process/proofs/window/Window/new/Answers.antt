@@ -1,6 +1,5 @@
 -- An empty window has a sound index.
-use Rattle.std.proofs.{Common.arith, lemmas.Grind.common_steps}
-use Rattle.cap_process.proofs.Indexes.{sound_new}
+use Rattle.{cap_process.proofs.Indexes.sound_new, std.proofs.Common.arith, std.proofs.lemmas.Grind.common_steps}
 use Rattle.cap_process.proofs.window.Window.new.Goals as goal
 
 pub invariant_of-result : goal.invariant_of-result

@@ -1,5 +1,5 @@
 -- The index stays sound when a mark is added and, in a full window, the oldest is dropped.
-use Rattle.std.proofs.Common.{arith, refl, ◌≡◌, ◌∙◌, get_or, set, ◌+◌, ◌-◌, ◌<◌, ◌≤◌, length, take, drop, ◌++◌, List, ℕ, ap}
+use Rattle.std.proofs.Common.{arith, refl, ◌≡◌, ◌∙◌, get_or, set, ◌+◌, ◌-◌, ◌<◌, ◌≤◌, length, take, drop, ◌++◌, List, ℕ}
 use Rattle.std.proofs.lemmas.List.{get_or_default, take-append-le, take_all}
 use Rattle.cap_process.proofs.Indexes.{IsLowered, head_small, sound_hung, sound_push}
 use Rattle.cap_process.specs.{inside.Index.hash_of, declared.links.Links.Links}
@@ -13,16 +13,13 @@ invariant_of-self g c =
     let head : c.index.result.now ≡ get_or w.heads.items (hash_of w.mask c.args.mark) 0 = c.index.ensures ∙ get_or_default _ _ _ 0 inside ∙ rw hash refl in
     let numbered : List ℕ = set w.heads.items (hash_of w.mask c.args.mark) (w.newest + 1) in
     let written : c.deref_mut.result.now ≡ numbered = c.deref_mut.ensures.value ∙ rw hash refl in
-    let long : length c.renumber-self-inside.new.heads ≡ w.heads.len = c.renumber-self-inside.auto.heads ∙ c.deref_mut.ensures.len in
-    let lowered : IsLowered numbered c.renumber-self-inside.new.heads (w.newest + 1 - c.renumber-self-inside.result) = record {
-      long = c.renumber-self-inside.auto.heads ∙ ap length written;
-      each = λ h within. rw (← written) (c.renumber-self-inside.ensures.heads h (rw written within));
-    } in
+    let long : length c.renumber-self-inside.new.heads ≡ w.heads.len = grind arith in
+    let lowered : IsLowered numbered c.renumber-self-inside.new.heads (w.newest + 1 - c.renumber-self-inside.result) = grind arith in
     let heads : List ℕ = c.renumber-self-inside.new.heads in
     let rest : List ℕ = drop (length heads) (set w.heads.items c.hash_of-hash.result (w.newest + 1)) in
     let whole : take w.heads.len (heads ++ rest) ≡ heads =
-    take-append-le w.heads.len heads rest (omega (arith, long)) ∙ take_all w.heads.len heads (omega (arith, long)) in
-    let kept : length c.push_back.new.self.items ≤ c.renumber-self-inside.result = omega (arith, c.len.ensures.len, c.renumber-self-inside.ensures.bounds) in
+    grind (arith, take-append-le, take_all) in
+    let kept : length c.push_back.new.self.items ≤ c.renumber-self-inside.result = grind arith in
     let step : ℕ = w.newest + 1 - c.index.result.now in
     let l : Links = record { zeros = step; ones = step } in
     let newest : ℕ = w.newest + 1 - get_or w.heads.items (hash_of w.mask c.args.mark) 0 in
@@ -30,7 +27,7 @@ invariant_of-self g c =
     rw (whole, c.place_newest.ensures.capacity, c.push_back-2.ensures.items, c.push_back.ensures.items)
     (sound_push _ _ _ _ _ _ _ _ c.args.mark l _ _ c.self.invariant lowered
     (rw c.push_back.ensures.items at kept) c.renumber-self-inside.ensures.bounds.1 c.renumber-self-inside.ensures.room
-    (rw c.push_back.ensures.items at c.place_newest.ensures.long)
+    (grind arith)
     (λ some. let placed = rw (c.push_back.ensures.items, c.push_back-2.ensures.items) at c.place_newest.ensures.placed in
     placed some w.mask
     (rw head (sound_hung _ _ _ _ _ _ _ c.args.mark l' c.self.invariant some))))
