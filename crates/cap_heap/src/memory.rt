@@ -43,7 +43,8 @@ impl Memory {
         mem::replace(self, Memory::none())
     }
 
-    /// The size in bytes, and the memory again, which still owns its bytes.
+    /// The size in bytes, and the memory again, which still owns its bytes. It goes by value, since
+    /// a struct with `also_owns` but no `also_shares` can't be read through a `&`.
     pub(crate) fn sized(self) -> (usize, Memory)
         ensures size { result.0 ≡ self.1 }
         ensures memory { result.1 ≡ self }

@@ -137,7 +137,8 @@ impl Errors for HostRuntime {
 }
 
 impl<R: Errors, A: Allocator> Errors for (R, A) {
-    /// As the runtime writes it, whatever the allocator next to it.
+    /// As the runtime writes it. The pair is std's form of a runtime with an allocator of the caller's
+    /// choice; only tests use it, for streams of their own.
     fn write_text(&self, text: &str) -> io::Result<()> {
         self.0.write_text(text)
     }

@@ -1,7 +1,8 @@
 //! The same calls in memory that the caller lends.
 //!
-//! Each takes the memory, and gives it back when it returns. If the memory is too small, the status
-//! is 13. A memory of a null pointer and 0 bytes is none.
+//! Each takes the memory, and when it returns gives back all of it, or none if some were still in
+//! use (never seen). If the memory is too small, the status is 13. A memory of a null pointer and 0
+//! bytes is none.
 ghost use Rattle.cap_heap.specs.Lending.{IsGivenBack};
 ghost use Rattle.capkit_c.specs.{Bounding.BoundLeaves, Compiling.CompilesText};
 ghost use Rattle.capkit_c.specs.{Explaining.ExplainLeaves, Listings.ListingLeaves};
@@ -61,7 +62,8 @@ pub extern "C" fn capkit_explain_in(
     status
 }
 
-/// As `capkit_read_listing`.
+/// As `capkit_read_listing`: reads a text as `tcpdump -ddd` prints it into `insns`, and puts into
+/// `number` how many instructions it has, or its first wrong line.
 #[unsafe(no_mangle)]
 pub extern "C" fn capkit_read_listing_in(
     memory: &mut Memory,

@@ -280,7 +280,9 @@ fn count_lower(link: Link, direction: Direction, word: usize, cases: &[Case], nu
 }
 
 /// The place of the case with which the upper half begins: the first whose word isn't lower than
-/// that of the middle one, or if that is the first of all, the first whose word is higher.
+/// that of the middle one, or if that is the first of all, the first whose word is higher. Cases
+/// ascend, so this place is a count of lower words; `is_parted` tests it afterwards, so no promise
+/// rests on their order.
 fn middle(link: Link, direction: Direction, word: usize, cases: &[Case]) -> usize
     ensures { result ≡ middle (case_tests link direction) word cases.now }
 {

@@ -1,4 +1,5 @@
--- The walk over the nodes of an expression, from the last to the first.
+-- The walk over the nodes of an expression, from the last to the first, step by step as the code
+-- goes. All of it makes the expression's `program_code` (`expression_walked` in proofs/Walking.antt).
 use Rattle.flt_words.specs.declared.token.{Comparison.TheVariants.Equal, Join.Join, Join.TheVariants.And, Join.TheVariants.Or}
 use Rattle.flt_gen.specs.inside.Code.{plain, emit_comparison, emit_field, accessor_offset, emit_accessor, computation, takes_constant, emit_operands, Block, block, emit_formula}
 use Rattle.std.specs.Prelude.{ℕ, ◌+◌, List, [], ◌∷◌, length, drop, ◌-◌, if◌then◌else◌, Bool, Option, Some, None}
