@@ -1,21 +1,24 @@
 //! The unit that some bytes begin with.
-ghost use Rattle.std.specs.Prelude.{◌≡◌, ◌<◌, IfOk, IfErr, List, Some, [], length};
+ghost use Rattle.std.specs.Prelude.{◌≡◌, ◌<◌, ◌≤◌, IfOk, IfErr, List, Some, [], length};
 ghost use Rattle.cap_octet.specs.{Checks.checked, declared.number.Order.Order};
-ghost use Rattle.cap_pcap.specs.Header.{header_fault, header_in};
+ghost use Rattle.cap_pcap.specs.{Header.header_fault, Header.header_in, Record.most_captured};
 ghost use Rattle.cap_pcapng.specs.{Effect.interfaces_after, Effect.section_of, Interface.Described};
 ghost use Rattle.cap_io.specs.Capture.{NoUnit, PcapFile, first_link_after, front_of, is_pcapng};
 ghost use Rattle.cap_io.specs.FirstUnit.{BeginsWithUnit, IsSomeFor};
 ghost use Rattle.cap_io.specs.{Reading.declared_by, inside.Reading.BeginsAt};
+ghost use Rattle.cap_io.specs.inside.Reading.{record_spans};
 ghost use Rattle.cap_io.specs.declared.file_state.FileState.TheVariants as state;
 ghost use Rattle.cap_pcapng.specs.declared.effect.BlockEffect.TheVariants as does;
 
 use crate::file_state::FileState;
 use crate::next_unit::FILE_HEADER_LENGTH;
-use crate::pcap::{RECORD_HEADER_LENGTH, record_spans};
 use crate::pcapng::BLOCK_FRONT;
 use cap_octet::Fault;
-use cap_pcap::{Head, read_head, read_magic, read_record};
-use cap_pcapng::{BlockEffect, Interfaces, PacketSpans, begins_section, block_effect, frame};
+use cap_pcap::{Head, RecordHead, read_head, read_magic, read_record};
+use cap_pcapng::{BlockEffect, Interfaces, PacketSpans, Span, begins_section, block_effect, frame};
+
+/// How many bytes of a record are in front of its data.
+pub(crate) const RECORD_HEADER_LENGTH: usize = 16;
 
 /// A unit that fails no check.
 #[derive(Clone, Copy)]
@@ -52,6 +55,22 @@ fn header_in(bytes: &[u8]) -> Result<Head, Fault>
         return Err(Fault::Truncated);
     };
     read_head(header)
+}
+
+/// The place where the packet of a record with this header lies: after the header, without options.
+#[inline(always)]
+pub(crate) fn record_spans(found: &RecordHead) -> PacketSpans
+    requires { found.now.captured ≤ most_captured }
+    ensures { result ≡ record_spans found.now }
+{
+    PacketSpans {
+        size: RECORD_HEADER_LENGTH as u32 + found.captured,
+        bytes: Span::new(RECORD_HEADER_LENGTH as u32, found.captured),
+        options: Span::new(RECORD_HEADER_LENGTH as u32, 0),
+        interface: 0,
+        time: found.time,
+        orig: found.orig,
+    }
 }
 
 /// The place of the packet in the record that these bytes of a pcap file begin with; or the first

@@ -3,20 +3,16 @@ ghost use Rattle.std.specs.Prelude.{◌≡◌, ◌+◌, ◌<◌, ◌≤◌, ◌+
 ghost use Rattle.std.specs.Prelude.{length};
 ghost use Rattle.cap_pcapng.specs.Frame.{is_section};
 ghost use Rattle.cap_io.specs.inside.Reading.{HeaderCame, Moves, ReadsUnit, NoUnitCame};
-ghost use Rattle.cap_io.specs.{Capture.Nothing, Capture.PcapFile, inside.Reading.record_spans};
-ghost use Rattle.cap_pcap.specs.Record.{most_captured};
+ghost use Rattle.cap_io.specs.Capture.{Nothing, PcapFile};
 ghost use Rattle.cap_io.specs.declared.file_state.FileState.TheVariants as state;
 
 use crate::file_state::NextUnit;
+use crate::first_unit::{RECORD_HEADER_LENGTH, record_spans};
 use crate::next_unit::UnitReader;
 use crate::unit::{make_room, read_front, read_rest};
 use cap_octet::{Fault, Input, u32_at};
-use cap_pcap::{Head, RecordHead, read_head, read_magic, read_record};
-use cap_pcapng::{PacketSpans, Span};
+use cap_pcap::{Head, read_head, read_magic, read_record};
 use std::alloc::Allocator;
-
-/// How many bytes of a record are in front of its data.
-pub(crate) const RECORD_HEADER_LENGTH: usize = 16;
 
 /// Reads the file header of pcap, whose first four bytes came already. If these aren't a magic
 /// number, the error is `NotACaptureFile`, and no more is read. Otherwise it is `Truncated` or
@@ -47,22 +43,6 @@ pub(crate) fn holds_record(head: &Head, bytes: &[u8]) -> bool
         return false;
     }
     u32_at(head.order, bytes, 8) as usize <= bytes.len() - RECORD_HEADER_LENGTH
-}
-
-/// The place where the packet of a record with this header lies: after the header, without options.
-#[inline(always)]
-pub(crate) fn record_spans(found: &RecordHead) -> PacketSpans
-    requires { found.now.captured ≤ most_captured }
-    ensures { result ≡ record_spans found.now }
-{
-    PacketSpans {
-        size: RECORD_HEADER_LENGTH as u32 + found.captured,
-        bytes: Span::new(RECORD_HEADER_LENGTH as u32, found.captured),
-        options: Span::new(RECORD_HEADER_LENGTH as u32, 0),
-        interface: 0,
-        time: found.time,
-        orig: found.orig,
-    }
 }
 
 impl<I: Input, A: Allocator> UnitReader<I, A> {
